@@ -6,7 +6,8 @@ use fsb_audit_dump::{Audited, audit_dump, audit_line};
 use fsb_io::MemSource;
 use fsb_rules::Broken;
 use rows_store::{
-    Clock, DIRTY_VICTIM_WRITTEN_BACK, Extra, REQUEST_SPACING_BROKEN, UPGRADE_OF_A_SHARED_LINE,
+    Clock, DEFERRED_AND_REPLIED, DIRTY_VICTIM_WRITTEN_BACK, Extra, HIT, REQUEST_SPACING_BROKEN,
+    STORE_HANDED_OVER_BEFORE_ARRIVAL, UPGRADE_OF_A_SHARED_LINE,
 };
 use std::test::Fail;
 
@@ -14,12 +15,16 @@ fn foul(clock: u32, addr: u64) -> Result<u64, Finding> {
     Err(Finding::Foul(FoulAt { clock, addr }))
 }
 
+fn broken(clock: u32, rule: u8) -> Result<u64, Finding> {
+    Err(Finding::Broken(Broken { clock, rule }))
+}
+
 #[test]
 fn clean_and_foul_dumps(rt: HostRuntime) -> Result<(), Fail> {
-    let broken = Err(Finding::Broken(Broken { clock: 4, rule: 2 }));
     // A line that is read twice, first as it was and then otherwise; one that is written back and read again, as it was written
-    // and otherwise; a broken rule.
-    let table: [(&[Clock], &[Extra], Result<u64, Finding>, &str); 6] = [
+    // and otherwise, and a rule is broken before; a line that an owner hands over; a deferred line that is read again behind its
+    // reply, as the reply gave it and otherwise; a broken rule.
+    let table: [(&[Clock], &[Extra], Result<u64, Finding>, &str); 10] = [
         (
             &UPGRADE_OF_A_SHARED_LINE,
             &[],
@@ -51,9 +56,33 @@ fn clean_and_foul_dumps(rt: HostRuntime) -> Result<(), Fail> {
             "foul clock=46 addr=40\n",
         ),
         (
+            &DIRTY_VICTIM_WRITTEN_BACK,
+            &[(10, HIT, 0), (22, 0, 1)],
+            broken(10, 11),
+            "rejected clock=10 rule=11\n",
+        ),
+        (
+            &STORE_HANDED_OVER_BEFORE_ARRIVAL,
+            &[(14, 0, 5)],
+            Ok(8),
+            "clean clocks=60 chunks=8\n",
+        ),
+        (
+            &DEFERRED_AND_REPLIED,
+            &[(28, 0, 5), (32, 0, 5)],
+            Ok(8),
+            "clean clocks=60 chunks=8\n",
+        ),
+        (
+            &DEFERRED_AND_REPLIED,
+            &[(28, 0, 5)],
+            foul(32, 0x1008),
+            "foul clock=32 addr=1008\n",
+        ),
+        (
             &REQUEST_SPACING_BROKEN,
             &[],
-            broken,
+            broken(4, 2),
             "rejected clock=4 rule=2\n",
         ),
     ];

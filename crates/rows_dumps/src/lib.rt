@@ -1,9 +1,9 @@
-//! Worked waveforms, written as dumps, and what audits and tables tell of them: tests of `fsb_audit`, `fsb_audit_dump`,
-//! `fsb_table` and `fsb_show`.
+//! Worked waveforms, written as dumps, and what verdicts, audits and tables tell of them: tests of `fsb_check`, `fsb_audit`,
+//! `fsb_audit_dump`, `fsb_table` and `fsb_show`.
 //!
-//! `audits` and `tables` go over the waveforms of rows_store, `audited_dumps` and `shown` over their dumps. `written` is the one
-//! way in which tests, here and above, write the dump of a waveform. Nothing is promised. The tests of fsb_top have what each
-//! command tells of such dumps.
+//! `audits` and `tables` go over the waveforms of rows_store, `audited_dumps` and `shown` over their dumps, `checked_dumps` over
+//! dumps of other tools too. `written` is the one way in which tests, here and above, write the dump of a waveform. Nothing is
+//! promised. The tests of fsb_top have one such dump for each way in which a command ends.
 #![tactic(auto)]
 
 pub use dumps::written;
@@ -12,6 +12,8 @@ pub use dumps::written;
 mod audited_dumps;
 #[cfg(test)]
 mod audits;
+#[cfg(test)]
+mod checked_dumps;
 mod dumps;
 #[cfg(test)]
 mod shown;

@@ -8,7 +8,19 @@ use rows_store::{
     CANCELLED_BY_ADDRESS_ERROR, Clock, DEFERRED_AND_REPLIED, LOAD_THEN_STORE_HIT,
     REQUEST_SPACING_BROKEN, UPGRADE_OF_A_SHARED_LINE,
 };
+use std::alloc::Global;
 use std::test::Fail;
+use vcd_read::{VcdCause, VcdFault};
+
+/// The table of a dump as text, with the totals of these probes; nothing where there is none.
+fn shown_of(alloc: Global, dump: &[u8], probes: &mut Vec<Box<dyn Probe>>) -> Result<MemSink, Fail> {
+    let mut source = MemSource::new(alloc, dump, &[])?;
+    let mut out = MemSink::new(alloc, 1_000, &[])?;
+    if let Ok(shown) = show_dump(alloc, "d.vcd", &mut source, probes) {
+        let _ = put_show(&mut out, &shown, probes);
+    }
+    Ok(out)
+}
 
 #[test]
 fn tables_of_dumps(rt: HostRuntime) -> Result<(), Fail> {
@@ -36,13 +48,25 @@ fn tables_of_dumps(rt: HostRuntime) -> Result<(), Fail> {
     probes.push(Box::new(rt.alloc(), DataProbe::new())?)?;
     for (clocks, text) in table {
         let dump = written(rt.alloc(), 60, clocks, &[(8, 0, 7)])?;
-        let mut source = MemSource::new(rt.alloc(), dump.holds(), &[])?;
-        let mut out = MemSink::new(rt.alloc(), 1_000, &[])?;
-        match show_dump(rt.alloc(), "d.vcd", &mut source, &mut probes) {
-            Ok(shown) => assert_eq!(rt; put_show(&mut out, &shown, &probes), Ok(())),
-            Err(stop) => assert_eq!(rt; stop, ShowStop::Memory),
-        }
-        assert_eq!(rt; out.holds(), text.as_bytes());
+        let shown = shown_of(rt.alloc(), dump.holds(), &mut probes)?;
+        assert_eq!(rt; shown.holds(), text.as_bytes());
+    }
+    Ok(())
+}
+
+#[test]
+fn tables_without_probes(rt: HostRuntime) -> Result<(), Fail> {
+    let cancelled =
+        "0 2 0 read 40 - - - aerr\n1 8 0 read 40 12 14 17 granted\naccepted clocks=60\n";
+    let table: [(&[Clock], &str); 2] = [
+        (&CANCELLED_BY_ADDRESS_ERROR, cancelled),
+        (&REQUEST_SPACING_BROKEN, "rejected clock=4 rule=2\n"),
+    ];
+    let mut probes: Vec<Box<dyn Probe>> = Vec::new(rt.alloc());
+    for (clocks, text) in table {
+        let dump = written(rt.alloc(), 60, clocks, &[])?;
+        let shown = shown_of(rt.alloc(), dump.holds(), &mut probes)?;
+        assert_eq!(rt; shown.holds(), text.as_bytes());
     }
     Ok(())
 }
@@ -51,15 +75,14 @@ fn tables_of_dumps(rt: HostRuntime) -> Result<(), Fail> {
 fn no_dump_is_refused(rt: HostRuntime) -> Result<(), Fail> {
     let mut source = MemSource::new(rt.alloc(), b"$end 5", &[])?;
     let mut probes: Vec<Box<dyn Probe>> = Vec::new(rt.alloc());
-    match show_dump(rt.alloc(), "d.vcd", &mut source, &mut probes) {
-        Ok(shown) => assert_eq!(rt; shown.clocks, 1),
-        Err(ShowStop::Bad(fault)) => assert_eq!(rt; fault.place, 5),
-        Err(stop) => assert_eq!(rt; stop, ShowStop::Memory),
-    }
+    let stop = show_dump(rt.alloc(), "d.vcd", &mut source, &mut probes).err();
+    let fault = VcdFault {
+        place: 5,
+        cause: VcdCause::Header,
+    };
+    assert_eq!(rt; stop, Some(ShowStop::Bad(fault)));
     let mut gone = MemSource::new(rt.alloc(), b"", &[0])?;
-    match show_dump(rt.alloc(), "d.vcd", &mut gone, &mut probes) {
-        Ok(shown) => assert_eq!(rt; shown.clocks, 1),
-        Err(stop) => assert_eq!(rt; stop, ShowStop::ReadFault),
-    }
+    let stop = show_dump(rt.alloc(), "d.vcd", &mut gone, &mut probes).err();
+    assert_eq!(rt; stop, Some(ShowStop::ReadFault));
     Ok(())
 }
