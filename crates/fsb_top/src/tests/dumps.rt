@@ -11,8 +11,6 @@ use std::alloc::{AllocError, Global};
 pub(crate) enum Dump<'a> {
     /// These texts, one behind the other.
     Texts(&'a [&'a str]),
-    /// The first text, where the second, a part of it, is replaced by the third.
-    Changed(&'a str, &'a str, &'a str),
     /// That of the run of a bench file.
     OfRun(&'a str),
     /// What is written of so many clocks, those that are laid out and idle ones behind them, with what is asserted beside.
@@ -23,7 +21,6 @@ pub(crate) enum Dump<'a> {
 pub(crate) fn text_of(alloc: Global, dump: &Dump<'_>) -> Result<Vec<u8>, Memory> {
     match *dump {
         Dump::Texts(texts) => Ok(joined(alloc, texts)?),
-        Dump::Changed(text, part, by) => Ok(changed(alloc, text, part, by)?),
         Dump::OfRun(bench) => dump_of_run(alloc, bench),
         Dump::OfClocks(total, clocks, extras) => {
             let dump = written(alloc, total, clocks, extras)?;

@@ -1,6 +1,6 @@
-//! Words, and bench files that are run.
+//! Bench files that are run.
 
-use super::{Call, FIRST, FIRST_LOG, NAMED, UNCALLED, Wanted, call_of, end_of, expect, told};
+use super::{Call, FIRST, FIRST_LOG, NAMED, Wanted, call_of, end_of, expect, told};
 use crate::Status;
 use fsb_io::Memory;
 use fsb_script::{Cause, ScriptFault};
@@ -33,60 +33,14 @@ fn runs_with_and_without_a_dump(rt: HostRuntime) -> Result<(), Fail> {
     Ok(())
 }
 
-/// Expects that the name of a file is taken, for a bench file and for a dump, or that it makes the words bad.
-fn expect_name(rt: &impl Abort, alloc: Global, name: &str, is_taken: bool) -> Result<(), Memory> {
-    let read = ["run", name];
-    let written = ["run", "b", name];
-    let whole = told(Status::Done, FIRST_LOG);
-    let dumped = Wanted {
-        calls: (3, 3, 62),
-        ..whole
-    };
-    let (whole, dumped) = if is_taken {
-        (whole, dumped)
-    } else {
-        (UNCALLED, UNCALLED)
-    };
-    expect(rt, alloc, "read", &call_of(&read, FIRST.as_bytes()), &whole)?;
-    expect(
-        rt,
-        alloc,
-        "written",
-        &call_of(&written, FIRST.as_bytes()),
-        &dumped,
-    )
-}
-
-/// A name has at most 4,096 bytes, and a dash only behind its first.
-#[test]
-fn names_of_files(rt: HostRuntime) -> Result<(), Fail> {
-    expect_name(&rt, rt.alloc(), "x-", true)?;
-    let mut name = "x".repeat(rt.alloc(), 4_096)?;
-    expect_name(&rt, rt.alloc(), name.as_str(), true)?;
-    name.push('x')?;
-    expect_name(&rt, rt.alloc(), name.as_str(), false)?;
-    Ok(())
-}
-
-/// A locked item whose two lines have one cache set, in a file whose locked item begins at line 7.
-const LOCK_CONFLICT: &str =
-    "p6bench 1\nagents 1\nclocks 60\ncache 1\nahead 1\nagent 0\nlock\nld 1 40\nst 1 80 1\nunlock\nend\n";
-
-/// The first run's file, up to its first access.
-const CUT: &str =
-    "p6bench 1\nagents 1\nclocks 60\ncache 64\nahead 1\nmem 40 07\nagent 0\nld 1 40\n";
-
 /// The first run's file, whose load is not aligned.
 const MISALIGNED: &str =
     "p6bench 1\nagents 1\nclocks 60\ncache 64\nahead 1\nmem 40 07\nagent 0\nld 2 41\nst 1 41 5\nend\n";
 
 /// Texts that are no bench files, with the line and the cause of their first faults.
-const NO_BENCHES: [(&str, u32, Cause); 5] = [
-    ("p6bench 2", 1, Cause::FirstLine),
+const NO_BENCHES: [(&str, u32, Cause); 2] = [
     ("", 1, Cause::FirstLine),
-    (CUT, 9, Cause::Missing),
     (MISALIGNED, 8, Cause::Align),
-    (LOCK_CONFLICT, 10, Cause::LockConflict),
 ];
 
 #[test]
