@@ -7,7 +7,7 @@ use fsb_io::MemSource;
 use fsb_rules::Broken;
 use rows_store::{
     Clock, DEFERRED_AND_REPLIED, DIRTY_VICTIM_WRITTEN_BACK, Extra, HIT, REQUEST_SPACING_BROKEN,
-    STORE_HANDED_OVER_BEFORE_ARRIVAL, UPGRADE_OF_A_SHARED_LINE,
+    SHARED_LINE_INVALIDATED, STORE_HANDED_OVER_BEFORE_ARRIVAL, UPGRADE_OF_A_SHARED_LINE,
 };
 use std::test::Fail;
 
@@ -21,10 +21,11 @@ fn broken(clock: u32, rule: u8) -> Result<u64, Finding> {
 
 #[test]
 fn clean_and_foul_dumps(rt: HostRuntime) -> Result<(), Fail> {
-    // A line that is read twice, first as it was and then otherwise; one that is written back and read again, as it was written
-    // and otherwise, and a rule is broken before; a line that an owner hands over; a deferred line that is read again behind its
-    // reply, as the reply gave it and otherwise; a broken rule.
-    let table: [(&[Clock], &[Extra], Result<u64, Finding>, &str); 10] = [
+    // A line that is read twice and upgraded, and one that is read twice, and read and invalidated, each first as it was and then
+    // otherwise; one that is written back and read again, as it was written and otherwise, and a rule is broken before; a line
+    // that an owner hands over; a deferred line that is read again behind its reply, as the reply gave it and otherwise; a broken
+    // rule.
+    let table: [(&[Clock], &[Extra], Result<u64, Finding>, &str); 12] = [
         (
             &UPGRADE_OF_A_SHARED_LINE,
             &[],
@@ -33,6 +34,18 @@ fn clean_and_foul_dumps(rt: HostRuntime) -> Result<(), Fail> {
         ),
         (
             &UPGRADE_OF_A_SHARED_LINE,
+            &[(12, 0, 1)],
+            foul(12, 0x40),
+            "foul clock=12 addr=40\n",
+        ),
+        (
+            &SHARED_LINE_INVALIDATED,
+            &[],
+            Ok(12),
+            "clean clocks=60 chunks=12\n",
+        ),
+        (
+            &SHARED_LINE_INVALIDATED,
             &[(12, 0, 1)],
             foul(12, 0x40),
             "foul clock=12 addr=40\n",

@@ -299,6 +299,34 @@ pub const LOOK_AHEAD_TWO: [Clock; 16] = [
     (DRDY, 0, 0),
 ];
 
+/// Two agents load a line, and one of them reads and invalidates it.
+pub const SHARED_LINE_INVALIDATED: [Clock; 24] = [
+    (BREQ0 | BREQ1, 0, 0),
+    (BREQ0 | BREQ1, 0, 0),
+    (BREQ0 | BREQ1 | ADS, 0x6, 0x8),
+    (BREQ1, 0x2, 0x2),
+    (BREQ1, 0, 0),
+    (BREQ1 | ADS, 0x6, 0x8),
+    (0, 0x2, 0x20002),
+    (0, 0, 0),
+    (RS0 | RS1 | RS2 | DBSY | DRDY, 0, 0),
+    (HIT | DBSY | DRDY, 0, 0),
+    (DBSY | DRDY, 0, 0),
+    (DRDY, 0, 0),
+    (BREQ0 | RS0 | RS1 | RS2 | DBSY | DRDY, 0, 0),
+    (BREQ0 | DBSY | DRDY, 0, 0),
+    (BREQ0 | ADS | DBSY | DRDY, 0x2, 0x8),
+    (DRDY, 0x2, 0x2),
+    (0, 0, 0),
+    (0, 0, 0),
+    (HIT, 0, 0),
+    (0, 0, 0),
+    (RS0 | RS1 | RS2 | DBSY | DRDY, 0, 0),
+    (DBSY | DRDY, 0, 0),
+    (DBSY | DRDY, 0, 0),
+    (DRDY, 0, 0),
+];
+
 /// Two agents load a line, and one of them upgrades it.
 pub const UPGRADE_OF_A_SHARED_LINE: [Clock; 21] = [
     (BREQ0 | BREQ1, 0, 0),

@@ -7,7 +7,7 @@ use fsb_audit::FoulAt;
 use fsb_io::Memory;
 use fsb_rules::Broken;
 use rows_store::{
-    REQUEST_SPACING_BROKEN, STORE_HANDED_OVER_BEFORE_ARRIVAL, UPGRADE_OF_A_SHARED_LINE,
+    REQUEST_SPACING_BROKEN, SHARED_LINE_INVALIDATED, STORE_HANDED_OVER_BEFORE_ARRIVAL,
 };
 use std::alloc::Global;
 use std::process::Abort;
@@ -161,16 +161,16 @@ const AUDITED: [Look<'static>; 4] = [
         "clean clocks=60 chunks=4\n",
     ),
     (
-        "a line that is read twice",
+        "shared_line_invalidated",
         &AUDIT,
-        Dump::OfClocks(60, &UPGRADE_OF_A_SHARED_LINE, &[]),
+        Dump::OfClocks(60, &SHARED_LINE_INVALIDATED, &[]),
         Status::Done,
-        "clean clocks=60 chunks=8\n",
+        "clean clocks=60 chunks=12\n",
     ),
     (
-        "read twice, otherwise",
+        "the second read is otherwise",
         &AUDIT,
-        Dump::OfClocks(60, &UPGRADE_OF_A_SHARED_LINE, &[(12, 0, 1)]),
+        Dump::OfClocks(60, &SHARED_LINE_INVALIDATED, &[(12, 0, 1)]),
         Status::Foul(FoulAt {
             clock: 12,
             addr: 0x40,
