@@ -1,8 +1,8 @@
 -- Each live reply is the reply to a Deferred request, one sample on.
-use Rattle.std.proofs.Common.{ℕ, ◌+◌, ◌-◌, ◌<◌, ◌≤◌, ◌≡◌, Bool, true, false, cond, ◌&&◌, ◌||◌, not, nat_eq, nat_le}
-use Rattle.std.proofs.Common.{Option, Some, None, length, refl, sym, ap, ◌∙◌, arith, inl, inr, subst}
+use Rattle.std.proofs.Common.{ℕ, ◌+◌, ◌-◌, ◌<◌, ◌≡◌, Bool, true, false, ◌&&◌, ◌||◌, not, nat_le}
+use Rattle.std.proofs.Common.{Option, Some, None, length, refl, sym, ap, ◌∙◌, arith, inl, inr}
 use Rattle.std.proofs.lemmas.Bool.{cases_lt, and_parts, and_from, both_ways, not-true, not-false, false_from_ne_true}
-use Rattle.std.proofs.lemmas.Bool.{leb-true, le-leb}
+use Rattle.std.proofs.lemmas.Bool.{le-leb}
 use Rattle.fsb_count.specs.Options.{is_some_and, is_before}
 use Rattle.fsb_count.specs.Clocks.{any_where}
 use Rattle.fsb_count.proofs.Interface.{any_where-found, any_where-none, first_where-at, nat_eq-sym}
@@ -18,7 +18,6 @@ use Rattle.fsb_trace.specs.Deferral.{answers, is_answered}
 use Rattle.fsb_trace.specs.Rules.{awaits_reply, is_begun_wrongly, is_outstanding_wrong}
 use Rattle.fsb_laws.specs.OneMore.{OneMore, cancels}
 use Rattle.fsb_laws.specs.Orderly.{Orderly}
-use Rattle.fsb_laws.specs.Progress.{response_count}
 use Rattle.fsb_laws.proofs.Interface.{deferred_response, is_deferred-old, is_live-ads, is_live-more}
 use Rattle.fsb_laws.proofs.Interface.{reply_clock_of-more, request_at-old, response_counted}
 use Rattle.fsb_audit.specs.Audit.{IsAnswering}

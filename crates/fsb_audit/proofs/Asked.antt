@@ -1,11 +1,11 @@
 -- Under its ID each outstanding request has the chunk for which it asked first, one sample on.
 use Rattle.std.proofs.Common.{ℕ, ◌+◌, ◌-◌, ◌<◌, ◌≤◌, ◌≡◌, ◌^◌, Bool, true, false, cond, ◌&&◌, ◌||◌, not, nat_eq, nat_le}
-use Rattle.std.proofs.Common.{nat_lt, List, Option, Some, None, length, set, get_or, slice_index, slice_set, length-set}
+use Rattle.std.proofs.Common.{List, [], ◌∷◌, ◌++◌, Option, Some, None, length, slice_index, slice_set, length-set}
 use Rattle.std.proofs.Common.{get_or-set_same, get_or-set_other, refl, sym, ap, ◌∙◌, arith, inl, inr, subst}
 use Rattle.std.specs.Option.{option_and_then}
-use Rattle.std.proofs.lemmas.Bool.{cases_Bool, cases_lt, cases_eq, and_parts, and_from, or_parts, both_ways, not-true}
-use Rattle.std.proofs.lemmas.Bool.{not-false, false_from_ne_true, leb-true, ltb-true, ltb-false, lt-ltb, le-leb, le-ltb}
-use Rattle.std.proofs.lemmas.Bool.{eq-eqb, eqb-true, eqb-false}
+use Rattle.std.proofs.lemmas.Bool.{cases_lt, and_parts, or_parts, both_ways, not-true}
+use Rattle.std.proofs.lemmas.Bool.{leb-true, ltb-true, ltb-false, lt-ltb, le-leb, le-ltb}
+use Rattle.std.proofs.lemmas.Bool.{eqb-false}
 use Rattle.std.proofs.lemmas.Option.{same_Some}
 use Rattle.fsb_count.specs.Options.{is_some_and, is_before}
 use Rattle.fsb_count.specs.Clocks.{any_where, count_where}
@@ -22,15 +22,14 @@ use Rattle.fsb_trace.specs.Requests.{is_cancelled, is_live, live_number_of, is_r
 use Rattle.fsb_trace.specs.Outcome.{is_deferred}
 use Rattle.fsb_trace.specs.Flight.{is_dropped, is_finished, is_outstanding, last_clock_of}
 use Rattle.fsb_trace.specs.Rules.{is_begun_wrongly, is_id_taken_by, is_outstanding_of_winner, is_outstanding_wrong}
-use Rattle.fsb_laws.specs.OneMore.{OneMore, cancels}
+use Rattle.fsb_laws.specs.OneMore.{OneMore}
 use Rattle.fsb_laws.specs.Orderly.{Orderly}
 use Rattle.fsb_laws.proofs.Interface.{end_past, finished-deferred, finished-plain, is_live-ads, is_live-more}
 use Rattle.fsb_laws.proofs.Interface.{is_outstanding-end, last_clock_of-plain, line_at-old, live_number_of-more}
-use Rattle.fsb_laws.proofs.Interface.{newly_deferred, request_at-old}
+use Rattle.fsb_laws.proofs.Interface.{newly_deferred, one_more, request_at-old}
 use Rattle.fsb_rules.specs.Checker.{Decoded}
-use Rattle.fsb_rules.specs.Recent.{request_by}
 use Rattle.fsb_rules.proofs.Interface.{decoded_lawful}
-use Rattle.fsb_audit.specs.AuditRegisters.{asked_after, asked_with, first_asked}
+use Rattle.fsb_audit.specs.AuditRegisters.{asked_after, asked_with, begun_before, first_asked}
 use Rattle.fsb_audit.specs.Audit.{HasAsked, first_back}
 
 -- what is not before a number is not before a lesser one
@@ -107,19 +106,68 @@ swapped None (Some d) = refl
 swapped (Some c) None = refl
 swapped (Some c) (Some d) = refl
 
+-- the request of these first words and the sample
+unfoldable pub begun_from : Option Pair → Sample → Option Request
+begun_from first x = option_and_then (λ d. option_and_then (λ c. request_of c d) first) (known_pair x)
+
 begun_now : (h : Trace) (x : Sample) (v : Trace) (p : ℕ) → OneMore h x v → p + 1 ≡ length h
-    → request_by (known_pair_at h p) x ≡ request_at v p
-unfolding request_by request_at known_pair_at
+    → begun_from (known_pair_at h p) x ≡ request_at v p
+unfolding begun_from request_at known_pair_at
 begun_now h x v p m e =
     rw (e, m.last, sym (m.agree.same p (omega arith))) (swapped (known_pair_at h p) (known_pair x))
 
-no_words : (x : Sample) → request_by None x ≡ None
-unfolding request_by
+no_words : (x : Sample) → begun_from None x ≡ None
+unfolding begun_from
 no_words x = none (known_pair x)
   where
-    none : (o : Option Pair) → option_and_then (λ b. option_and_then {U = Request} (λ a. request_of a b) None) o ≡ None
+    none : (o : Option Pair) → option_and_then (λ d. option_and_then {U = Request} (λ c. request_of c d) None) o ≡ None
     none None = refl
-    none (Some b) = refl
+    none (Some d) = refl
+
+-- whether a request began one clock before the sample shows before it
+same_back : (h : Trace) (x : Sample) (v : Trace) → OneMore h x v
+    → line_back ADS v (length h) 1 ≡ line_back ADS h (length h) 1
+unfolding line_back
+same_back h x v m = by_size (nat_le 1 (length h)) refl
+  where
+    by_size : (b : Bool) → nat_le 1 (length h) ≡ b
+        → (b && line_at ADS v (length h - 1)) ≡ (b && line_at ADS h (length h - 1))
+    by_size true e =
+        let some : 1 ≤ length h = leb-true 1 (length h) e in
+        line_at-old ADS h x v (length h - 1) m (omega (arith, some))
+    by_size false e = refl
+
+begun_form : (w : Trace) (n : ℕ) (b : Bool) → line_back ADS w n 1 ≡ b
+    → begun_before w n ≡ cond b (request_at w (n - 1)) None
+unfolding begun_before
+begun_form w n b e = rw e refl
+
+first_form : (h : Trace) (b : Bool) → line_back ADS h (length h) 1 ≡ b
+    → first_back h ≡ cond b (known_pair_at h (length h - 1)) None
+unfolding first_back
+first_form h b e = rw e refl
+
+back_parts : (w : Trace) (n : ℕ) → line_back ADS w n 1 ≡ true → (n - 1 + 1 ≡ n) × (line_at ADS w (n - 1) ≡ true)
+unfolding line_back
+back_parts w n t =
+    let p = and_parts _ _ t in
+    let some : 1 ≤ n = leb-true 1 n p.0 in
+    (omega arith, p.1)
+
+-- with the words that are kept of the last clock it is the request whose second clock is that of the sample
+pub begun_by : (h : Trace) (x : Sample) (first : Option Pair) → first ≡ first_back h
+    → begun_from first x ≡ begun_before (h ++ x ∷ []) (length h)
+begun_by h x first e = ap (λ words. begun_from words x) e ∙ cases (line_back ADS h (length h) 1) refl
+  where
+    cases : (b : Bool) → line_back ADS h (length h) 1 ≡ b
+        → begun_from (first_back h) x ≡ begun_before (h ++ x ∷ []) (length h)
+    cases true t =
+        ap (λ words. begun_from words x) (first_form h true t)
+        ∙ begun_now h x (h ++ x ∷ []) (length h - 1) (one_more h x) (back_parts h (length h) t).0
+        ∙ sym (begun_form (h ++ x ∷ []) (length h) true (same_back h x (h ++ x ∷ []) (one_more h x) ∙ t))
+    cases false f =
+        ap (λ words. begun_from words x) (first_form h false f) ∙ no_words x
+        ∙ sym (begun_form (h ++ x ∷ []) (length h) false (same_back h x (h ++ x ∷ []) (one_more h x) ∙ f))
 
 -- a request that begins has no other one's ID that is outstanding
 other_id : (v : Trace) (n p q : ℕ) (r s : Request) → p + 1 ≡ n → line_at ADS v p ≡ true
@@ -140,39 +188,25 @@ unfolding is_lawful_request
 id_below r t = ltb-true r.did (2 ^ 8) (and_parts _ _ t).1
 
 -- one that begins puts its chunk under its ID, unless it is a reply
-after_reply : (asked : List ℕ) (first : Option Pair) (x : Sample) (s : Request) → request_by first x ≡ Some s
-    → is_reply_kind s.kind ≡ true → asked_after asked first x ≡ asked
+after_reply : (asked : List ℕ) (w : Trace) (n : ℕ) (s : Request) → begun_before w n ≡ Some s
+    → is_reply_kind s.kind ≡ true → asked_after asked w n ≡ asked
 unfolding asked_with
-after_reply asked first x s e t = ap (asked_with asked) e ∙ (rw t refl)
+after_reply asked w n s e t = ap (asked_with asked) e ∙ (rw t refl)
 
-after_plain : (asked : List ℕ) (first : Option Pair) (x : Sample) (s : Request) → request_by first x ≡ Some s
-    → is_reply_kind s.kind ≡ false → asked_after asked first x ≡ slice_set asked s.did (first_asked s)
+after_plain : (asked : List ℕ) (w : Trace) (n : ℕ) (s : Request) → begun_before w n ≡ Some s
+    → is_reply_kind s.kind ≡ false → asked_after asked w n ≡ slice_set asked s.did (first_asked s)
 unfolding asked_with
-after_plain asked first x s e t = ap (asked_with asked) e ∙ (rw t refl)
+after_plain asked w n s e t = ap (asked_with asked) e ∙ (rw t refl)
 
-after_none : (asked : List ℕ) (first : Option Pair) (x : Sample) → request_by first x ≡ None
-    → asked_after asked first x ≡ asked
+after_none : (asked : List ℕ) (w : Trace) (n : ℕ) → begun_before w n ≡ None → asked_after asked w n ≡ asked
 unfolding asked_with
-after_none asked first x e = ap (asked_with asked) e
+after_none asked w n e = ap (asked_with asked) e
 
-first_form : (h : Trace) (b : Bool) → line_back ADS h (length h) 1 ≡ b
-    → first_back h ≡ cond b (known_pair_at h (length h - 1)) None
-unfolding first_back
-first_form h b e = rw e refl
-
-back_parts : (h : Trace) → line_back ADS h (length h) 1 ≡ true
-    → (length h - 1 + 1 ≡ length h) × (line_at ADS h (length h - 1) ≡ true)
+no_ads : (w : Trace) (q n : ℕ) → q + 1 ≡ n → line_back ADS w n 1 ≡ false → line_at ADS w q ≡ false
 unfolding line_back
-back_parts h t =
-    let p = and_parts _ _ t in
-    let some : 1 ≤ length h = leb-true 1 (length h) p.0 in
-    (omega arith, p.1)
-
-no_ads : (h : Trace) (q : ℕ) → q + 1 ≡ length h → line_back ADS h (length h) 1 ≡ false → line_at ADS h q ≡ false
-unfolding line_back
-no_ads h q e f =
-    let back : length h - 1 ≡ q = omega arith in
-    let one : nat_le 1 (length h) ≡ true = le-leb 1 (length h) (omega arith) in
+no_ads w q n e f =
+    let back : n - 1 ≡ q = omega arith in
+    let one : nat_le 1 n ≡ true = le-leb 1 n (omega arith) in
     (let a = rw (one, back) at f in a)
 
 is_reply-kind : (w : Trace) (q : ℕ) (r : Request) → request_at w q ≡ Some r
@@ -180,10 +214,10 @@ is_reply-kind : (w : Trace) (q : ℕ) (r : Request) → request_at w q ≡ Some 
 unfolding is_reply is_some_and
 is_reply-kind w q r e = rw e refl
 
-pub asked_goes : (asked : List ℕ) (first : Option Pair) (h : Trace) (x : Sample) (v : Trace) → OneMore h x v
-    → Orderly h → Orderly v → Decoded v → first ≡ first_back h → is_outstanding_wrong v (length h) ≡ false
-    → HasAsked asked h → HasAsked (asked_after asked first x) v
-asked_goes asked first h x v m o ov d is wrong had = cases (line_back ADS h (length h) 1) refl
+pub asked_goes : (asked : List ℕ) (h : Trace) (x : Sample) (v : Trace) → OneMore h x v → Orderly h → Orderly v
+    → Decoded v → is_outstanding_wrong v (length h) ≡ false → HasAsked asked h
+    → HasAsked (asked_after asked v (length h)) v
+asked_goes asked h x v m o ov d wrong had = cases (line_back ADS v (length h) 1) refl
   where
     size_v : length v ≡ length h + 1
     size_v = m.size
@@ -195,9 +229,9 @@ asked_goes asked first h x v m o ov d is wrong had = cases (line_back ADS h (len
         (out_from h q (omega arith) (was_out h x v q m o ov l (out_parts v q (omega (arith, size_v)) t)))
         (sym (request_at-old h x v q m l) ∙ e)
 
-    same : asked_after asked first x ≡ asked
+    same : asked_after asked v (length h) ≡ asked
         → ((q : ℕ) (r : Request) → q + 1 ≡ length h → is_outstanding v (length v) q ≡ true
-        → request_at v q ≡ Some r → ⊥) → HasAsked (asked_after asked first x) v
+        → request_at v q ≡ Some r → ⊥) → HasAsked (asked_after asked v (length h)) v
     same e none = record {
       size = ap (λ xs. length xs) e ∙ had.size;
       kept = λ q r l t f.
@@ -208,8 +242,8 @@ asked_goes asked first h x v m o ov d is wrong had = cases (line_back ADS h (len
     }
 
     plain : (p : ℕ) (s : Request) → p + 1 ≡ length h → line_at ADS v p ≡ true → request_at v p ≡ Some s
-        → is_reply_kind s.kind ≡ false → asked_after asked first x ≡ slice_set asked s.did (first_asked s)
-        → HasAsked (asked_after asked first x) v
+        → is_reply_kind s.kind ≡ false → asked_after asked v (length h) ≡ slice_set asked s.did (first_asked s)
+        → HasAsked (asked_after asked v (length h)) v
     plain p s e t f g a = record {
       size = ap (λ xs. length xs) a ∙ length-set asked s.did (first_asked s) ∙ had.size;
       kept = λ q r l u k.
@@ -233,29 +267,25 @@ asked_goes asked first h x v m o ov d is wrong had = cases (line_back ADS h (len
     }
 
     kinds : (p : ℕ) (s : Request) (b : Bool) → p + 1 ≡ length h → line_at ADS v p ≡ true
-        → request_at v p ≡ Some s → request_by first x ≡ Some s → is_reply_kind s.kind ≡ b
-        → HasAsked (asked_after asked first x) v
-    kinds p s false e t f by g = plain p s e t f g (after_plain asked first x s by g)
+        → request_at v p ≡ Some s → begun_before v (length h) ≡ Some s → is_reply_kind s.kind ≡ b
+        → HasAsked (asked_after asked v (length h)) v
+    kinds p s false e t f by g = plain p s e t f g (after_plain asked v (length h) s by g)
     kinds p s true e t f by g =
-        same (after_reply asked first x s by g) (λ q r l u k.
+        same (after_reply asked v (length h) s by g) (λ q r l u k.
         let here : q ≡ p = omega arith in
         let out = out_parts v q (omega (arith, size_v)) u in
         let reply : is_reply (request_at v q) ≡ true = ap (λ z. is_reply (request_at v z)) here
         ∙ is_reply-kind v p s f ∙ g in
         both_ways _ out.plain reply)
 
-    cases : (b : Bool) → line_back ADS h (length h) 1 ≡ b → HasAsked (asked_after asked first x) v
+    cases : (b : Bool) → line_back ADS v (length h) 1 ≡ b → HasAsked (asked_after asked v (length h)) v
     cases true t =
-        let p = back_parts h t in
-        let asks : line_at ADS v (length h - 1) ≡ true =
-        line_at-old ADS h x v (length h - 1) m (omega (arith, p.0)) ∙ p.1 in
-        let there = d.there (length h - 1) asks (omega (arith, p.0, size_v)) in
-        let by : request_by first x ≡ Some there.0 = ap (λ w. request_by w x) (is ∙ first_form h true t)
-        ∙ begun_now h x v (length h - 1) m p.0 ∙ there.1 in
-        kinds (length h - 1) there.0 (is_reply_kind there.0.kind) p.0 asks there.1 by refl
+        let p = back_parts v (length h) t in
+        let there = d.there (length h - 1) p.1 (omega (arith, p.0, size_v)) in
+        kinds (length h - 1) there.0 (is_reply_kind there.0.kind) p.0 p.1 there.1
+        (begun_form v (length h) true t ∙ there.1) refl
     cases false f =
-        same (after_none asked first x (ap (λ w. request_by w x) (is ∙ first_form h false f) ∙ no_words x))
+        same (after_none asked v (length h) (begun_form v (length h) false f))
         (λ q r l u k.
         let out = out_parts v q (omega (arith, size_v)) u in
-        let asks : line_at ADS h q ≡ true = sym (line_at-old ADS h x v q m (omega arith)) ∙ is_live-ads v q out.live in
-        both_ways _ (no_ads h q l f) asks)
+        both_ways _ (no_ads v q (length h) l f) (is_live-ads v q out.live))

@@ -1,21 +1,19 @@
 -- What an audit stands for after one sample more.
 use Rattle.std.proofs.Common.{ℕ, zero, suc, ◌+◌, ◌<◌, ◌≤◌, ◌≡◌, ◌^◌, Bool, true, false, cond, Option, Some, None}
 use Rattle.std.proofs.Common.{IfSome, is_some, [], ◌∷◌, ◌++◌, length, refl, sym, ap, ◌∙◌, arith, inl, inr, subst}
-use Rattle.std.proofs.Common.{add-zero, Result, Ok, Err, OnErr}
+use Rattle.std.proofs.Common.{Result, Ok, Err, OnErr}
 use Rattle.std.proofs.lemmas.Option.{same_Some}
 use Rattle.fsb_count.specs.Clocks.{count_where}
 use Rattle.fsb_count.proofs.Interface.{cond-most, is_some-none}
 use Rattle.fsb_signal.specs.declared.marks.Marks.{Marks}
 use Rattle.fsb_signal.specs.declared.sample.Sample.{Sample}
 use Rattle.fsb_trace.specs.At.{Trace}
-use Rattle.fsb_trace.specs.Agree.{AgreeTo}
 use Rattle.fsb_trace.specs.Response.{data_clock_of}
 use Rattle.fsb_trace.specs.Rules.{is_code_wrong, is_outstanding_wrong}
 use Rattle.fsb_trace.specs.Verdict.{verdict}
 use Rattle.fsb_trace.proofs.Interface.{breaks-14, breaks-18, verdict-least}
 use Rattle.fsb_laws.specs.OneMore.{OneMore}
 use Rattle.fsb_laws.specs.Orderly.{Orderly}
-use Rattle.fsb_laws.specs.Progress.{response_count}
 use Rattle.fsb_laws.proofs.Interface.{one_more}
 use Rattle.fsb_rules.specs.declared.broken.Broken.{Broken}
 use Rattle.fsb_rules.specs.declared.checker.Checker.{Checker}
@@ -26,19 +24,19 @@ use Rattle.fsb_rules.proofs.Interface.{as_broken-none, data_clock-parts, found_n
 use Rattle.fsb_audit.specs.declared.finding.Finding.{Finding}
 use Rattle.fsb_audit.specs.declared.finding.Finding.TheVariants.{Broken as BrokenFirst}
 use Rattle.fsb_audit.specs.declared.audit.Audit.{Audit}
-use Rattle.fsb_audit.specs.MovedChunks.{is_from_memory, moved_at, moved_count}
+use Rattle.fsb_audit.specs.MovedChunks.{moved_at, moved_count}
 use Rattle.fsb_audit.specs.Fouls.{broken_at, foul_at, is_foul_clock}
 use Rattle.fsb_audit.specs.AuditRegisters.{HasMoved, asked_after, chunk_by, count_after, data_in, first_after}
 use Rattle.fsb_audit.specs.AuditRegisters.{found_after, from_memory_after}
-use Rattle.fsb_audit.specs.Audit.{BreaksFirst, KeepsUp, FoulsFirst, HasAsked, IsAnswering, IsFoundForGood, Stands}
-use Rattle.fsb_audit.specs.Audit.{comes_after, is_full, latest_data}
+use Rattle.fsb_audit.specs.Audit.{KeepsUp, HasAsked, IsFoundForGood, Stands}
+use Rattle.fsb_audit.specs.Audit.{is_full, latest_data}
 use Rattle.fsb_audit.proofs.Asked.{asked_goes}
 use Rattle.fsb_audit.proofs.Answering.{answering_goes}
 use Rattle.fsb_audit.proofs.Newest.{Comes}
 use Rattle.fsb_audit.proofs.NewestChunk.{from_now, moved_now, none_moved}
 use Rattle.fsb_audit.proofs.Kept.{count_goes, first_goes, from_goes, map_goes, map_stays}
 use Rattle.fsb_audit.proofs.Findings.{clean_goes, foul_first, foul_some, found_now, none_foul, settled_stays}
-use Rattle.fsb_audit.proofs.Findings.{stands_following, stands_full, stands_settled}
+use Rattle.fsb_audit.proofs.Findings.{stands_following, stands_settled}
 
 -- a sample that breaks no rule, after a history that breaks none
 pub record Moment (m : Marks) (h : Trace) (x : Sample) (v : Trace) : Type 0 where
@@ -78,7 +76,7 @@ pub record Absorbs (m : Marks) (a : Audit) (n : ℕ) (h : Trace) (x : Sample) (c
   pub checker : CheckerStands new.checker m (h ++ x ∷ [])
   pub clock : new.clock ≡ n + 1
   pub first : new.first ≡ first_after x
-  pub asked : new.asked ≡ asked_after a.asked a.first x
+  pub asked : new.asked ≡ asked_after a.asked (h ++ x ∷ []) (length h)
   pub from_memory : new.from_memory ≡ from_memory_after a.from_memory x
   pub count : new.count ≡ count_after a.count coming
   pub moved : HasMoved a.moved.entries new.moved.entries a.asked coming x.dbus.bits
@@ -109,7 +107,7 @@ following m a h x coming new f k r clean count moved =
       clock = r.clock ∙ sym k.more.size;
       first = r.first ∙ first_goes h x v k.more;
       asked = subst (λ xs. HasAsked xs v) (sym r.asked)
-          (asked_goes a.asked a.first h x v k.more k.before k.after k.decoded f.first k.begun f.asked);
+          (asked_goes a.asked h x v k.more k.before k.after k.decoded k.begun f.asked);
       answering = answering_goes h x v k.more k.before k.begun f.answering;
       from_memory = r.from_memory ∙ from_goes a.from_memory h x v k.more k.before k.after k.code f.from_memory;
       count = count;

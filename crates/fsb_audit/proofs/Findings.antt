@@ -4,7 +4,7 @@ use Rattle.std.proofs.Common.{None, length, refl, sym, ap, ◌∙◌, arith, inl
 use Rattle.std.specs.Option.{option_map, option_and_then}
 use Rattle.std.proofs.lemmas.Bool.{cases_lt}
 use Rattle.std.proofs.lemmas.Option.{same_Some}
-use Rattle.fsb_count.specs.Options.{is_some_and, is_at}
+use Rattle.fsb_count.specs.Options.{is_some_and}
 use Rattle.fsb_count.specs.Clocks.{AgreeBelow, first_where}
 use Rattle.fsb_count.proofs.Interface.{first_where-at, first_where-carried, first_where-found, first_where-off}
 use Rattle.fsb_signal.specs.declared.marks.Marks.{Marks}
@@ -17,11 +17,10 @@ use Rattle.fsb_trace.proofs.Interface.{AgreeTo-sym, verdict-least, verdict-stays
 use Rattle.fsb_laws.specs.OneMore.{OneMore}
 use Rattle.fsb_laws.specs.Orderly.{Orderly}
 use Rattle.fsb_audit.specs.declared.finding.Finding.{Finding}
-use Rattle.fsb_audit.specs.declared.finding.FoulAt.{FoulAt}
 use Rattle.fsb_audit.specs.declared.finding.Finding.TheVariants.{Foul as FoulFirst}
 use Rattle.fsb_audit.specs.declared.audit.Audit.{Audit}
 use Rattle.fsb_audit.specs.MovedChunks.{is_from_memory, moved_at}
-use Rattle.fsb_audit.specs.Fouls.{broken_at, finding_of, found_below, found_with, first_foul, foul_at, have_same_data}
+use Rattle.fsb_audit.specs.Fouls.{finding_of, found_below, found_with, first_foul, foul_at, have_same_data}
 use Rattle.fsb_audit.specs.Fouls.{is_foul_clock, is_stale, latest_move}
 use Rattle.fsb_audit.specs.AuditRegisters.{ChunkMap, data_in, foul_by}
 use Rattle.fsb_audit.specs.Audit.{BreaksFirst, KeepsUp, FoulsFirst, IsFoundForGood, Stands, is_full, latest_data}

@@ -1,27 +1,27 @@
 -- What is kept of responses, of the words of a clock and of the moved chunks, one sample on.
-use Rattle.std.proofs.Common.{ℕ, zero, suc, ◌+◌, ◌-◌, ◌*◌, ◌<◌, ◌≤◌, ◌≡◌, Bool, true, false, cond, ◌&&◌, ◌||◌, not}
-use Rattle.std.proofs.Common.{nat_eq, nat_le, nat_lt, List, Option, Some, None, is_some, length, refl, sym, ap, ◌∙◌}
-use Rattle.std.proofs.Common.{arith, inl, inr, subst, add-one}
-use Rattle.std.specs.Option.{option_map, option_and_then}
-use Rattle.std.proofs.lemmas.Bool.{cases_Bool, and_parts, both_ways, eqb-true, le-leb, lt-ltb, not-false}
+use Rattle.std.proofs.Common.{ℕ, zero, suc, ◌+◌, ◌-◌, ◌≤◌, ◌≡◌, Bool, true, false, cond, ◌&&◌, ◌||◌, not}
+use Rattle.std.proofs.Common.{nat_eq, nat_le, nat_lt, Option, Some, None, is_some, length, refl, sym, ap, ◌∙◌}
+use Rattle.std.proofs.Common.{arith, add-one}
+use Rattle.std.specs.Option.{option_map}
+use Rattle.std.proofs.lemmas.Bool.{and_parts, eqb-true, le-leb, not-false}
 use Rattle.fsb_count.specs.Options.{is_some_and, is_at}
 use Rattle.fsb_count.specs.Clocks.{count_where, last_where}
 use Rattle.fsb_count.proofs.Interface.{count_where-more, count_where-same, last_where-failed, last_where-passed}
 use Rattle.fsb_signal.specs.declared.lines.TheConstants.Lines.{ADS, HITM, DEFER}
 use Rattle.fsb_signal.specs.declared.sample.Sample.{Sample}
-use Rattle.fsb_signal.specs.Samples.{data_at, has_line, line_at, response_of}
+use Rattle.fsb_signal.specs.Samples.{data_at, response_of}
 use Rattle.fsb_encode.specs.declared.request.Kind.{Kind}
 use Rattle.fsb_encode.specs.declared.request.Kind.TheVariants.{Reply, Invalidate, Read, WriteBack, Upgrade}
 use Rattle.fsb_encode.specs.declared.request.Request.{Request}
-use Rattle.fsb_trace.specs.At.{Trace, known_pair_at, line_back, response_code_at, responds_at}
+use Rattle.fsb_trace.specs.At.{Trace, known_pair_at, line_back}
 use Rattle.fsb_trace.specs.Requests.{live_count, live_request_of, is_write_back, is_write_back_kind, is_upgrade}
 use Rattle.fsb_trace.specs.Requests.{is_upgrade_kind}
 use Rattle.fsb_trace.specs.Snoop.{line_at_snoop_end}
 use Rattle.fsb_trace.specs.declared.outcome.Outcome.TheVariants.{Granted, Handed, Retried, Deferred, Written, Replied}
 use Rattle.fsb_trace.specs.declared.outcome.Outcome.TheVariants.{Failed, Upgraded}
-use Rattle.fsb_trace.specs.Outcome.{live_response_of, outcome_by_kind, outcome_of, response_clock_of, response_code_of}
+use Rattle.fsb_trace.specs.Outcome.{outcome_by_kind, outcome_of, response_code_of}
 use Rattle.fsb_trace.specs.Outcome.{told_by}
-use Rattle.fsb_trace.specs.Rules.{has_code_at, has_den, is_code_for, is_code_wrong, next_response, responds_soundly}
+use Rattle.fsb_trace.specs.Rules.{has_code_at, has_den, is_code_for, is_code_wrong, responds_soundly}
 use Rattle.fsb_trace.proofs.Interface.{live_response_of-there}
 use Rattle.fsb_laws.specs.OneMore.{OneMore, responds}
 use Rattle.fsb_laws.specs.Orderly.{Orderly}
@@ -32,7 +32,7 @@ use Rattle.fsb_audit.specs.MovedChunks.{does_come_from_memory, moved_at, moved_c
 use Rattle.fsb_audit.specs.Fouls.{latest_move}
 use Rattle.fsb_audit.specs.AuditRegisters.{ChunkMap, Puts, data_in, first_after, from_memory_after}
 use Rattle.fsb_audit.specs.Audit.{comes_after, first_back, latest_data}
-use Rattle.fsb_audit.proofs.Movers.{GoesOnFrom, Responded, responded, same_outcome}
+use Rattle.fsb_audit.proofs.Movers.{GoesOnFrom, responded, same_outcome}
 use Rattle.fsb_audit.proofs.Moves.{last_where-below, same_data, same_latest, same_moved}
 
 -- the words of a request that begins

@@ -20,7 +20,6 @@ use Rattle.fsb_trace.proofs.Interface.{AgreeTo-sym, end_of-moving, line_at-agree
 use Rattle.fsb_trace.proofs.Interface.{live_request_of-stays, outcome_of-stays, response_clock_of-stays}
 use Rattle.fsb_trace.proofs.Interface.{snoop_end_of-clock, snoop_end_of-stays}
 use Rattle.fsb_laws.specs.Orderly.{Orderly}
-use Rattle.fsb_laws.specs.Progress.{response_count}
 use Rattle.fsb_laws.proofs.Interface.{clear_parts, has_answer, response_counted, response_there}
 use Rattle.fsb_rules.proofs.Interface.{IsDataClock, data_clock-parts, data_clock-from}
 use Rattle.fsb_audit.specs.MovedChunks.{data_place_at, mover_at}

@@ -1,20 +1,18 @@
 -- Which chunk is moved at a clock, and whether the clock is foul, stays however an orderly trace goes on.
-use Rattle.std.proofs.Common.{ℕ, zero, suc, ◌+◌, ◌<◌, ◌≤◌, ◌≡◌, Bool, true, false, cond, ◌&&◌, not, nat_eq, Option}
-use Rattle.std.proofs.Common.{Some, None, is_some, length, refl, sym, ap, ◌∙◌, arith, inl, inr, subst}
+use Rattle.std.proofs.Common.{ℕ, zero, suc, ◌+◌, ◌<◌, ◌≤◌, ◌≡◌, Bool, true, false, cond, ◌&&◌, not, Option}
+use Rattle.std.proofs.Common.{Some, None, length, refl, sym, ap, ◌∙◌, arith, inl, inr, subst}
 use Rattle.std.specs.Option.{option_map, option_and_then}
 use Rattle.std.proofs.lemmas.Bool.{cases_Bool, and_parts, and_from}
 use Rattle.std.proofs.lemmas.Option.{same_Some}
-use Rattle.fsb_count.specs.Options.{is_some_and, is_at, is_before}
-use Rattle.fsb_count.specs.Clocks.{AgreeBelow, count_where, first_where, last_where}
+use Rattle.fsb_count.specs.Options.{is_some_and, is_at}
+use Rattle.fsb_count.specs.Clocks.{AgreeBelow, first_where, last_where}
 use Rattle.fsb_count.proofs.Interface.{count_where-same, first_where-carried, first_where-found, is_at-from, is_at-some}
 use Rattle.fsb_count.proofs.Interface.{is_before-parts, last_where-failed, last_where-passed}
 use Rattle.fsb_signal.specs.declared.lines.TheConstants.Lines.{ADS}
-use Rattle.fsb_signal.specs.Samples.{data_at, line_at}
-use Rattle.fsb_encode.specs.declared.request.Request.{Request}
+use Rattle.fsb_signal.specs.Samples.{data_at}
 use Rattle.fsb_trace.specs.At.{Trace}
 use Rattle.fsb_trace.specs.Agree.{AgreeTo}
 use Rattle.fsb_trace.specs.Requests.{is_live, live_clock_of, live_count, live_number_of, live_request_of, is_reply}
-use Rattle.fsb_trace.specs.Requests.{have_same_id}
 use Rattle.fsb_trace.specs.Outcome.{outcome_of, is_deferral, is_deferred, response_clock_of}
 use Rattle.fsb_trace.specs.Flight.{is_reply_to, is_live_reply_to, reply_clock_of, reply_number_of}
 use Rattle.fsb_trace.proofs.Interface.{AgreeTo-sym, is_live-agree, line_at-agree, live_clock_of-number}

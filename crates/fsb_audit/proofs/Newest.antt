@@ -1,56 +1,38 @@
 -- Which chunk is moved at the newest clock, and whether it comes from memory.
-use Rattle.std.proofs.Common.{ℕ, zero, suc, ◌+◌, ◌-◌, ◌*◌, ◌/◌, ◌%◌, ◌^◌, ◌<◌, ◌≤◌, ◌≡◌, Bool, true, false, cond, ◌&&◌}
-use Rattle.std.proofs.Common.{◌||◌, not, nat_eq, nat_lt, List, Option, Some, None, is_some, length, slice_index, refl}
-use Rattle.std.proofs.Common.{sym, ap, ◌∙◌, arith, inl, inr, subst}
-use Rattle.std.specs.Option.{option_map, option_and_then}
-use Rattle.std.proofs.lemmas.Bool.{cases_Bool, cases_lt, and_parts, both_ways, false_from_ne_true, ltb-true, eqb-true}
-use Rattle.std.proofs.lemmas.Bool.{not-false}
+use Rattle.std.proofs.Common.{ℕ, ◌+◌, ◌*◌, ◌/◌, ◌%◌, ◌^◌, ◌<◌, ◌≤◌, ◌≡◌, Bool, true, false}
+use Rattle.std.proofs.Common.{Some, length, refl}
+use Rattle.std.proofs.Common.{sym, ap, ◌∙◌, arith, subst}
+use Rattle.std.proofs.lemmas.Bool.{and_parts, both_ways, false_from_ne_true, ltb-true, eqb-true}
 use Rattle.std.proofs.lemmas.Option.{same_Some}
 use Rattle.fsb_count.specs.Options.{is_some_and, is_before}
-use Rattle.fsb_count.specs.Clocks.{first_where}
-use Rattle.fsb_count.proofs.Interface.{first_where-found, first_where-none, is_before-parts, nth_where-found}
-use Rattle.fsb_signal.specs.declared.lines.TheConstants.Lines.{HITM, DEFER}
+use Rattle.fsb_count.proofs.Interface.{is_before-parts, nth_where-found}
 use Rattle.fsb_signal.specs.declared.sample.Sample.{Sample}
-use Rattle.fsb_signal.specs.Samples.{response_of}
 use Rattle.fsb_encode.specs.declared.request.Kind.{Kind}
 use Rattle.fsb_encode.specs.declared.request.Kind.TheVariants.{Reply, Invalidate, Read, WriteBack, Upgrade}
 use Rattle.fsb_encode.specs.declared.request.Request.{Request}
-use Rattle.fsb_encode.specs.Burst.{burst_order}
 use Rattle.fsb_encode.specs.Request.{are_lawful_fields, is_lawful_request}
-use Rattle.fsb_trace.specs.At.{Trace, request_at, response_code_at}
-use Rattle.fsb_trace.specs.Requests.{is_live, live_clock_of, live_count, live_number_of, live_request_of, is_reply}
-use Rattle.fsb_trace.specs.Requests.{is_reply_kind, is_write_back, is_write_back_kind, is_upgrade, is_upgrade_kind}
-use Rattle.fsb_trace.specs.Requests.{have_same_id}
-use Rattle.fsb_trace.specs.Snoop.{line_at_snoop_end}
-use Rattle.fsb_trace.specs.declared.outcome.Outcome.{Outcome}
-use Rattle.fsb_trace.specs.declared.outcome.Outcome.TheVariants.{Granted, Handed, Retried, Deferred, Written, Replied}
-use Rattle.fsb_trace.specs.declared.outcome.Outcome.TheVariants.{Failed, Upgraded}
-use Rattle.fsb_trace.specs.Outcome.{is_deferred, moves_data, outcome_by_kind, outcome_of, response_clock_of}
-use Rattle.fsb_trace.specs.Outcome.{response_code_of, told_by}
-use Rattle.fsb_trace.specs.Response.{data_clock_of, end_of}
-use Rattle.fsb_trace.specs.Flight.{is_reply_to, is_live_reply_to, last_clock_of, reply_clock_of, reply_end_of}
+use Rattle.fsb_trace.specs.At.{Trace, request_at}
+use Rattle.fsb_trace.specs.Requests.{is_live, live_clock_of, live_number_of, live_request_of, is_reply}
+use Rattle.fsb_trace.specs.Requests.{is_reply_kind}
+use Rattle.fsb_trace.specs.Outcome.{is_deferred}
+use Rattle.fsb_trace.specs.Response.{end_of}
+use Rattle.fsb_trace.specs.Flight.{last_clock_of, reply_clock_of, reply_end_of}
 use Rattle.fsb_trace.specs.Flight.{reply_number_of}
-use Rattle.fsb_trace.proofs.Interface.{live_clock_of-number, snoop_end_of-clock}
+use Rattle.fsb_trace.proofs.Interface.{snoop_end_of-clock}
 use Rattle.fsb_laws.specs.OneMore.{OneMore}
 use Rattle.fsb_laws.specs.Orderly.{Orderly}
-use Rattle.fsb_laws.specs.Progress.{response_count}
-use Rattle.fsb_laws.proofs.Interface.{clear_parts, deferred_response, deferred_still, end_of-kept, has_answer}
+use Rattle.fsb_laws.proofs.Interface.{deferred_response, deferred_still, end_of-kept}
 use Rattle.fsb_laws.proofs.Interface.{is_live-ads, last_clock_of-deferred, last_clock_of-plain, live_number_of-more}
-use Rattle.fsb_laws.proofs.Interface.{live_of_reply, reply_end_of-none, response_counted, response_there}
 use Rattle.fsb_laws.proofs.Interface.{request_at-old}
-use Rattle.fsb_rules.specs.declared.coming.Coming.{Coming}
 use Rattle.fsb_rules.specs.Checker.{Deferrable}
-use Rattle.fsb_rules.specs.ComingChunks.{HasData}
-use Rattle.fsb_rules.proofs.Interface.{IsDataClock, data_clock-parts, decoded_lawful}
-use Rattle.fsb_audit.specs.AuditRegisters.{chunk_by, first_asked, nth_from}
-use Rattle.fsb_audit.specs.MovedChunks.{chunk_moved_at, chunk_moved_by, data_place_at, does_come_from_memory}
-use Rattle.fsb_audit.specs.MovedChunks.{is_named_by_reply, is_from_memory, moved_at, mover_at, namer_of, nth_chunk}
-use Rattle.fsb_audit.specs.Audit.{HasAsked, IsAnswering, comes_after}
-use Rattle.fsb_audit.proofs.Movers.{GoesOnFrom, Responded, after_response, before_end, mover_is, no_mover, place_is}
+use Rattle.fsb_rules.proofs.Interface.{IsDataClock}
+use Rattle.fsb_audit.specs.AuditRegisters.{first_asked, nth_from}
+use Rattle.fsb_audit.specs.MovedChunks.{nth_chunk}
+use Rattle.fsb_audit.specs.Audit.{IsAnswering}
+use Rattle.fsb_audit.proofs.Movers.{GoesOnFrom, after_response, before_end}
 use Rattle.fsb_audit.proofs.Movers.{responded}
-use Rattle.fsb_audit.proofs.Moves.{Answer, answer_from, answer_live, answer_parts, reply_back, reply_before}
 use Rattle.fsb_audit.proofs.Moves.{same_deferred}
-use Rattle.fsb_audit.proofs.Asked.{IsOut, live_old, out_from}
+use Rattle.fsb_audit.proofs.Asked.{IsOut, live_old}
 
 -- the chunks of a lawful request, by the one for which it asked first
 lawful_fields : (kind : Kind) (line chunk : ℕ) (den : Bool) → are_lawful_fields kind line chunk den ≡ true

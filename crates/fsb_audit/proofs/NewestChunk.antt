@@ -1,39 +1,34 @@
 -- The chunk that is moved at the newest clock, and whether it comes from memory.
-use Rattle.std.proofs.Common.{ℕ, zero, suc, ◌+◌, ◌<◌, ◌≤◌, ◌≡◌, Bool, true, false, cond, ◌&&◌, ◌||◌, not, nat_eq}
-use Rattle.std.proofs.Common.{nat_lt, List, Option, Some, None, is_some, length, slice_index, refl, sym, ap, ◌∙◌, arith}
+use Rattle.std.proofs.Common.{ℕ, suc, ◌+◌, ◌<◌, ◌≡◌, Bool, true, false, nat_eq}
+use Rattle.std.proofs.Common.{List, Option, Some, None, length, slice_index, refl, sym, ap, ◌∙◌, arith}
 use Rattle.std.proofs.Common.{inl, inr, subst}
-use Rattle.std.specs.Prelude.{◌⊎◌}
-use Rattle.std.specs.Option.{option_map, option_and_then}
-use Rattle.std.proofs.lemmas.Bool.{cases_Bool, cases_lt, and_parts, both_ways, eqb-true, not-false}
+use Rattle.std.proofs.lemmas.Bool.{cases_lt, and_parts, both_ways, eqb-true}
 use Rattle.std.proofs.lemmas.Option.{same_Some}
 use Rattle.fsb_count.specs.Options.{is_some_and}
 use Rattle.fsb_count.specs.Clocks.{first_where}
 use Rattle.fsb_count.proofs.Interface.{first_where-found, first_where-none}
-use Rattle.fsb_signal.specs.declared.lines.TheConstants.Lines.{HITM, DEFER}
 use Rattle.fsb_signal.specs.declared.sample.Sample.{Sample}
-use Rattle.fsb_signal.specs.Samples.{response_of}
 use Rattle.fsb_encode.specs.declared.request.Request.{Request}
 use Rattle.fsb_trace.specs.At.{Trace, request_at}
-use Rattle.fsb_trace.specs.Requests.{live_clock_of, live_count, live_request_of, is_reply, is_reply_kind, have_same_id}
-use Rattle.fsb_trace.specs.Outcome.{is_deferred, response_clock_of, outcome_of}
+use Rattle.fsb_trace.specs.Requests.{live_count, live_request_of, is_reply, is_reply_kind, have_same_id}
+use Rattle.fsb_trace.specs.Outcome.{is_deferred}
 use Rattle.fsb_trace.specs.Response.{data_clock_of}
 use Rattle.fsb_trace.specs.Flight.{is_reply_to, is_live_reply_to, reply_clock_of}
 use Rattle.fsb_trace.proofs.Interface.{AgreeTo-sym, response_clock_of-stays, snoop_end_of-clock}
-use Rattle.fsb_laws.specs.OneMore.{OneMore}
 use Rattle.fsb_laws.specs.Orderly.{Orderly}
 use Rattle.fsb_laws.specs.Progress.{response_count}
-use Rattle.fsb_laws.proofs.Interface.{clear_parts, deferred_response, has_answer, is_live-ads, live_of_reply}
+use Rattle.fsb_laws.proofs.Interface.{clear_parts, deferred_response, has_answer}
 use Rattle.fsb_laws.proofs.Interface.{response_counted, response_there}
 use Rattle.fsb_rules.specs.declared.coming.Coming.{Coming}
 use Rattle.fsb_rules.specs.ComingChunks.{HasData}
 use Rattle.fsb_rules.proofs.Interface.{IsDataClock, data_clock-parts, decoded_lawful}
 use Rattle.fsb_audit.specs.AuditRegisters.{chunk_by, first_asked, nth_from}
-use Rattle.fsb_audit.specs.MovedChunks.{chunk_moved_at, chunk_moved_by, does_come_from_memory, is_named_by_reply}
-use Rattle.fsb_audit.specs.MovedChunks.{is_from_memory, moved_at, mover_at, namer_of, nth_chunk}
-use Rattle.fsb_audit.specs.Audit.{HasAsked, IsAnswering, comes_after}
-use Rattle.fsb_audit.proofs.Movers.{Responded, before_end, live_after, mover_is, no_mover, place_is, responded}
+use Rattle.fsb_audit.specs.MovedChunks.{chunk_moved_at, chunk_moved_by, is_named_by_reply}
+use Rattle.fsb_audit.specs.MovedChunks.{is_from_memory, moved_at, namer_of, nth_chunk}
+use Rattle.fsb_audit.specs.Audit.{HasAsked, comes_after}
+use Rattle.fsb_audit.proofs.Movers.{before_end, live_after, mover_is, no_mover, place_is, responded}
 use Rattle.fsb_audit.proofs.Movers.{same_request}
-use Rattle.fsb_audit.proofs.Moves.{Answer, answer_from, answer_live, answer_parts, reply_back, reply_before}
+use Rattle.fsb_audit.proofs.Moves.{answer_from, answer_live, answer_parts, reply_back, reply_before}
 use Rattle.fsb_audit.proofs.Moves.{reply_forth, same_deferred, same_number}
 use Rattle.fsb_audit.proofs.Asked.{IsOut, out_from}
 use Rattle.fsb_audit.proofs.Newest.{Began, Comes, answered_out, began, chunk_same, goes_on, plain_out, request_where}

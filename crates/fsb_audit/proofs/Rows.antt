@@ -48,8 +48,6 @@ use Rattle.fsb_trace.specs.Rules.{has_parity_at, is_address_parity_wrong, is_req
 use Rattle.fsb_trace.specs.Rules.{is_marked_address_wrong, is_marked_request_wrong, phase_rules, breaks}
 use Rattle.fsb_trace.specs.Verdict.{is_broken, least_rule, breaks_a_rule, verdict}
 use Rattle.fsb_encode.specs.Burst.{burst_order}
-use Rattle.fsb_rules.specs.declared.broken.Broken.{Broken}
-use Rattle.fsb_audit.specs.declared.finding.FoulAt.{FoulAt}
 use Rattle.fsb_audit.specs.declared.finding.Finding.{Finding}
 use Rattle.fsb_audit.specs.declared.finding.Finding.TheVariants.{Broken as BrokenFirst, Foul as FoulFirst}
 use Rattle.fsb_audit.specs.MovedChunks.{data_place_at, mover_at, is_named_by_reply, namer_of, nth_chunk, chunk_moved_by}

@@ -1,5 +1,5 @@
 -- The audit before the first sample.
-use Rattle.std.proofs.Common.{ℕ, ◌+◌, ◌<◌, ◌≡◌, false, None, List, [], length, refl, sym, ap, ◌∙◌, arith}
+use Rattle.std.proofs.Common.{ℕ, ◌≡◌, false, None, [], length, refl, sym, ap, ◌∙◌, arith}
 use Rattle.fsb_count.specs.Clocks.{count_where, first_where, last_where}
 use Rattle.fsb_signal.specs.declared.marks.Marks.{Marks}
 use Rattle.fsb_trace.specs.At.{line_back}
@@ -10,7 +10,7 @@ use Rattle.fsb_audit.specs.declared.audit.Audit.{Audit}
 use Rattle.fsb_audit.specs.MovedChunks.{moved_count}
 use Rattle.fsb_audit.specs.Fouls.{finding_of, latest_move}
 use Rattle.fsb_audit.specs.AuditRegisters.{data_in}
-use Rattle.fsb_audit.specs.Audit.{KeepsUp, HasAsked, IsAnswering, Stands, comes_after, first_back, latest_data}
+use Rattle.fsb_audit.specs.Audit.{Stands, comes_after, first_back, latest_data}
 use Rattle.fsb_audit.proofs.Findings.{nothing, stands_following}
 
 -- what the code makes

@@ -88,4 +88,5 @@ pub record IsFoundForGood (marks : Marks) (h : Trace) (found : Finding) : Type 0
 pub record Stands (audit : Audit) (marks : Marks) (h : Trace) : Type 0 where
   pub found : is_full audit ≡ false → audit.found ≡ finding_of marks h
   pub follows : is_full audit ≡ false → audit.found ≡ None → KeepsUp audit marks h
-  pub settled : is_full audit ≡ false → (found : Finding) → audit.found ≡ Some found → IsFoundForGood marks h found
+  pub settled : is_full audit ≡ false → (found : Finding) → audit.found ≡ Some found
+      → IsFoundForGood marks h found

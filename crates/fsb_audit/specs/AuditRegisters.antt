@@ -1,6 +1,5 @@
 -- What an audit keeps, one sample on.
-use Rattle.std.specs.Prelude.{◌≡◌, ℕ, ◌+◌, ◌*◌, ◌/◌, ◌%◌, ◌^◌, Bool, ◌&&◌, not, nat_eq, ◌==◌, List, Option, Some, None, if◌then◌else◌, slice_index, slice_set}
-use Rattle.std.specs.Option.{option_map}
+use Rattle.std.specs.Prelude.{◌≡◌, ℕ, ◌+◌, ◌-◌, ◌*◌, ◌/◌, ◌%◌, ◌^◌, Bool, ◌&&◌, not, nat_eq, ◌==◌, List, Option, Some, None, if◌then◌else◌, slice_index, slice_set}
 use Rattle.std.specs.Map.{lookup}
 use Rattle.fsb_count.specs.Options.{is_some_and}
 use Rattle.fsb_signal.specs.declared.lines.TheConstants.Lines.{ADS}
@@ -10,13 +9,11 @@ use Rattle.fsb_encode.specs.declared.request.Request.{Request}
 use Rattle.fsb_encode.specs.declared.request.Pair.{Pair}
 use Rattle.fsb_encode.specs.Burst.{burst_order}
 use Rattle.fsb_trace.specs.declared.outcome.Outcome.TheVariants.{Granted}
-use Rattle.fsb_trace.specs.At.{known_pair}
+use Rattle.fsb_trace.specs.At.{Trace, known_pair, line_back, request_at}
 use Rattle.fsb_trace.specs.Requests.{is_reply_kind}
 use Rattle.fsb_trace.specs.Outcome.{response_code_of}
 use Rattle.fsb_laws.specs.OneMore.{responds}
 use Rattle.fsb_rules.specs.declared.coming.Coming.{Coming}
-use Rattle.fsb_rules.specs.Recent.{request_by}
-use Rattle.fsb_audit.specs.declared.finding.FoulAt.{FoulAt}
 use Rattle.fsb_audit.specs.declared.finding.Finding.{Finding}
 use Rattle.fsb_audit.specs.declared.finding.Finding.TheVariants.{Foul as FoulFirst}
 
@@ -41,9 +38,13 @@ unfoldable pub asked_with : List ℕ → Option Request → List ℕ
 asked_with asked None = asked
 asked_with asked (Some r) = if is_reply_kind r.kind then asked else slice_set asked r.did (first_asked r)
 
--- the chunks that were asked for, with the one of the request whose second clock the sample is
-abbrev pub asked_after : List ℕ → Option Pair → Sample → List ℕ
-asked_after asked first x = asked_with asked (request_by first x)
+-- the request whose second clock is c
+unfoldable pub begun_before : Trace → ℕ → Option Request
+begun_before w c = if line_back ADS w c 1 then request_at w (c - 1) else None
+
+-- the chunks that were asked for, with the one of the request whose second clock is c
+abbrev pub asked_after : List ℕ → Trace → ℕ → List ℕ
+asked_after asked w c = asked_with asked (begun_before w c)
 
 -- the data of the request that responded last come from memory: its response was normal data
 unfoldable pub from_memory_after : Bool → Sample → Bool

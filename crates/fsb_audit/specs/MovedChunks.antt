@@ -1,6 +1,6 @@
 -- The transfers of a trace: at which clocks data come, of which chunk of memory, and whether they come from memory.
 -- A chunk is eight bytes; its number is its address divided by 8.
-use Rattle.std.specs.Prelude.{ℕ, ◌+◌, ◌*◌, Bool, true, false, ◌&&◌, is_some, if◌then◌else◌, Option, Some, None, length, slice_index}
+use Rattle.std.specs.Prelude.{ℕ, ◌+◌, ◌*◌, Bool, true, false, ◌&&◌, is_some, if◌then◌else◌, Option, Some, length, slice_index}
 use Rattle.std.specs.Option.{option_map, option_and_then}
 use Rattle.fsb_count.specs.Options.{is_some_and, is_at}
 use Rattle.fsb_count.specs.Clocks.{first_where, count_where}

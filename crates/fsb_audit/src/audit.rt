@@ -3,11 +3,10 @@
 ghost use Rattle.std.specs.Prelude.{◌≡◌, ℕ, ◌+◌, ◌*◌, ◌^◌, ◌<◌, true, false, [], ◌∷◌, ◌++◌, length, is_some, slice_index, if◌then◌else◌, Some, None, IsErr, IsOk, IfOk, IfSome, OnOk, OnErr};
 ghost use Rattle.fsb_signal.specs.declared.marks.Marks.{Marks};
 ghost use Rattle.fsb_trace.specs.At.{Trace};
-ghost use Rattle.fsb_rules.specs.Recent.{request_by};
 ghost use Rattle.fsb_audit.specs.MovedChunks.{moved_count};
 ghost use Rattle.fsb_audit.specs.Fouls.{finding_of};
-ghost use Rattle.fsb_audit.specs.AuditRegisters.{asked_after, first_after, from_memory_after, foul_by, found_after, count_after, chunk_by, data_in, Puts, HasMoved};
-ghost use Rattle.fsb_audit.specs.Audit.{Stands, is_full};
+ghost use Rattle.fsb_audit.specs.AuditRegisters.{asked_after, begun_before, first_after, from_memory_after, foul_by, found_after, count_after, chunk_by, data_in, Puts, HasMoved};
+ghost use Rattle.fsb_audit.specs.Audit.{Stands, first_back, is_full};
 
 use crate::chunks::{first_chunk, nth_chunk};
 use crate::finding::{Finding, FoulAt};
@@ -25,7 +24,7 @@ pub struct Audit {
     checker: Checker,
     /// What was found; nothing below is looked at any more once something was.
     found: Option<Finding>,
-    /// Whether memory was lacking.
+    /// Whether memory was lacking in a call.
     is_full: bool,
     /// How many samples were fed.
     clock: u64,
@@ -124,8 +123,9 @@ impl Audit {
         ensures room { OnOk result (self.new.is_full ≡ self.old.is_full) }
         ensures clock { OnOk result (self.new.clock ≡ clock + 1) }
         ensures first { OnOk result (self.new.first ≡ first_after sample.now) }
-        ensures asked { OnOk result (
-            self.new.asked ≡ asked_after self.old.asked self.old.first sample.now) }
+        ensures asked { OnOk result ((h : Trace) → self.old.first ≡ first_back h →
+            self.new.asked
+            ≡ asked_after self.old.asked (h ++ sample.now ∷ []) (length h)) }
         ensures from_memory { OnOk result (
             self.new.from_memory ≡ from_memory_after self.old.from_memory sample.now) }
         ensures count { OnOk result (self.new.count ≡ count_after self.old.count coming) }
@@ -186,9 +186,9 @@ impl Audit {
     }
 
     /// The request whose second clock is this sample.
-    #[tactic(auto, unfolding(fsb_rules::specs::Recent::request_by))]
     fn begun(&self, sample: &Sample) -> Option<Request>
-        ensures { result ≡ request_by self.now.first sample.now }
+        ensures { (h : Trace) → self.now.first ≡ first_back h →
+            result ≡ begun_before (h ++ sample.now ∷ []) (length h) }
     {
         let second = known_pair(sample)?;
         decode(self.first?, second).ok()
@@ -198,9 +198,11 @@ impl Audit {
     /// words of one that begins.
     #[tactic(auto, unfolding(crate::specs::AuditRegisters::asked_with, crate::specs::AuditRegisters::first_after, fsb_trace::specs::Requests::is_reply_kind))]
     fn note_request(&mut self, sample: &Sample)
+        ensures asked { (h : Trace) → self.old.first ≡ first_back h → self.new.asked
+            ≡ asked_after self.old.asked (h ++ sample.now ∷ []) (length h) }
         ensures rest { self.new ≡ record self.old {
           first = first_after sample.now;
-          asked = asked_after self.old.asked self.old.first sample.now;
+          asked = self.new.asked;
         } }
     {
         if let Some(request) = self.begun(sample) {

@@ -1,9 +1,8 @@
-use Rattle.std.proofs.Common.{None, sym, ap, ◌∙◌, arith, subst, [], ◌∷◌, ◌++◌, length, ◌≡◌, false, is_some}
+use Rattle.std.proofs.Common.{sym, ap, ◌∙◌, arith, subst, [], ◌∷◌, ◌++◌, length, ◌≡◌, false}
 use Rattle.std.proofs.lemmas.Bool.{both_ways}
 use Rattle.fsb_count.proofs.Interface.{is_some-none}
 use Rattle.fsb_signal.specs.declared.marks.Marks.{Marks}
 use Rattle.fsb_trace.specs.At.{Trace}
-use Rattle.fsb_trace.specs.Verdict.{verdict}
 use Rattle.fsb_rules.specs.Checker.{Stands as CheckerStands}
 use Rattle.fsb_audit.specs.Audit.{Stands}
 use Rattle.fsb_audit.proofs.Findings.{stands_full}
@@ -78,7 +77,7 @@ stands c m h s =
                 (sym w.absorb.ensures.checker) (w.feed.ensures.stands m h f.checker);
             clock = done.clock;
             first = done.first;
-            asked = done.asked;
+            asked = done.asked h f.first;
             from_memory = done.from_memory;
             count = done.count;
             moved = done.moved;

@@ -1,5 +1,4 @@
 use Rattle.std.proofs.Common.{refl}
-use Rattle.std.proofs.lemmas.List.{length-replicate}
 use Rattle.fsb_audit.proofs.Starts.{new_stands}
 use Rattle.fsb_audit.proofs.audit.Audit.new.Goals as goal
 
