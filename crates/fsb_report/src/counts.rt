@@ -4,9 +4,9 @@ ghost use Rattle.fsb_trace.specs.Requests.{is_reply, is_write_back};
 ghost use Rattle.fsb_report.specs.RequestCounts.{is_read, is_invalidate, request_begun_at, request_counts};
 ghost use Rattle.fsb_report.specs.SummaryText.{request_total};
 
-use fsb_encode::{Kind, Request, decode};
-use fsb_signal::{Lines, Sample};
-use fsb_trace::known_pair;
+use fsb_encode::{Kind, Request};
+use fsb_signal::{Lines, Sample, line_at};
+use fsb_trace::request_at;
 
 /// How many requests of each kind a trace has. An upgrade counts in none of them.
 #[derive(Clone, Copy, Debug, PartialEq, Eq)]
@@ -58,7 +58,7 @@ impl RequestCounts {
 }
 
 /// How many requests of each kind the trace has, cancelled ones too; a request whose second clock is not in the trace
-/// does not count. Each clock is looked at once, with the next. It takes no memory.
+/// does not count. Each clock is looked at once, and with the next where a request begins. It takes no memory.
 pub fn request_counts(w: &[Sample]) -> RequestCounts
     requires { length w.now < 2 ^ 32 }
     ensures { result ≡ request_counts w.now }
@@ -76,15 +76,13 @@ pub fn request_counts(w: &[Sample]) -> RequestCounts
 }
 
 // The request whose first clock is `q`, where its second clock is in the trace and the two hold one.
-#[tactic(auto, unfolding(crate::specs::RequestCounts::request_begun_at, fsb_signal::specs::Samples::line_at, fsb_trace::specs::At::request_at, fsb_trace::specs::At::known_pair_at))]
+#[tactic(auto, unfolding(crate::specs::RequestCounts::request_begun_at))]
 fn request_begun_at(w: &[Sample], q: usize) -> Option<Request>
     requires { q < 2 ^ 32 }
     ensures { result ≡ request_begun_at w.now q }
 {
-    let first = w.get(q)?;
-    let second = w.get(q + 1)?;
-    if first.has(Lines::ADS) {
-        decode(known_pair(first)?, known_pair(second)?).ok()
+    if line_at(Lines::ADS, w, q) {
+        request_at(w, q)
     } else {
         None
     }
