@@ -29,7 +29,7 @@ use Rattle.fsb_audit.specs.Fouls.{broken_at, foul_at, is_foul_clock}
 use Rattle.fsb_audit.specs.AuditRegisters.{HasMoved, asked_after, chunk_by, count_after, data_in, first_after}
 use Rattle.fsb_audit.specs.AuditRegisters.{found_after, from_memory_after}
 use Rattle.fsb_audit.specs.Audit.{KeepsUp, HasAsked, IsFoundForGood, Stands}
-use Rattle.fsb_audit.specs.Audit.{is_full, latest_data}
+use Rattle.fsb_audit.specs.Audit.{has_lacked_memory, latest_data}
 use Rattle.fsb_audit.proofs.Asked.{asked_goes}
 use Rattle.fsb_audit.proofs.Answering.{answering_goes}
 use Rattle.fsb_audit.proofs.Newest.{Comes}
@@ -234,17 +234,17 @@ broken_stands m a new h x b f e t =
 
 -- what was found before
 found_cases : (m : Marks) (a : Audit) (h : Trace) (x : Sample) (o : Option Finding) → Stands a m h
-    → is_full a ≡ false → a.found ≡ o → is_some o ≡ true → Stands a m (h ++ x ∷ [])
+    → has_lacked_memory a ≡ false → a.found ≡ o → is_some o ≡ true → Stands a m (h ++ x ∷ [])
 found_cases m a h x None s room e t = absurd (let no : ⊥ = cc in no)
 found_cases m a h x (Some f) s room e t =
     stands_settled m a (h ++ x ∷ []) f e (settled_stays m h x (h ++ x ∷ []) f (one_more h x) (s.settled room f e))
 
-pub found_stands : (m : Marks) (a : Audit) (h : Trace) (x : Sample) → Stands a m h → is_full a ≡ false
+pub found_stands : (m : Marks) (a : Audit) (h : Trace) (x : Sample) → Stands a m h → has_lacked_memory a ≡ false
     → is_some a.found ≡ true → Stands a m (h ++ x ∷ [])
 found_stands m a h x s room t = found_cases m a h x a.found s room refl t
 
 -- what the audit keeps where nothing was found
-pub follows_now : (m : Marks) (a : Audit) (h : Trace) → Stands a m h → is_full a ≡ false
+pub follows_now : (m : Marks) (a : Audit) (h : Trace) → Stands a m h → has_lacked_memory a ≡ false
     → is_some a.found ≡ false → KeepsUp a m h
 follows_now m a h s room e = s.follows room (is_some-none a.found e)
 

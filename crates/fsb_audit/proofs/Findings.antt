@@ -23,7 +23,7 @@ use Rattle.fsb_audit.specs.MovedChunks.{is_from_memory, moved_at}
 use Rattle.fsb_audit.specs.Fouls.{finding_of, found_below, found_with, first_foul, foul_at, have_same_data}
 use Rattle.fsb_audit.specs.Fouls.{is_foul_clock, is_stale, latest_move}
 use Rattle.fsb_audit.specs.AuditRegisters.{ChunkMap, data_in, foul_by}
-use Rattle.fsb_audit.specs.Audit.{BreaksFirst, KeepsUp, FoulsFirst, IsFoundForGood, Stands, is_full, latest_data}
+use Rattle.fsb_audit.specs.Audit.{BreaksFirst, KeepsUp, FoulsFirst, IsFoundForGood, Stands, has_lacked_memory, latest_data}
 use Rattle.fsb_audit.proofs.Movers.{GoesOnFrom}
 use Rattle.fsb_audit.proofs.Moves.{same_foul, same_foul_at}
 use Rattle.fsb_audit.proofs.Kept.{latest_kept}
@@ -136,7 +136,7 @@ stands_settled m a h f e s = record {
   settled = λ room found some. subst (IsFoundForGood m h) (same_Some _ _ (sym e ∙ some)) s;
 }
 
-pub stands_full : (m : Marks) (a : Audit) (h : Trace) → is_full a ≡ true → Stands a m h
+pub stands_full : (m : Marks) (a : Audit) (h : Trace) → has_lacked_memory a ≡ true → Stands a m h
 stands_full m a h full = record {
   found = λ room. absurd (let no : ⊥ = cc in no);
   follows = λ room none. absurd (let no : ⊥ = cc in no);

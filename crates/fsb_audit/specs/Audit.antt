@@ -23,8 +23,8 @@ use Rattle.fsb_audit.specs.Fouls.{latest_move, is_foul_clock, first_foul, foul_a
 use Rattle.fsb_audit.specs.AuditRegisters.{first_asked, data_in}
 
 -- memory was lacking in a call
-abbrev pub is_full : Audit → Bool
-is_full audit = audit.is_full
+abbrev pub has_lacked_memory : Audit → Bool
+has_lacked_memory audit = audit.has_lacked_memory
 
 -- the data of the last of so many requests that responded come from memory
 unfoldable pub comes_after : Trace → ℕ → Bool
@@ -86,7 +86,7 @@ pub record IsFoundForGood (marks : Marks) (h : Trace) (found : Finding) : Type 0
 -- the audit was made with these marks and fed these samples: unless memory was lacking it found what is to be found in
 -- them, and as long as there is nothing it follows them
 pub record Stands (audit : Audit) (marks : Marks) (h : Trace) : Type 0 where
-  pub found : is_full audit ≡ false → audit.found ≡ finding_of marks h
-  pub follows : is_full audit ≡ false → audit.found ≡ None → KeepsUp audit marks h
-  pub settled : is_full audit ≡ false → (found : Finding) → audit.found ≡ Some found
+  pub found : has_lacked_memory audit ≡ false → audit.found ≡ finding_of marks h
+  pub follows : has_lacked_memory audit ≡ false → audit.found ≡ None → KeepsUp audit marks h
+  pub settled : has_lacked_memory audit ≡ false → (found : Finding) → audit.found ≡ Some found
       → IsFoundForGood marks h found

@@ -6,7 +6,7 @@ ghost use Rattle.fsb_trace.specs.At.{Trace};
 ghost use Rattle.fsb_audit.specs.MovedChunks.{moved_count};
 ghost use Rattle.fsb_audit.specs.Fouls.{finding_of};
 ghost use Rattle.fsb_audit.specs.AuditRegisters.{asked_after, begun_before, first_after, from_memory_after, foul_by, found_after, count_after, chunk_by, data_in, Puts, HasMoved};
-ghost use Rattle.fsb_audit.specs.Audit.{Stands, first_back, is_full};
+ghost use Rattle.fsb_audit.specs.Audit.{Stands, first_back, has_lacked_memory};
 
 use crate::chunks::{first_chunk, nth_chunk};
 use crate::finding::{Finding, FoulAt};
@@ -25,7 +25,7 @@ pub struct Audit {
     /// What was found; nothing below is looked at any more once something was.
     found: Option<Finding>,
     /// Whether memory was lacking in a call.
-    is_full: bool,
+    has_lacked_memory: bool,
     /// How many samples were fed.
     clock: u64,
     /// The words of the last clock, where a request began there.
@@ -65,13 +65,13 @@ impl Audit {
     /// The audit before the first sample of a dump with these marks. It takes no memory, and is always made.
     pub fn new(alloc: Global, marks: Marks) -> Result<Audit, Memory>
         ensures stands { IfOk result (λ audit. Stands audit marks []) }
-        ensures room { IfOk result (λ audit. is_full audit ≡ false) }
+        ensures room { IfOk result (λ audit. has_lacked_memory audit ≡ false) }
         ensures made { IsOk result }
     {
         Ok(Audit {
             checker: Checker::new(marks),
             found: None,
-            is_full: false,
+            has_lacked_memory: false,
             clock: 0,
             first: None,
             asked: [0; 256],
@@ -89,11 +89,11 @@ impl Audit {
             found ≡ finding_of m (h ++ sample.now ∷ [])) }
         ensures stands { (m : Marks) (h : Trace) → Stands self.old m h →
             Stands self.new m (h ++ sample.now ∷ []) }
-        ensures memory { is_full self.old ≡ true → IsErr result }
-        ensures full { OnErr result (is_full self.new ≡ true) }
-        ensures room { OnOk result (is_full self.new ≡ false) }
+        ensures memory { has_lacked_memory self.old ≡ true → IsErr result }
+        ensures full { OnErr result (has_lacked_memory self.new ≡ true) }
+        ensures room { OnOk result (has_lacked_memory self.new ≡ false) }
     {
-        if self.is_full {
+        if self.has_lacked_memory {
             return Err(Memory);
         }
         if self.found.is_none() {
@@ -109,7 +109,7 @@ impl Audit {
     /// How many chunks were moved in the samples fed.
     pub fn chunks(&self) -> u64
         requires { (m : Marks) × (h : Trace) × Stands self.now m h
-            × (finding_of m h ≡ None) × (is_full self.now ≡ false) }
+            × (finding_of m h ≡ None) × (has_lacked_memory self.now ≡ false) }
         ensures { (m : Marks) (h : Trace) → Stands self.now m h → result ≡ moved_count h }
     {
         self.count
@@ -119,8 +119,8 @@ impl Audit {
     fn absorb(&mut self, clock: u32, sample: &Sample, coming: Option<Coming>) -> Result<(), Memory>
         requires { self.old.count < 2 ^ 32 }
         ensures checker { self.new.checker ≡ self.old.checker }
-        ensures full { OnErr result (self.new.is_full ≡ true) }
-        ensures room { OnOk result (self.new.is_full ≡ self.old.is_full) }
+        ensures full { OnErr result (self.new.has_lacked_memory ≡ true) }
+        ensures room { OnOk result (self.new.has_lacked_memory ≡ self.old.has_lacked_memory) }
         ensures clock { OnOk result (self.new.clock ≡ clock + 1) }
         ensures first { OnOk result (self.new.first ≡ first_after sample.now) }
         ensures asked { OnOk result ((h : Trace) → self.old.first ≡ first_back h →
@@ -162,8 +162,8 @@ impl Audit {
     fn take_chunk(&mut self, clock: u32, bits: u64, coming: Coming) -> Result<(), Memory>
         requires { self.old.count < 2 ^ 32 }
         ensures checker { self.new.checker ≡ self.old.checker }
-        ensures full { OnErr result (self.new.is_full ≡ true) }
-        ensures room { OnOk result (self.new.is_full ≡ self.old.is_full) }
+        ensures full { OnErr result (self.new.has_lacked_memory ≡ true) }
+        ensures room { OnOk result (self.new.has_lacked_memory ≡ self.old.has_lacked_memory) }
         ensures first { self.new.first ≡ self.old.first }
         ensures asked { self.new.asked ≡ self.old.asked }
         ensures from_memory { self.new.from_memory ≡ self.old.from_memory }
@@ -177,7 +177,7 @@ impl Audit {
     {
         let chunk = nth_chunk(self.asked[usize::from(coming.did)], coming.place);
         let Ok(before) = self.moved.insert(chunk, bits) else {
-            self.is_full = true;
+            self.has_lacked_memory = true;
             return Err(Memory);
         };
         self.found = foul_of(self.from_memory, clock, chunk, before, bits);

@@ -41,7 +41,7 @@ impl Auditor {
 impl Watcher for Auditor {
     ghost use Rattle.fsb_signal.specs.declared.marks.Marks.{Marks};
     ghost use Rattle.fsb_trace.specs.At.{Trace};
-    ghost use Rattle.fsb_audit_dump.specs.Auditing.{HasAudited, IsFull};
+    ghost use Rattle.fsb_audit_dump.specs.Auditing.{HasAudited, HasLackedMemory};
 
     ghost is_ready = { λ _. Unit {0} };
 
@@ -62,7 +62,7 @@ impl Watcher for Auditor {
             × (length h < 2 ^ 32) }
         ensures seen { OnOk result ((marks : Marks) (h : Trace) → HasAudited self.old marks h →
             HasAudited self.new marks (h ++ sample.now ∷ [])) }
-        ensures memory { OnErr result (IsFull self.new) }
+        ensures memory { OnErr result (HasLackedMemory self.new) }
     {
         let Some(audit) = &mut self.audit else {
             unreachable!();
@@ -91,11 +91,9 @@ pub fn audit_dump<S: Source>(alloc: Global, name: &str, source: &mut S) -> Resul
     ensures holds_stays { IsTrue S.tells → S.holds source.new ≡ S.holds source.old }
 {
     let mut auditor = Auditor::new(alloc);
-    match watch_dump(alloc, name, source, &mut auditor) {
-        Ok(clocks) => Ok(Audited {
-            clocks,
-            found: auditor.found,
-        }),
-        Err(stop) => Err(stop),
-    }
+    let clocks = watch_dump(alloc, name, source, &mut auditor)?;
+    Ok(Audited {
+        clocks,
+        found: auditor.found,
+    })
 }

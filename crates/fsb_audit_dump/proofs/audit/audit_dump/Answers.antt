@@ -1,12 +1,13 @@
+use Rattle.std.proofs.Common.{rules, ◌≡◌, Err}
 use Rattle.fsb_audit_dump.specs.Audited.{IsAudited}
 use Rattle.fsb_audit_dump.specs.Auditing.{HasAudited}
 use Rattle.fsb_audit_dump.proofs.audit.audit_dump.Goals as goal
 use Rattle.fsb_watch.proofs.Interface.{refused_alike}
 use Rattle.fsb_watch.specs.Watched.{IsSeen}
 
-pub returns-in-Ok-clause-audited : goal.returns-in-Ok-clause-audited
-returns-in-Ok-clause-audited g c tells =
-    let read = c.in-Ok.ensures.read tells in (
+pub returns-clause-audited : goal.returns-clause-audited
+returns-clause-audited g c tells =
+    let read = c.in_ok-clocks.ensures.read tells in (
       read.0,
       record {
         marks = read.1.marks;
@@ -18,7 +19,8 @@ returns-in-Ok-clause-audited g c tells =
       },
     )
 
-pub returns-clause-audited : goal.returns-clause-audited
-returns-clause-audited g c tells =
-    refused_alike (IsSeen (λ marks h. HasAudited c.watch_dump.new.watcher marks h)) IsAudited _ _ _
-    (c.in-Err.ensures.read tells)
+pub returns-in_err-clocks-clause-audited : goal.returns-in_err-clocks-clause-audited
+returns-in_err-clocks-clause-audited g c tells =
+    let same : c.from_residual.result ≡ Err c.in_err-clocks.field-0.0 = search rules in
+    rw same (refused_alike (IsSeen (λ marks h. HasAudited c.watch_dump.new.watcher marks h)) IsAudited _ _ _
+    (c.in_err-clocks.ensures.read tells))

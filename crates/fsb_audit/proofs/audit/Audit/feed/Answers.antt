@@ -91,13 +91,13 @@ stands c m h s =
           (found_stands m c.args.self.now h c.args.sample.now s c.if-self.false w.if-is_none.ensures)
     ]
 
-room : (c : goal.After-result-1) → c.if-is_none.self.is_full ≡ false
+room : (c : goal.After-result-1) → c.if-is_none.self.has_lacked_memory ≡ false
 room c =
     elim c.if-is_none.branch [
-      | then-is_none+in-Some w ↦ ap (λ a. a.is_full) w.self-is ∙ c.if-self.false
-      | then-is_none+in-None+in_ok-absorb-in-None w ↦ ap (λ a. a.is_full) w.self-is
+      | then-is_none+in-Some w ↦ ap (λ a. a.has_lacked_memory) w.self-is ∙ c.if-self.false
+      | then-is_none+in-None+in_ok-absorb-in-None w ↦ ap (λ a. a.has_lacked_memory) w.self-is
           ∙ w.in_ok-absorb-in-None.ensures.room ∙ c.if-self.false
-      | else-is_none w ↦ ap (λ a. a.is_full) w.self-is ∙ c.if-self.false
+      | else-is_none w ↦ ap (λ a. a.has_lacked_memory) w.self-is ∙ c.if-self.false
     ]
 
 pub returns-clause-found : goal.returns-clause-found
@@ -107,7 +107,7 @@ pub returns-clause-stands : goal.returns-clause-stands
 returns-clause-stands c = stands c
 
 pub returns-clause-memory : goal.returns-clause-memory
-returns-clause-memory c = λ full. absurd (both_ways c.args.self.now.is_full c.if-self.false full)
+returns-clause-memory c = λ full. absurd (both_ways c.args.self.now.has_lacked_memory c.if-self.false full)
 
 pub returns-clause-room : goal.returns-clause-room
 returns-clause-room c = room c
