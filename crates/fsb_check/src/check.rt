@@ -78,11 +78,9 @@ pub fn check_dump<S: Source>(
     ensures holds_stays { IsTrue S.tells → S.holds source.new ≡ S.holds source.old }
 {
     let mut judge = Judge::new();
-    match watch_dump(alloc, name, source, &mut judge) {
-        Ok(clocks) => Ok(Judgement {
-            clocks,
-            broken: judge.broken,
-        }),
-        Err(stop) => Err(stop),
-    }
+    let clocks = watch_dump(alloc, name, source, &mut judge)?;
+    Ok(Judgement {
+        clocks,
+        broken: judge.broken,
+    })
 }

@@ -1,5 +1,5 @@
 -- What is shown of the samples of a piece, and of the end.
-use Rattle.std.proofs.Common.{◌≡◌, ◌≤◌, ◌+◌, ◌-◌, ◌^◌, ◌++◌, [], ℕ, Bool, true, false, List, Option, Some, None}
+use Rattle.std.proofs.Common.{◌≡◌, ◌-◌, ◌^◌, ◌++◌, [], ℕ, Bool, true, false, List, Option, Some, None}
 use Rattle.std.proofs.Common.{is_some, length, refl, sym, ap, subst, ◌∙◌, arith}
 use Rattle.fsb_signal.specs.declared.marks.Marks.{Marks}
 use Rattle.fsb_signal.specs.declared.sample.Sample.{Sample}

@@ -69,10 +69,7 @@ fn watch_left<S: Source, W: Watcher>(
     let mut taken: u64 = 0;
     while taken <= DUMP_LIMIT {
         let room = ((DUMP_LIMIT - taken).min(PIECE - 1) + 1) as usize;
-        let count = match take_piece(source, &mut pieces, watcher, &mut piece[..room]) {
-            Ok(count) => count,
-            Err(stop) => return Err(stop),
-        };
+        let count = take_piece(source, &mut pieces, watcher, &mut piece[..room])?;
         if count == 0 {
             return pieces.end(watcher);
         }

@@ -1,8 +1,8 @@
-use Rattle.std.proofs.Common.{◌≡◌, ◌∙◌, ◌++◌, List, Option, is_some, length, sym, ap, subst, arith}
+use Rattle.std.proofs.Common.{◌∙◌, ◌++◌, List, Option, is_some, sym, ap, subst, arith}
 use Rattle.std.proofs.lemmas.List.{length-append}
 use Rattle.fsb_signal.specs.declared.marks.Marks.{Marks}
 use Rattle.fsb_signal.specs.declared.sample.Sample.{Sample}
-use Rattle.fsb_watch.specs.Watching.{CanShow, IsShown}
+use Rattle.fsb_watch.specs.Watching.{IsShown}
 use Rattle.fsb_watch.proofs.Showing.{is_ready_still}
 use Rattle.fsb_watch.proofs.pieces.Pieces.show.Goals as goal
 

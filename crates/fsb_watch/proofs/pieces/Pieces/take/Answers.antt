@@ -1,4 +1,4 @@
-use Rattle.std.proofs.Common.{◌≡◌, ◌∙◌, ◌++◌, None, refl, ℕ, List}
+use Rattle.std.proofs.Common.{◌≡◌, ◌∙◌, None, refl, ℕ, List}
 use Rattle.std.proofs.lemmas.Result.{on_ok_weaker}
 use Rattle.vcd_grammar.specs.Reading.{marks_so_far, samples_so_far}
 use Rattle.vcd_read.specs.Standing.{refusal_of}
