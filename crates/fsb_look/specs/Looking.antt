@@ -1,5 +1,5 @@
 -- What a seeker and a drawer have seen.
-use Rattle.std.specs.Prelude.{◌≡◌, ℕ, List, [], option_map}
+use Rattle.std.specs.Prelude.{◌≡◌, ℕ, None, List, [], option_map}
 use Rattle.fsb_signal.specs.declared.sample.Sample.{Sample}
 use Rattle.fsb_trigger.specs.Hunt.{Stands}
 use Rattle.fsb_trigger.specs.Match.{least_match}
@@ -8,9 +8,10 @@ use Rattle.fsb_wave.specs.Wave.{Stands as Draws}
 use Rattle.fsb_look.specs.declared.find.Seeker.{Seeker}
 use Rattle.fsb_look.specs.declared.wave.Drawer.{Drawer}
 
--- the seeker searches for these steps and has seen these samples
+-- the seeker searches for these steps and has seen these samples: it found their least match, and as long as there is
+-- none its hunt was fed them
 pub record Seeks (seeker : Seeker) (steps : List StepView) (h : List Sample) : Type 0 where
-  pub hunt : Stands seeker.hunt steps h
+  pub hunt : seeker.found ≡ None → Stands seeker.hunt steps h
   pub found : option_map (λ found. found.clocks) seeker.found ≡ least_match steps h
 
 -- the seeker has seen nothing yet

@@ -20,7 +20,7 @@ pub struct Search {
     pub clocks: u32,
 }
 
-/// The search for a trigger among the samples of a dump, and what it told last.
+/// The search for a trigger among the samples of a dump, up to the least match, and that match.
 #[derive(Drop)]
 pub struct Seeker {
     hunt: Hunt,
@@ -39,7 +39,9 @@ impl Watcher for Seeker {
     }
 
     fn see(&mut self, sample: &Sample) -> Result<(), Memory> {
-        self.found = self.hunt.feed(sample);
+        if self.found.is_none() {
+            self.found = self.hunt.feed(sample);
+        }
         Ok(())
     }
 }
@@ -67,11 +69,9 @@ pub fn find_in_dump<S: Source>(
         hunt: Hunt::new(trigger),
         found: None,
     };
-    match watch_dump(alloc, name, source, &mut seeker) {
-        Ok(clocks) => Ok(Search {
-            found: seeker.found,
-            clocks,
-        }),
-        Err(stop) => Err(stop),
-    }
+    let clocks = watch_dump(alloc, name, source, &mut seeker)?;
+    Ok(Search {
+        found: seeker.found,
+        clocks,
+    })
 }

@@ -63,10 +63,8 @@ pub fn wave_of_dump<S: Source>(
     let mut drawer = Drawer {
         wave: Wave::new(from, to),
     };
-    match watch_dump(alloc, name, source, &mut drawer) {
-        Ok(_) => Ok(drawer.wave),
-        Err(stop) => Err(stop),
-    }
+    watch_dump(alloc, name, source, &mut drawer)?;
+    Ok(drawer.wave)
 }
 
 /// Appends the text of the wave, one piece a line. It takes no memory.

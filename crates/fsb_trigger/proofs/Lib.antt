@@ -9,3 +9,4 @@ pub mod Sixteen
 pub mod Decimals
 pub mod Cut
 pub mod Behind
+pub mod Interface

@@ -1,4 +1,4 @@
-use Rattle.std.proofs.Common.{refl, [], None}
+use Rattle.std.proofs.Common.{rules, ◌≡◌, refl, [], Err, None}
 use Rattle.fsb_count.specs.Clocks.{first_where}
 use Rattle.fsb_trigger.specs.Hunt.{steps_in}
 use Rattle.fsb_trigger.specs.Match.{least_match}
@@ -11,14 +11,14 @@ use Rattle.fsb_watch.specs.Watched.{IsSeen}
 
 pub watch_dump-requires-clause-ready : goal.watch_dump-requires-clause-ready
 unfolding least_match first_where
-watch_dump-requires-clause-ready g c = (steps_in c.args.trigger, record { hunt = c.new.ensures; found = refl })
+watch_dump-requires-clause-ready g c = (steps_in c.args.trigger, record { hunt = λ none. c.new.ensures; found = refl })
 
-pub returns-in-Ok-clause-read : goal.returns-in-Ok-clause-read
+pub returns-clause-read : goal.returns-clause-read
 unfolding least_match first_where
-returns-in-Ok-clause-read g c tells =
-    let read = c.in-Ok.ensures.read tells in
+returns-clause-read g c tells =
+    let read = c.in_ok-clocks.ensures.read tells in
     let begun : Seeks record { hunt = c.new.result; found = None } (steps_in c.args.trigger) [] =
-    record { hunt = c.new.ensures; found = refl } in (
+    record { hunt = λ none. c.new.ensures; found = refl } in (
       read.0,
       record {
         marks = read.1.marks;
@@ -30,8 +30,9 @@ returns-in-Ok-clause-read g c tells =
       },
     )
 
-pub returns-in-Err-clause-read : goal.returns-in-Err-clause-read
-returns-in-Err-clause-read g c tells =
-    refused_alike
+pub returns-in_err-clocks-clause-read : goal.returns-in_err-clocks-clause-read
+returns-in_err-clocks-clause-read g c tells =
+    let same : c.from_residual.result ≡ Err c.in_err-clocks.field-0.0 = search rules in
+    rw same (refused_alike
     (IsSeen (λ marks h. HasSought record { hunt = c.new.result; found = None } c.watch_dump.new.watcher h))
-    (IsSearch (steps_in c.args.trigger)) _ _ _ (c.in-Err.ensures.read tells)
+    (IsSearch (steps_in c.args.trigger)) _ _ _ (c.in_err-clocks.ensures.read tells))

@@ -1,3 +1,4 @@
+use Rattle.std.proofs.Common.{rules, ◌≡◌, Err}
 use Rattle.fsb_look.specs.Looked.{IsWave}
 use Rattle.fsb_look.specs.Looking.{HasDrawn}
 use Rattle.fsb_look.proofs.Same.{same_range}
@@ -8,9 +9,9 @@ use Rattle.fsb_watch.specs.Watched.{IsSeen}
 pub watch_dump-requires-clause-ready : goal.watch_dump-requires-clause-ready
 watch_dump-requires-clause-ready g c = (c.args.from, c.args.to, c.new.ensures)
 
-pub returns-in-Ok-clause-read : goal.returns-in-Ok-clause-read
-returns-in-Ok-clause-read g c tells =
-    let read = c.in-Ok.ensures.read tells in (
+pub returns-clause-read : goal.returns-clause-read
+returns-clause-read g c tells =
+    let read = c.in_ok-watch_dump.ensures.read tells in (
       read.0,
       record {
         marks = read.1.marks;
@@ -21,7 +22,8 @@ returns-in-Ok-clause-read g c tells =
       },
     )
 
-pub returns-in-Err-clause-read : goal.returns-in-Err-clause-read
-returns-in-Err-clause-read g c tells =
-    refused_alike (IsSeen (λ marks h. HasDrawn record { wave = c.new.result } c.watch_dump.new.watcher h))
-    (IsWave c.args.from c.args.to) _ _ _ (c.in-Err.ensures.read tells)
+pub returns-in_err-watch_dump-clause-read : goal.returns-in_err-watch_dump-clause-read
+returns-in_err-watch_dump-clause-read g c tells =
+    let same : c.from_residual.result ≡ Err c.in_err-watch_dump.field-0.0 = search rules in
+    rw same (refused_alike (IsSeen (λ marks h. HasDrawn record { wave = c.new.result } c.watch_dump.new.watcher h))
+    (IsWave c.args.from c.args.to) _ _ _ (c.in_err-watch_dump.ensures.read tells))
