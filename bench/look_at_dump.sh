@@ -1,6 +1,7 @@
 #!/bin/sh
 # Measures how fast a dump is searched and drawn: the dump of check_dump.sh, 200 MB, through the built program
-# (crates/p6bench/out/p6bench, made by `rt run` or `rt ci`). The trigger matches at no clock, so the hunt goes on to the end.
+# (crates/p6bench/out/p6bench, made by `rt run` or `rt ci`). One trigger matches at no clock, so the hunt goes on to the end;
+# the other matches at the first request, so of all the samples behind it nothing is looked for any more.
 # The nearest to the reader alone is a wave of clocks that the dump does not reach: nothing is kept of its samples.
 # Usage: bench/look_at_dump.sh [PROGRAM [MEGABYTES]]
 set -eu
@@ -19,6 +20,7 @@ looks = [
     ("drawing clocks past its end (the reader, nearly alone)", ["wave", None, "4294967232", "4294967295"], 0, f"clocks={clock}"),
     ("drawing its first 64 clocks", ["wave", None, "0", "63"], 0, f"clocks={clock}"),
     ("searching it for three steps", ["find", None, trigger], 11, f"none clocks={clock}"),
+    ("searching it for its first request", ["find", None, "ADS"], 0, "found clock=2 steps=2"),
     ("judging it", ["check", None], 0, f"accepted clocks={clock}"),
 ]
 
