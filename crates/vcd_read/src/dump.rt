@@ -16,19 +16,10 @@ pub fn read_dump(alloc: Global, bytes: &[u8]) -> Result<(Marks, Vec<Sample>), Vc
     ensures answer { Answers result (stop_of_dump 200000 bytes.now) }
     ensures trace { IfOk result (λ told. Reads bytes.now told.0 told.1.items) }
 {
-    let mut scan = match Scan::new(alloc) {
-        Ok(scan) => scan,
-        Err(_) => return Err(VcdStop::Memory),
-    };
+    let mut scan = Scan::new(alloc)?;
     let mut samples = Vec::new(alloc);
-    match scan.absorb(bytes, MOST, &mut samples) {
-        Ok(()) => {}
-        Err(_) => return Err(VcdStop::Memory),
-    }
-    let more = match scan.finish(MOST, &mut samples) {
-        Ok(more) => more,
-        Err(_) => return Err(VcdStop::Memory),
-    };
+    scan.absorb(bytes, MOST, &mut samples)?;
+    let more = scan.finish(MOST, &mut samples)?;
     match refusal(scan.machine.decided, scan.machine.fault, more) {
         None => Ok((scan.machine.declared_marks(), samples)),
         Some(stop) => Err(stop),

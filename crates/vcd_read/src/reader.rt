@@ -37,15 +37,13 @@ impl Reader {
         ensures fresh { IfOk result (λ r. refusal_of r ≡ None) }
         ensures limit { IfOk result (λ r. limit_of r ≡ limit) }
     {
-        match Scan::new(alloc) {
-            Ok(scan) => Ok(Reader {
-                scan,
-                limit,
-                refused: None,
-                marks: None,
-            }),
-            Err(_) => Err(Memory),
-        }
+        let scan = Scan::new(alloc)?;
+        Ok(Reader {
+            scan,
+            limit,
+            refused: None,
+            marks: None,
+        })
     }
 
     /// The next piece of the text. Appends the samples that it decides; after a refusal it appends nothing and refuses
@@ -98,13 +96,9 @@ impl Reader {
             (take (limit_of self.old) (samples_so_far (fed ++ piece.now)))
             to.old.items to.new.items }
     {
-        match self.scan.absorb(piece, self.limit, to) {
-            Ok(()) => {
-                self.marks = self.scan.machine.marks();
-                self.answer()
-            }
-            Err(_) => Err(VcdStop::Memory),
-        }
+        self.scan.absorb(piece, self.limit, to)?;
+        self.marks = self.scan.machine.marks();
+        self.answer()
     }
 
     /// What the tokens so far answer.
@@ -179,10 +173,8 @@ impl Reader {
             AppendsAtEnd result (limit_of self.old) (samples_so_far fed) (samples_before_end fed)
             (samples_of fed) to.old.items to.new.items }
     {
-        match self.scan.finish(self.limit, to) {
-            Ok(more) => self.end_answer(more),
-            Err(_) => Err(VcdStop::Memory),
-        }
+        let more = self.scan.finish(self.limit, to)?;
+        self.end_answer(more)
     }
 
     /// What the whole text answers, where its end decides one more sample or not.

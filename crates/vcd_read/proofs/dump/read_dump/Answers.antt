@@ -16,39 +16,39 @@ refused X (stops.Bad fault) told h = h
 
 pub finish-requires : goal.finish-requires
 finish-requires c = scanned_fits c.absorb.new.self c.args.bytes.now
-    (scanned_more c.in-Ok.scan c.absorb.new.self [] c.args.bytes.now
-    (reading_scanned c.in-Ok.scan [] c.in-Ok.ensures) c.in-Ok-absorb.ensures.state)
+    (scanned_more c.in_ok-scan.scan c.absorb.new.self [] c.args.bytes.now
+    (reading_scanned c.in_ok-scan.scan [] c.in_ok-scan.ensures) c.in_ok-absorb.ensures.state)
 
 pub returns-in-None-clause-answer : goal.returns-in-None-clause-answer
 returns-in-None-clause-answer c =
     let h : Scanned c.absorb.new.self c.args.bytes.now =
-    scanned_more c.in-Ok.scan c.absorb.new.self [] c.args.bytes.now
-    (reading_scanned c.in-Ok.scan [] c.in-Ok.ensures) c.in-Ok-absorb.ensures.state in
-    sym (scan_dump_is c.absorb.new.self c.args.bytes.now 200000 _ _ c.in-Ok-finish.more h
-    c.in-Ok-finish.ensures.fault c.in-Ok-finish.ensures.decided c.in-Ok-finish.ensures.rises)
+    scanned_more c.in_ok-scan.scan c.absorb.new.self [] c.args.bytes.now
+    (reading_scanned c.in_ok-scan.scan [] c.in_ok-scan.ensures) c.in_ok-absorb.ensures.state in
+    sym (scan_dump_is c.absorb.new.self c.args.bytes.now 200000 _ _ c.in_ok-more.more h
+    c.in_ok-more.ensures.fault c.in_ok-more.ensures.decided c.in_ok-more.ensures.rises)
     ∙ sym c.refusal.ensures ∙ c.in-None.is
 
 pub returns-in-None-clause-trace : goal.returns-in-None-clause-trace
 returns-in-None-clause-trace c =
     let h : Scanned c.absorb.new.self c.args.bytes.now =
-    scanned_more c.in-Ok.scan c.absorb.new.self [] c.args.bytes.now
-    (reading_scanned c.in-Ok.scan [] c.in-Ok.ensures) c.in-Ok-absorb.ensures.state in
+    scanned_more c.in_ok-scan.scan c.absorb.new.self [] c.args.bytes.now
+    (reading_scanned c.in_ok-scan.scan [] c.in_ok-scan.ensures) c.in_ok-absorb.ensures.state in
     let lawful : stop_of_dump 200000 c.args.bytes.now ≡ None =
-    sym (scan_dump_is c.absorb.new.self c.args.bytes.now 200000 _ _ c.in-Ok-finish.more h
-    c.in-Ok-finish.ensures.fault c.in-Ok-finish.ensures.decided c.in-Ok-finish.ensures.rises)
+    sym (scan_dump_is c.absorb.new.self c.args.bytes.now 200000 _ _ c.in_ok-more.more h
+    c.in_ok-more.ensures.fault c.in_ok-more.ensures.decided c.in_ok-more.ensures.rises)
     ∙ sym c.refusal.ensures ∙ c.in-None.is in
-    let read = dump_read c.in-Ok.scan c.absorb.new.self c.args.bytes.now 200000 c.new-samples.result.items
-    c.absorb.new.to.items c.finish.new.to.items c.in-Ok.ensures c.new-samples.ensures.items h
-    c.in-Ok-absorb.ensures.samples c.in-Ok-finish.ensures.samples lawful in
-    let lines = c.in-Ok-finish.ensures.lines ∙ ended_lines c.absorb.new.self c.args.bytes.now h in
+    let read = dump_read c.in_ok-scan.scan c.absorb.new.self c.args.bytes.now 200000 c.new-samples.result.items
+    c.absorb.new.to.items c.finish.new.to.items c.in_ok-scan.ensures c.new-samples.ensures.items h
+    c.in_ok-absorb.ensures.samples c.in_ok-more.ensures.samples lawful in
+    let lines = c.in_ok-more.ensures.lines ∙ ended_lines c.absorb.new.self c.args.bytes.now h in
     (read.0, whole_marks c.args.bytes.now _ _ lines c.declared_marks.ensures, read.1)
 
 pub returns-clause-answer : goal.returns-clause-answer
 returns-clause-answer c =
     let h : Scanned c.absorb.new.self c.args.bytes.now =
-    scanned_more c.in-Ok.scan c.absorb.new.self [] c.args.bytes.now
-    (reading_scanned c.in-Ok.scan [] c.in-Ok.ensures) c.in-Ok-absorb.ensures.state in
+    scanned_more c.in_ok-scan.scan c.absorb.new.self [] c.args.bytes.now
+    (reading_scanned c.in_ok-scan.scan [] c.in_ok-scan.ensures) c.in_ok-absorb.ensures.state in
     refused (Unit {0}) c.in-Some.stop _
-    (sym (scan_dump_is c.absorb.new.self c.args.bytes.now 200000 _ _ c.in-Ok-finish.more h
-    c.in-Ok-finish.ensures.fault c.in-Ok-finish.ensures.decided c.in-Ok-finish.ensures.rises)
+    (sym (scan_dump_is c.absorb.new.self c.args.bytes.now 200000 _ _ c.in_ok-more.more h
+    c.in_ok-more.ensures.fault c.in_ok-more.ensures.decided c.in_ok-more.ensures.rises)
     ∙ sym c.refusal.ensures ∙ c.in-Some.is)

@@ -1,4 +1,5 @@
 use Rattle.std.proofs.Common.{sym, ap, ◌∙◌, subst}
+use Rattle.std.proofs.lemmas.Result.{err_from_is_err_and}
 use Rattle.vcd_grammar.specs.Reading.{samples_so_far, samples_before_end, samples_of}
 use Rattle.vcd_read.specs.Answers.{Answers, AppendsAtEnd, result_of, stop_at_end}
 use Rattle.vcd_read.proofs.Standings.{scanned_fits, answers_of}
@@ -10,27 +11,29 @@ use Rattle.vcd_read.proofs.reader.Reader.end.Goals as goal
 pub finish-requires : goal.finish-requires
 finish-requires c = scanned_fits c.args.self.now.scan c.requires.0 c.requires.1.scanned
 
-pub returns-in-Ok-clause-answer : goal.returns-in-Ok-clause-answer
-returns-in-Ok-clause-answer c = λ fed w.
+pub returns-clause-answer : goal.returns-clause-answer
+returns-clause-answer c = λ fed w.
     let r = c.args.self.now in
-    let is = scan_stop_is r.scan fed r.limit _ _ c.in-Ok.more w.scanned c.in-Ok.ensures.fault
-    c.in-Ok.ensures.decided c.in-Ok.ensures.rises in
+    let is = scan_stop_is r.scan fed r.limit _ _ c.in_ok-more.more w.scanned c.in_ok-more.ensures.fault
+    c.in_ok-more.ensures.decided c.in_ok-more.ensures.rises in
     subst (λ a. Answers a (stop_at_end r.limit fed)) (sym (c.end_answer.ensures ∙ ap result_of is))
     (answers_of (stop_at_end r.limit fed))
 
-pub returns-in-Ok-clause-samples : goal.returns-in-Ok-clause-samples
-returns-in-Ok-clause-samples c = λ fed w.
+pub returns-clause-samples : goal.returns-clause-samples
+returns-clause-samples c = λ fed w.
     let r = c.args.self.now in
     subst (λ a. AppendsAtEnd a r.limit (samples_so_far fed) (samples_before_end fed) (samples_of fed)
     c.args.to.now.items c.finish.new.to.items) (sym c.end_answer.ensures)
-    (scan_appends r.scan fed r.limit _ _ c.in-Ok.more c.args.to.now.items c.finish.new.to.items w.scanned w.few
-    c.in-Ok.ensures.fault c.in-Ok.ensures.decided c.in-Ok.ensures.rises c.in-Ok.ensures.samples)
+    (scan_appends r.scan fed r.limit _ _ c.in_ok-more.more c.args.to.now.items c.finish.new.to.items w.scanned w.few
+    c.in_ok-more.ensures.fault c.in_ok-more.ensures.decided c.in_ok-more.ensures.rises c.in_ok-more.ensures.samples)
 
-pub returns-in-Err-clause-samples : goal.returns-in-Err-clause-samples
-returns-in-Err-clause-samples c = λ fed w.
+pub returns-in_err-more-clause-samples : goal.returns-in_err-more-clause-samples
+returns-in_err-more-clause-samples c = λ fed w.
     let r = c.args.self.now in
-    scan_part r.scan fed r.limit c.args.to.now.items c.finish.new.to.items w.scanned w.few c.in-Err.ensures.part
+    let stop = err_from_is_err_and c.from_residual.result c.from_residual.ensures.1 in
+    rw (stop.1, stop.2) (scan_part r.scan fed r.limit c.args.to.now.items c.finish.new.to.items w.scanned w.few
+    c.in_err-more.ensures.part)
 
-pub returns-in-Ok-clause-declared : goal.returns-in-Ok-clause-declared
-returns-in-Ok-clause-declared c = ok_anyway c.end_answer.result (λ fed w. c.in-Ok.ensures.lines
+pub returns-clause-declared : goal.returns-clause-declared
+returns-clause-declared c = ok_anyway c.end_answer.result (λ fed w. c.in_ok-more.ensures.lines
     ∙ ended_lines c.args.self.now.scan fed w.scanned)
