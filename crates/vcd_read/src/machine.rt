@@ -571,35 +571,23 @@ fn next_draft(draft: Draft, word: &[u8]) -> Draft
 {
     if draft.count == 0 {
         Draft {
-            place: draft.place,
             count: 1,
             is_line: !is_foreign_type(word),
-            width: draft.width,
-            line: draft.line,
+            ..draft
         }
     } else if draft.count == 1 {
         Draft {
-            place: draft.place,
             count: 2,
-            is_line: draft.is_line,
             width: width_in(word),
-            line: draft.line,
+            ..draft
         }
     } else if draft.count == 2 {
-        Draft {
-            place: draft.place,
-            count: 3,
-            is_line: draft.is_line,
-            width: draft.width,
-            line: draft.line,
-        }
+        Draft { count: 3, ..draft }
     } else if draft.count == 3 {
         Draft {
-            place: draft.place,
             count: 4,
-            is_line: draft.is_line,
-            width: draft.width,
             line: line_in(word),
+            ..draft
         }
     } else {
         draft
@@ -623,10 +611,7 @@ fn copy_first(to: &mut ArrayVec<u8, 65>, digits: &[u8])
     ensures { to.new.items ≡ take 65 digits.now }
 {
     to.clear();
-    match to.try_extend_from_slice(first_of(digits)) {
-        Ok(()) => {}
-        Err(_) => {}
-    }
+    to.try_extend_from_slice(first_of(digits)).unwrap();
 }
 
 /// Whether the line of this number was declared.
