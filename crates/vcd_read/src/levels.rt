@@ -178,28 +178,38 @@ fn unknown_at(levels: &[Level; 22], number: usize) -> u64
     levels[number].unknown
 }
 
+/// The control lines as one number, from what each signal has.
+#[inline(always)]
+fn control_of<F: Fn(usize) -> u64>(bits: F) -> u32
+    requires { (n : ℕ) → n < 22 → F.pre bits n }
+    ensures { (f : ℕ → ℕ) → ((n b : ℕ) → n < 22 → F.post bits n b → b ≡ f n) →
+        result ≡ control_of f }
+{
+    let requests = bits(1) % 2
+        + 2 * (bits(2) % 2)
+        + 4 * (bits(3) % 2)
+        + 8 * (bits(4) % 2)
+        + 16 * (bits(5) % 2)
+        + 32 * (bits(6) % 2)
+        + 64 * (bits(7) % 2)
+        + 128 * (bits(8) % 2);
+    let rest = 256 * (bits(11) % 2)
+        + 512 * (bits(12) % 2)
+        + 1024 * (bits(13) % 2)
+        + 2048 * (bits(14) % 2)
+        + 4096 * (bits(15) % 8)
+        + 32768 * (bits(16) % 2)
+        + 65536 * (bits(17) % 2)
+        + 131072 * (bits(18) % 2);
+    let parity = 262144 * (bits(20) % 4) + 1048576 * (bits(21) % 2);
+    (requests + rest + parity) as u32
+}
+
 /// The control lines that are asserted.
 fn asserted_lines(levels: &[Level; 22]) -> u32
     ensures { result ≡ control_of (asserted_at levels.now) }
 {
-    let requests = asserted_at(levels, 1) % 2
-        + 2 * (asserted_at(levels, 2) % 2)
-        + 4 * (asserted_at(levels, 3) % 2)
-        + 8 * (asserted_at(levels, 4) % 2)
-        + 16 * (asserted_at(levels, 5) % 2)
-        + 32 * (asserted_at(levels, 6) % 2)
-        + 64 * (asserted_at(levels, 7) % 2)
-        + 128 * (asserted_at(levels, 8) % 2);
-    let rest = 256 * (asserted_at(levels, 11) % 2)
-        + 512 * (asserted_at(levels, 12) % 2)
-        + 1024 * (asserted_at(levels, 13) % 2)
-        + 2048 * (asserted_at(levels, 14) % 2)
-        + 4096 * (asserted_at(levels, 15) % 8)
-        + 32768 * (asserted_at(levels, 16) % 2)
-        + 65536 * (asserted_at(levels, 17) % 2)
-        + 131072 * (asserted_at(levels, 18) % 2);
-    let parity = 262144 * (asserted_at(levels, 20) % 4) + 1048576 * (asserted_at(levels, 21) % 2);
-    (requests + rest + parity) as u32
+    control_of(|number| asserted_at(levels, number))
 }
 
 /// Whether no control line is unknown; where one is, the answer is false.
@@ -232,24 +242,7 @@ fn are_lines_known(levels: &[Level; 22]) -> bool
 fn each_unknown_line(levels: &[Level; 22]) -> u32
     ensures { result ≡ control_of (unknown_at levels.now) }
 {
-    let requests = unknown_at(levels, 1) % 2
-        + 2 * (unknown_at(levels, 2) % 2)
-        + 4 * (unknown_at(levels, 3) % 2)
-        + 8 * (unknown_at(levels, 4) % 2)
-        + 16 * (unknown_at(levels, 5) % 2)
-        + 32 * (unknown_at(levels, 6) % 2)
-        + 64 * (unknown_at(levels, 7) % 2)
-        + 128 * (unknown_at(levels, 8) % 2);
-    let rest = 256 * (unknown_at(levels, 11) % 2)
-        + 512 * (unknown_at(levels, 12) % 2)
-        + 1024 * (unknown_at(levels, 13) % 2)
-        + 2048 * (unknown_at(levels, 14) % 2)
-        + 4096 * (unknown_at(levels, 15) % 8)
-        + 32768 * (unknown_at(levels, 16) % 2)
-        + 65536 * (unknown_at(levels, 17) % 2)
-        + 131072 * (unknown_at(levels, 18) % 2);
-    let parity = 262144 * (unknown_at(levels, 20) % 4) + 1048576 * (unknown_at(levels, 21) % 2);
-    (requests + rest + parity) as u32
+    control_of(|number| unknown_at(levels, number))
 }
 
 /// The control lines that are unknown: mostly none is.
