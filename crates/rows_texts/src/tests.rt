@@ -185,10 +185,7 @@ type Said = (Option<Marks>, Vec<Sample>);
 
 /// What a text says that is fed in pieces of so many bytes, but at least one.
 fn in_pieces(alloc: Global, bytes: &[u8], size: usize) -> Result<Said, VcdStop> {
-    let mut reader = match Reader::new(alloc) {
-        Ok(reader) => reader,
-        Err(_) => return Err(VcdStop::Memory),
-    };
+    let mut reader = Reader::new(alloc)?;
     let mut samples = Vec::new(alloc);
     let mut at = 0;
     while at < bytes.len() {
@@ -436,10 +433,7 @@ fn told_twice(
     bytes: &[u8],
     first: usize,
 ) -> Result<(Option<Marks>, Option<Marks>), VcdStop> {
-    let mut reader = match Reader::new(alloc) {
-        Ok(reader) => reader,
-        Err(_) => return Err(VcdStop::Memory),
-    };
+    let mut reader = Reader::new(alloc)?;
     let mut samples = Vec::new(alloc);
     let first = bytes.len().min(first);
     reader.feed(&bytes[..first], &mut samples)?;
@@ -578,10 +572,7 @@ fn samples_come_with_the_next_time(rt: HostRuntime) -> Result<(), Fail> {
 
 /// The samples of a text that is fed in two pieces, of which the first has so many bytes at most.
 fn in_two(alloc: Global, bytes: &[u8], first: usize) -> Result<Vec<Sample>, VcdStop> {
-    let mut reader = match Reader::new(alloc) {
-        Ok(reader) => reader,
-        Err(_) => return Err(VcdStop::Memory),
-    };
+    let mut reader = Reader::new(alloc)?;
     let mut samples = Vec::new(alloc);
     let first = bytes.len().min(first);
     reader.feed(&bytes[..first], &mut samples)?;
