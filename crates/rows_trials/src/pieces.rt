@@ -14,10 +14,7 @@ fn read_in_pieces(
     bytes: &[u8],
     size: usize,
 ) -> Result<(Option<Marks>, Vec<Sample>), VcdStop> {
-    let mut reader = match Reader::new(alloc) {
-        Ok(reader) => reader,
-        Err(_) => return Err(VcdStop::Memory),
-    };
+    let mut reader = Reader::new(alloc)?;
     let mut samples = Vec::new(alloc);
     let mut at = 0;
     while at < bytes.len() {
