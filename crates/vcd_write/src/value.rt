@@ -1,15 +1,13 @@
 //! The lines of values.
 
-ghost use Rattle.std.specs.Prelude.{◌≡◌, ◌+◌, ◌-◌, ◌<◌, ◌≤◌, ◌++◌, IfSome};
+ghost use Rattle.std.specs.Prelude.{◌≡◌, ◌+◌, ◌-◌, ◌<◌, ◌≤◌, ◌++◌};
 ghost use Rattle.std.specs.Int.{bit_at};
 ghost use Rattle.arrayvec.specs.ArrayVec.{array_vec_len};
-ghost use Rattle.fsb_signal.specs.DumpText.{digit_of, digits_of, value_text, texts_from, sample_value_text, change_text, entries_in, value_of};
-ghost use Rattle.fsb_signal.specs.Samples.{bit_of};
-ghost use Rattle.fsb_signal.specs.declared.sample.Sample.{Sample};
+ghost use Rattle.fsb_signal.specs.DumpText.{digit_of, digits_of, value_text, texts_from, sample_value_text, change_text, entries_in};
 ghost use Rattle.vcd_write.specs.Room.{value_room, values_room};
 
 use arrayvec::ArrayVec;
-use fsb_signal::{Lines, Sample, signal_at};
+use fsb_signal::{Sample, signal_at};
 
 // Appends the digits of the lowest `width` bits of `value`, from the highest to the lowest: 0 where it is asserted.
 fn put_digits<const N: usize>(text: &mut ArrayVec<u8, N>, width: u8, value: u64)
@@ -58,43 +56,6 @@ pub(crate) fn put_value<const N: usize>(text: &mut ArrayVec<u8, N>, number: u8, 
     }
 }
 
-// What is asserted on the signal of this number, as `Sample::value` says, but at once where it is a control line.
-fn value_at(sample: &Sample, number: u8) -> u64
-    requires { number < 22 }
-    ensures { result ≡ value_of sample.now number }
-{
-    match line_of(number) {
-        Some(line) => u64::from(sample.has(line)),
-        None => sample.value(number),
-    }
-}
-
-// The control line that is the signal of this number; none where that is the clock, a word or a group of lines.
-#[tactic(auto, unfolding(fsb_signal::specs::DumpText::value_of))]
-fn line_of(number: u8) -> Option<Lines>
-    ensures { IfSome result (λ line. (s : Sample) → value_of s number ≡ bit_of s line) }
-{
-    match number {
-        1 => Some(Lines::BREQ0),
-        2 => Some(Lines::BREQ1),
-        3 => Some(Lines::BREQ2),
-        4 => Some(Lines::BREQ3),
-        5 => Some(Lines::BPRI),
-        6 => Some(Lines::LOCK),
-        7 => Some(Lines::BNR),
-        8 => Some(Lines::ADS),
-        11 => Some(Lines::AERR),
-        12 => Some(Lines::HIT),
-        13 => Some(Lines::HITM),
-        14 => Some(Lines::DEFER),
-        16 => Some(Lines::TRDY),
-        17 => Some(Lines::DBSY),
-        18 => Some(Lines::DRDY),
-        21 => Some(Lines::RP),
-        _ => None,
-    }
-}
-
 // How many entries of the table a dump of this profile has.
 pub(crate) fn entries_in(profile: u8) -> u8
     ensures value { result ≡ entries_in profile }
@@ -113,7 +74,7 @@ pub(crate) fn put_values<const N: usize>(text: &mut ArrayVec<u8, N>, profile: u8
         (entries_in profile) }
 {
     for number in 1..entries_in(profile) {
-        put_value(text, number, value_at(sample, number));
+        put_value(text, number, sample.value(number));
     }
 }
 
@@ -143,8 +104,8 @@ fn put_change<const N: usize>(text: &mut ArrayVec<u8, N>, number: u8, before: &S
     ensures items { text.new.items ≡ text.old.items ++ change_text before.now now.now number }
     ensures len { array_vec_len text.new ≤ array_vec_len text.old + value_room number }
 {
-    let was = value_at(before, number);
-    let is = value_at(now, number);
+    let was = before.value(number);
+    let is = now.value(number);
     if was != is {
         put_value(text, number, is);
     }

@@ -15,7 +15,7 @@ loop-number-preserved g c = record {
   len = rw (values_room-next c.loop-number.number c.loop-number.auto.number)
       (omega (arith, c.loop-number.invariant.len, c.put_value.ensures.len));
   items = texts_from-step _ 1 _ _ _ _ c.loop-number.auto.number c.loop-number.invariant.items
-      (rw (sym c.value_at.ensures) c.put_value.ensures.items);
+      (rw (sym c.value.ensures) c.put_value.ensures.items);
 }
 
 pub returns-clause-items : goal.returns-clause-items
