@@ -61,18 +61,15 @@ pub fn show_dump<S: Source>(
     if source.begin(name).is_err() {
         return Err(ShowStop::ReadFault);
     }
-    match read_trace(alloc, source) {
-        Ok((marks, samples)) => match show_trace(alloc, marks, samples.as_slice(), probes) {
-            Ok(shown) => Ok(shown),
-            Err(_) => Err(ShowStop::Memory),
-        },
-        Err(stop) => Err(stop),
-    }
+    let (marks, samples) = read_trace(alloc, source)?;
+    let shown = show_trace(alloc, marks, samples.as_slice(), probes)?;
+    Ok(shown)
 }
 
 // Reads the dump that is left.
 fn read_trace<S: Source>(alloc: Global, source: &mut S) -> Result<(Marks, Vec<Sample>), ShowStop>
-    ensures read { IsTrue S.tells → IsToldAs IsTrace result (S.left source.old) (S.left source.new) }
+    ensures read { IsTrue S.tells →
+        IsToldAs IsTrace result (S.left source.old) (S.left source.new) }
     ensures few { IfOk result (λ told. length told.1.items ≤ 200000) }
     ensures read_fault { result ≡ Err ShowStop.ReadFault →
         Rose (S.faults source.old) (S.faults source.new) }
