@@ -4,7 +4,7 @@
 //!
 //! An [`Audit`] is fed the samples one by one, keeps the data of each chunk that was moved, and answers after each
 //! sample what was found first: the first foul clock, or the first broken phase rule if that comes before it or at it.
-//! `Stands` says which samples an audit was fed; its answer is the `finding` of the whole trace of them.
+//! `Stands` says which samples an audit was fed; its answer is the `finding_of` the whole trace of them.
 #![tactic(auto)]
 
 pub use audit::Audit;

@@ -37,9 +37,9 @@ use std::alloc::Global;
 /// range of its clocks, and writes the line of the verdict, of the audit or of the search, the
 /// table or the wave, to `out`.
 ///
-/// The objects in `hazards` are given the plan's hazard lines and asked at each clock of a run, and
-/// by no other command. What a run leaves is of one run (`ran`, `generated`): its log, or its
-/// summary, and its dump.
+/// The objects in `hazards` are given the plan's hazard lines and asked at each clock of a run; that
+/// no other command asks them is so in the code and in no clause. What a run leaves is of one run
+/// (`ran`, `generated`): its log, or its summary, and its dump.
 ///
 /// Every status but `OutOfMemory` has its cause: the words, a count of faults that rose in this
 /// call, the length of the file, its first fault, or the verdict. What is said of bytes and names

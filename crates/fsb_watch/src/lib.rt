@@ -1,7 +1,8 @@
 //! The reading of a dump in pieces, each parsed as it comes, and its samples shown to a watcher one after another.
 //!
-//! No trace is kept. After a fault of the text the rest is still read, so that a fault of the source or too long a file
-//! is told before it. A [`Watcher`] keeps what it wants of the samples; each command that looks at a dump has one.
+//! By the code, though no contract says it, no trace is kept. After a fault of the text the rest is still read, so that a
+//! fault of the source or too long a file is told before it. A [`Watcher`] keeps what it wants of the samples; each
+//! command that looks at a dump has one.
 #![tactic(auto)]
 
 pub use stop::DumpStop;

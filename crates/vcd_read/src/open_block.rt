@@ -28,7 +28,11 @@ impl Model for OpenBlock {
 
     ghost Value = { BlockView };
 
-    ghost view = { λ b. record { clock_before = b.clock_before; sample_before = b.sample_before; now = b.values } };
+    ghost view = { λ b. record {
+      clock_before = b.clock_before;
+      sample_before = b.sample_before;
+      now = b.values;
+    } };
 
     ghost invariant = { λ b. SampleKept b.changed b.sample_before b.values.levels };
 }

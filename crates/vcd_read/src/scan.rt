@@ -204,7 +204,8 @@ impl Scan {
         requires { Fits (reading self.old) }
         ensures state { OnOk result
             (reading self.new ≡ record (reading self.old) {
-              taken = take_tokens (taken self.old.machine) (ended_at self.old.at self.old.run.items);
+              taken = take_tokens (taken self.old.machine)
+                  (ended_at self.old.at self.old.run.items);
             }) }
         ensures samples { OnOk result
             (to.new.items ≡ pushed limit self.old.machine.decided to.old.items

@@ -33,9 +33,11 @@ pub fn put_clock<D: Sink>(
     requires parity_before { profile ≡ 1 → IsTrue (has_no_parity before.now) }
     requires parity_now { profile ≡ 1 → IsTrue (has_no_parity now.now) }
     ensures whole { IsTrue D.tells
-        → OnOk result (D.holds sink.new ≡ D.holds sink.old ++ clock_text profile clock before.now now.now) }
+        → OnOk result (D.holds sink.new
+        ≡ D.holds sink.old ++ clock_text profile clock before.now now.now) }
     ensures part { IsTrue D.tells
-        → AppendsPart (clock_text profile clock before.now now.now) (D.holds sink.old) (D.holds sink.new) }
+        → AppendsPart (clock_text profile clock before.now now.now)
+        (D.holds sink.old) (D.holds sink.new) }
     ensures name_stays { IsTrue D.tells → D.begun_as sink.new ≡ D.begun_as sink.old }
     ensures cause { HasCause (D.faults sink.old) (D.faults sink.new) result }
     ensures short { length (clock_text profile clock before.now now.now) ≤ 201 }

@@ -52,9 +52,11 @@ fn put_clocks<D: Sink>(
     requires known { IsTrue (is_known_trace samples.now) }
     requires parity { profile ≡ 1 → IsTrue (list_all has_no_parity samples.now) }
     ensures whole { IsTrue D.tells
-        → OnOk result (D.holds sink.new ≡ D.holds sink.old ++ clocks_text profile 0 first.now samples.now) }
+        → OnOk result (D.holds sink.new
+        ≡ D.holds sink.old ++ clocks_text profile 0 first.now samples.now) }
     ensures part { IsTrue D.tells
-        → AppendsPart (clocks_text profile 0 first.now samples.now) (D.holds sink.old) (D.holds sink.new) }
+        → AppendsPart (clocks_text profile 0 first.now samples.now)
+        (D.holds sink.old) (D.holds sink.new) }
     ensures name_stays { IsTrue D.tells → D.begun_as sink.new ≡ D.begun_as sink.old }
     ensures cause { HasCause (D.faults sink.old) (D.faults sink.new) result }
 {
