@@ -20,7 +20,5 @@ mod place;
 mod plan;
 mod read;
 mod statement;
-#[cfg(test)]
-mod tests;
 mod word;
 mod write;

@@ -1,8 +1,8 @@
 use super::Start;
-use crate::fault::Cause;
+use fsb_script::Cause;
 
 /// Texts with a first bad line: what stands before, the text, the line, and the cause.
-pub(crate) static BAD: [(Start, &'static str, u32, Cause); 220] = [
+pub(crate) static BAD: [(Start, &'static str, u32, Cause); 224] = [
     (Start::Whole, "", 1, Cause::FirstLine),
     (Start::Whole, "\n", 1, Cause::FirstLine),
     (Start::Whole, "p6bench 2", 1, Cause::FirstLine),
@@ -413,6 +413,30 @@ pub(crate) static BAD: [(Start, &'static str, u32, Cause); 220] = [
     (Start::Tail, "bnr 5 4\n", 9, Cause::Range),
     (Start::Tail, "bnr 5 4 1\n", 9, Cause::Range),
     (Start::Tail, "bnr 0 9 1\n", 9, Cause::After),
+    (
+        Start::Head,
+        "mem 40 07\nagent 0\nld 1 40\n",
+        9,
+        Cause::Missing,
+    ),
+    (
+        Start::Head,
+        "mem 40 07\nagent 0\nld 2 41\nst 1 41 5\nend\n",
+        8,
+        Cause::Align,
+    ),
+    (
+        Start::Whole,
+        "p6bench 1\nagents 1\nclocks 60\ncache 1\nahead 1\nagent 0\nlock\nld 1 40\nst 1 80 1\nunlock\nend\n",
+        10,
+        Cause::LockConflict,
+    ),
+    (
+        Start::Whole,
+        "p6bench 1\nagents 1\nclocks 0\ncache 1\nahead 1\nmem fE 0aB0\nagent 0\nst 8 40 R\nend\n",
+        8,
+        Cause::Number,
+    ),
 ];
 
 /// Texts that are plans: what stands before, and the text.

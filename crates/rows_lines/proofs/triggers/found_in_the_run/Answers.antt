@@ -1,7 +1,7 @@
 use Rattle.std.proofs.Common.{[], ◌∷◌, ◌++◌, refl, arith}
 use Rattle.std.proofs.lemmas.List.{length_push}
 use Rattle.fsb_trigger.specs.Hunt.{steps_in}
-use Rattle.fsb_trigger.proofs.tests.found_in_the_run.Goals as goal
+use Rattle.rows_lines.proofs.triggers.found_in_the_run.Goals as goal
 
 pub loop-clock-init : goal.loop-clock-init
 loop-clock-init c = (steps_in c.args.trigger, [], c.new-hunt.ensures, refl)

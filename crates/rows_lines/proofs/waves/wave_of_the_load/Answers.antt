@@ -1,6 +1,6 @@
 use Rattle.std.proofs.Common.{[], ◌∷◌, ◌++◌, refl, arith}
 use Rattle.std.proofs.lemmas.List.{length_push}
-use Rattle.fsb_wave.proofs.tests.wave_of_the_load.Goals as goal
+use Rattle.rows_lines.proofs.waves.wave_of_the_load.Goals as goal
 
 pub loop-clock-init : goal.loop-clock-init
 loop-clock-init c = ([], c.new-wave.ensures, refl)

@@ -1,4 +1,6 @@
-use crate::{DataProbe, LineProbe, Probe, total_of, watch_all};
+//! The totals of the probes that a list holds.
+
+use fsb_probe::{DataProbe, LineProbe, Probe, total_of, watch_all};
 use fsb_signal::{Lines, Sample};
 use std::test::Fail;
 

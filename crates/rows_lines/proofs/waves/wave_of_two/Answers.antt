@@ -1,5 +1,5 @@
 use Rattle.std.proofs.Common.{[], ◌∷◌, arith}
-use Rattle.fsb_wave.proofs.tests.wave_of_two.Goals as goal
+use Rattle.rows_lines.proofs.waves.wave_of_two.Goals as goal
 
 pub feed-requires-2 : goal.feed-requires-2
 feed-requires-2 c = (
