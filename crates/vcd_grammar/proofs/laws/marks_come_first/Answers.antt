@@ -1,5 +1,9 @@
 use Rattle.vcd_grammar.proofs.MarkFacts.{marks-first, marks-longer, marks-whole}
+use Rattle.vcd_grammar.proofs.HeadingFacts.{marks-are-known}
 use Rattle.vcd_grammar.proofs.laws.marks_come_first.Goals as goal
+
+pub returns-clause-over : goal.returns-clause-over
+returns-clause-over c = marks-are-known
 
 pub returns-clause-none : goal.returns-clause-none
 returns-clause-none c = marks-first
