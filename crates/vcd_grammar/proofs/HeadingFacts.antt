@@ -5,7 +5,7 @@ use Rattle.std.specs.Cmp.Lexicographic.{same_text}
 use Rattle.fsb_signal.specs.DumpText.{width_of}
 use Rattle.fsb_signal.specs.Table.{table}
 use Rattle.vcd_grammar.specs.declared.fault.VcdCause.TheVariants as causes
-use Rattle.vcd_grammar.specs.Tokens.{Token, is_long, tokens_so_far}
+use Rattle.vcd_grammar.specs.Tokens.{Token, is_long, tokens_so_far, tokens_of}
 use Rattle.vcd_grammar.specs.Words.{HeaderWord, Declares, Finishes, Ends, Opens, Bare, header_word, ValueWord, value_word}
 use Rattle.vcd_grammar.specs.Words.{Stamp, Scalar, Vector, Foreign, Mark, Section, Wrong, is_end, is_code_word}
 use Rattle.vcd_grammar.specs.Codes.{lines_of}
@@ -16,7 +16,7 @@ use Rattle.vcd_grammar.specs.Judging.{Known, nothing, TokenTurn, stays, goes_to,
 use Rattle.vcd_grammar.specs.Judging.{is_declared, other_declared, line_declared, undeclared, named, with_width, declared}
 use Rattle.vcd_grammar.specs.Judging.{missing_from, closed_with, closed, header_turn, value_turn, vector_turn, beside_turn}
 use Rattle.vcd_grammar.specs.Judging.{turn_in, mode_behind_word, mode_behind, turn, behind, is_past_header, known_marks}
-use Rattle.vcd_grammar.specs.Reading.{marks_so_far}
+use Rattle.vcd_grammar.specs.Reading.{marks_so_far, marks_at_end}
 use Rattle.vcd_grammar.proofs.MarkFacts.{past-in}
 
 -- where a mode stands in the header
@@ -158,3 +158,7 @@ pub marks-are-known : (fed : List ℕ) → is_some (marks_so_far fed) ≡ is_hea
 unfolding marks_so_far
 marks-are-known fed = marks-over (behind nothing (tokens_so_far fed))
     ∙ ap is_over (behind-heading nothing (tokens_so_far fed))
+
+pub marks-at-end-known : (text : List ℕ) → is_some (marks_at_end text) ≡ is_header_over (tokens_of text)
+unfolding marks_at_end
+marks-at-end-known text = marks-over (behind nothing (tokens_of text)) ∙ ap is_over (behind-heading nothing (tokens_of text))

@@ -20,7 +20,7 @@ use Rattle.vcd_grammar.specs.Judging.{is_declared, other_declared, line_declared
 use Rattle.vcd_grammar.specs.Judging.{missing_from, closed_with, closed, header_turn, later, stamped, scalar_turn}
 use Rattle.vcd_grammar.specs.Judging.{value_turn, is_too_wide, vector_turn, beside_turn, turn_in, mode_behind, turn, behind}
 use Rattle.vcd_grammar.specs.Judging.{events_in, is_past_header, marks_of_lines, known_marks}
-use Rattle.vcd_grammar.specs.Reading.{marks_of, marks_so_far, samples_so_far}
+use Rattle.vcd_grammar.specs.Reading.{marks_of, marks_so_far, marks_at_end, samples_so_far}
 use Rattle.vcd_grammar.proofs.Append.{tokens-append, behind-append}
 
 -- ---- behind the header
@@ -171,6 +171,13 @@ marks-whole fed more m h =
       behind-append nothing (tokens_so_far text) last,
       (past-behind (behind nothing (tokens_so_far text)) last known.0).lines,
     ) known.1
+
+-- the last token of a text changes none
+pub marks-ended : (text : List ℕ) (m : Marks) → marks_so_far text ≡ Some m → marks_at_end text ≡ Some m
+unfolding marks_so_far marks_at_end
+marks-ended text m h =
+    let last = ended_at (length text) (open_run text) in
+    rw (behind-append nothing (tokens_so_far text) last) (marks_stay (behind nothing (tokens_so_far text)) last m h)
 
 -- ---- before the end of the header
 

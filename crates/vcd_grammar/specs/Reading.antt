@@ -56,3 +56,7 @@ samples_so_far fed = samples_in at_first (ended (blocks_of (events_in nothing (t
 -- `$end`, and from then on those of the lines that were declared before the first fault
 unfoldable pub marks_so_far : List ℕ → Option Marks
 marks_so_far fed = known_marks (behind nothing (tokens_so_far fed))
+
+-- the marks that a whole text shows, whose last token counts too: none where its `$enddefinitions` has no `$end`
+unfoldable pub marks_at_end : List ℕ → Option Marks
+marks_at_end text = known_marks (behind nothing (tokens_of text))

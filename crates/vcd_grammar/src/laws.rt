@@ -3,8 +3,8 @@ ghost use Rattle.fsb_signal.specs.declared.marks.Marks.{Marks};
 ghost use Rattle.fsb_signal.specs.declared.sample.Sample.{Sample};
 ghost use Rattle.vcd_grammar.specs.declared.fault.VcdFault.{VcdFault};
 ghost use Rattle.vcd_grammar.specs.Heading.{is_header_over};
-ghost use Rattle.vcd_grammar.specs.Tokens.{tokens_so_far};
-ghost use Rattle.vcd_grammar.specs.Reading.{Reads, FirstFault, marks_of, marks_so_far, samples_so_far, first_fault};
+ghost use Rattle.vcd_grammar.specs.Tokens.{tokens_so_far, tokens_of};
+ghost use Rattle.vcd_grammar.specs.Reading.{Reads, FirstFault, marks_of, marks_so_far, marks_at_end, samples_so_far, first_fault};
 
 /// Each text has exactly one answer: its marks and one trace, or one first fault.
 pub fn one_answer()
@@ -25,6 +25,10 @@ pub fn one_answer()
 pub fn marks_come_first()
     ensures over { (fed : List ℕ) →
         is_some (marks_so_far fed) ≡ is_header_over (tokens_so_far fed) }
+    ensures over_at_end { (text : List ℕ) →
+        is_some (marks_at_end text) ≡ is_header_over (tokens_of text) }
+    ensures at_end { (fed : List ℕ) (m : Marks) → marks_so_far fed ≡ Some m →
+        marks_at_end fed ≡ Some m }
     ensures none { (fed : List ℕ) → marks_so_far fed ≡ None → samples_so_far fed ≡ [] }
     ensures stay { (fed more : List ℕ) (m : Marks) → marks_so_far fed ≡ Some m →
         marks_so_far (fed ++ more) ≡ Some m }
