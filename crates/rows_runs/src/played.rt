@@ -1,8 +1,8 @@
-use crate::{Played, Print, play};
-use fsb_core::Bench;
-use fsb_hazard::Hazard;
+//! A bench that is played.
+
+use crate::benches::{LOAD_THEN_STORE, bare_bench};
 use fsb_io::MemSink;
-use fsb_script::read_bench;
+use fsb_play::{Played, Print, play};
 use rows_store::{LOAD_THEN_STORE_HIT, trace_of};
 use std::test::Fail;
 use vcd_write::put_dump;
@@ -11,11 +11,7 @@ use vcd_write::put_dump;
 /// that is loaded.
 #[test]
 fn first_run(rt: HostRuntime) -> Result<(), Fail> {
-    let text =
-        b"p6bench 1\nagents 1\nclocks 60\ncache 64\nahead 1\nmem 40 07\nagent 0\nld 1 40\nst 1 41 5\nend\n";
-    let plan = read_bench(rt.alloc(), text).expect(&rt, "a bench text");
-    let hazards: Vec<Box<dyn Hazard>> = Vec::new(rt.alloc());
-    let mut bench = Bench::make(rt.alloc(), plan, hazards).expect(&rt, "memory");
+    let mut bench = bare_bench(rt.alloc(), LOAD_THEN_STORE).expect(&rt, "a bench");
     let mut out = MemSink::new(rt.alloc(), 1_000, &[])?;
     let mut dump = MemSink::new(rt.alloc(), 10_000, &[])?;
     assert_eq!(rt;
