@@ -2,172 +2,187 @@
 
 use fsb_line::{Answer, Link, Mesi, Purpose, Ruling, Settled};
 
+/// What was asked for, whether another agent has a copy, and the state that is granted.
+const GRANTS: [(Purpose, bool, Mesi); 5] = [
+    (Purpose::Read, false, Mesi::Exclusive),
+    (Purpose::Read, true, Mesi::Shared),
+    (Purpose::Own, true, Mesi::Modified),
+    (Purpose::Upgrade, false, Mesi::Modified),
+    (Purpose::WriteBack, false, Mesi::Invalid),
+];
+
 #[test]
 fn states_of_a_grant(rt: HostRuntime) {
-    for (kind, shared, want) in [
-        (Purpose::Read, false, Mesi::Exclusive),
-        (Purpose::Read, true, Mesi::Shared),
-        (Purpose::Own, true, Mesi::Modified),
-        (Purpose::Upgrade, false, Mesi::Modified),
-        (Purpose::WriteBack, false, Mesi::Invalid),
-    ] {
+    for (kind, shared, want) in GRANTS {
         assert_eq!(rt; Mesi::granted(kind, shared), want, "{kind:?} {shared}");
     }
     assert!(rt; Purpose::Upgrade.owns());
 }
 
+/// The state of a copy, what another agent asks for, and the state after the snoop.
+const SNOOPS: [(Mesi, Purpose, Mesi); 3] = [
+    (Mesi::Shared, Purpose::Own, Mesi::Invalid),
+    (Mesi::Exclusive, Purpose::Read, Mesi::Shared),
+    (Mesi::Invalid, Purpose::Read, Mesi::Invalid),
+];
+
 #[test]
 fn states_after_a_snoop(rt: HostRuntime) {
-    for (state, kind, want) in [
-        (Mesi::Shared, Purpose::Own, Mesi::Invalid),
-        (Mesi::Exclusive, Purpose::Read, Mesi::Shared),
-        (Mesi::Invalid, Purpose::Read, Mesi::Invalid),
-    ] {
+    for (state, kind, want) in SNOOPS {
         assert_eq!(rt; state.after_snoop(kind), want, "{state:?} {kind:?}");
     }
     assert!(rt; !Mesi::Invalid.is_held() && Mesi::Shared.is_held());
     assert!(rt; !Mesi::Shared.is_sole() && Mesi::Exclusive.is_sole());
 }
 
+/// The state of a copy, and how it is answered.
+const ANSWERS: [(Mesi, Answer); 4] = [
+    (Mesi::Modified, Answer::Modified),
+    (Mesi::Exclusive, Answer::Hit),
+    (Mesi::Shared, Answer::Hit),
+    (Mesi::Invalid, Answer::Clean),
+];
+
 #[test]
 fn answers_to_a_snoop(rt: HostRuntime) {
-    for (state, answer) in [
-        (Mesi::Modified, Answer::Modified),
-        (Mesi::Exclusive, Answer::Hit),
-        (Mesi::Shared, Answer::Hit),
-        (Mesi::Invalid, Answer::Clean),
-    ] {
+    for (state, answer) in ANSWERS {
         assert_eq!(rt; state.answer(), answer);
     }
 }
 
+/// The state of a copy, whether the request is of its agent, what is asked for and how it ends, and the state after it.
+const ENDS: [(Mesi, bool, Purpose, Settled, Mesi); 11] = [
+    // store_handed_over_before_arrival: the first owner loses the line at once
+    (
+        Mesi::Modified,
+        false,
+        Purpose::Own,
+        Settled::Handed,
+        Mesi::Invalid,
+    ),
+    (
+        Mesi::Invalid,
+        true,
+        Purpose::Own,
+        Settled::Handed,
+        Mesi::Modified,
+    ),
+    (
+        Mesi::Modified,
+        false,
+        Purpose::Read,
+        Settled::Handed,
+        Mesi::Shared,
+    ),
+    (
+        Mesi::Invalid,
+        true,
+        Purpose::Read,
+        Settled::Handed,
+        Mesi::Shared,
+    ),
+    // a retried request still takes clean copies
+    (
+        Mesi::Shared,
+        false,
+        Purpose::Own,
+        Settled::Retried,
+        Mesi::Invalid,
+    ),
+    (
+        Mesi::Shared,
+        true,
+        Purpose::Own,
+        Settled::Retried,
+        Mesi::Shared,
+    ),
+    // dirty_victim_written_back
+    (
+        Mesi::Modified,
+        true,
+        Purpose::WriteBack,
+        Settled::Written,
+        Mesi::Invalid,
+    ),
+    // an upgrade is won, and lost
+    (
+        Mesi::Shared,
+        true,
+        Purpose::Upgrade,
+        Settled::Upgraded,
+        Mesi::Modified,
+    ),
+    (
+        Mesi::Invalid,
+        true,
+        Purpose::Upgrade,
+        Settled::Upgraded,
+        Mesi::Invalid,
+    ),
+    // deferred_and_replied
+    (
+        Mesi::Invalid,
+        true,
+        Purpose::Read,
+        Settled::Replied,
+        Mesi::Exclusive,
+    ),
+    (
+        Mesi::Shared,
+        false,
+        Purpose::Read,
+        Settled::Replied,
+        Mesi::Shared,
+    ),
+];
+
 #[test]
 fn states_after_a_snoop_end(rt: HostRuntime) {
-    for (state, mine, kind, settled, want) in [
-        // store_handed_over_before_arrival: the first owner loses the line at once
-        (
-            Mesi::Modified,
-            false,
-            Purpose::Own,
-            Settled::Handed,
-            Mesi::Invalid,
-        ),
-        (
-            Mesi::Invalid,
-            true,
-            Purpose::Own,
-            Settled::Handed,
-            Mesi::Modified,
-        ),
-        (
-            Mesi::Modified,
-            false,
-            Purpose::Read,
-            Settled::Handed,
-            Mesi::Shared,
-        ),
-        (
-            Mesi::Invalid,
-            true,
-            Purpose::Read,
-            Settled::Handed,
-            Mesi::Shared,
-        ),
-        // a retried request still takes clean copies
-        (
-            Mesi::Shared,
-            false,
-            Purpose::Own,
-            Settled::Retried,
-            Mesi::Invalid,
-        ),
-        (
-            Mesi::Shared,
-            true,
-            Purpose::Own,
-            Settled::Retried,
-            Mesi::Shared,
-        ),
-        // dirty_victim_written_back
-        (
-            Mesi::Modified,
-            true,
-            Purpose::WriteBack,
-            Settled::Written,
-            Mesi::Invalid,
-        ),
-        // an upgrade is won, and lost
-        (
-            Mesi::Shared,
-            true,
-            Purpose::Upgrade,
-            Settled::Upgraded,
-            Mesi::Modified,
-        ),
-        (
-            Mesi::Invalid,
-            true,
-            Purpose::Upgrade,
-            Settled::Upgraded,
-            Mesi::Invalid,
-        ),
-        // deferred_and_replied
-        (
-            Mesi::Invalid,
-            true,
-            Purpose::Read,
-            Settled::Replied,
-            Mesi::Exclusive,
-        ),
-        (
-            Mesi::Shared,
-            false,
-            Purpose::Read,
-            Settled::Replied,
-            Mesi::Shared,
-        ),
-    ] {
+    for (state, mine, kind, settled, want) in ENDS {
         let next = state.state_after(mine, kind, settled, false);
         assert_eq!(rt; next, want, "{state:?} {mine} {kind:?} {settled:?}");
     }
 }
 
+/// What is asked for, whether a copy owns the line, whether the line is pending, what is ruled, and how the request ends.
+const OUTCOMES: [(Purpose, bool, bool, Ruling, Settled); 8] = [
+    (Purpose::Own, true, false, Ruling::Retry, Settled::Handed),
+    (Purpose::Read, false, false, Ruling::Retry, Settled::Retried),
+    (
+        Purpose::Read,
+        false,
+        false,
+        Ruling::Defer,
+        Settled::Deferred,
+    ),
+    (Purpose::Read, false, true, Ruling::Keep, Settled::Retried),
+    (Purpose::Own, false, false, Ruling::Keep, Settled::Granted),
+    (
+        Purpose::Upgrade,
+        false,
+        false,
+        Ruling::Defer,
+        Settled::Upgraded,
+    ),
+    (
+        Purpose::Upgrade,
+        false,
+        true,
+        Ruling::Keep,
+        Settled::Retried,
+    ),
+    (
+        Purpose::WriteBack,
+        false,
+        false,
+        Ruling::Retry,
+        Settled::Written,
+    ),
+];
+
 #[test]
 fn outcomes_of_requests(rt: HostRuntime) {
-    for (kind, owned, pending, turn, want) in [
-        (Purpose::Own, true, false, Ruling::Retry, Settled::Handed),
-        (Purpose::Read, false, false, Ruling::Retry, Settled::Retried),
-        (
-            Purpose::Read,
-            false,
-            false,
-            Ruling::Defer,
-            Settled::Deferred,
-        ),
-        (Purpose::Read, false, true, Ruling::Keep, Settled::Retried),
-        (Purpose::Own, false, false, Ruling::Keep, Settled::Granted),
-        (
-            Purpose::Upgrade,
-            false,
-            false,
-            Ruling::Defer,
-            Settled::Upgraded,
-        ),
-        (
-            Purpose::Upgrade,
-            false,
-            true,
-            Ruling::Keep,
-            Settled::Retried,
-        ),
-        (
-            Purpose::WriteBack,
-            false,
-            false,
-            Ruling::Retry,
-            Settled::Written,
-        ),
-    ] {
+    for (kind, owned, pending, turn, want) in OUTCOMES {
         let settled = kind.settled(owned, pending, turn);
         assert_eq!(rt; settled, want, "{kind:?} {owned} {pending} {turn:?}");
     }
@@ -179,18 +194,21 @@ fn write_back_alone_is_held_off(rt: HostRuntime) {
     assert!(rt; !Purpose::Read.is_held_off(true));
 }
 
+/// The state of a copy, whether it has to be alone, whether its agent upgrades, and what it asks for.
+const NEEDS: [(Mesi, bool, bool, Option<Purpose>); 8] = [
+    (Mesi::Invalid, false, true, Some(Purpose::Read)),
+    (Mesi::Invalid, true, true, Some(Purpose::Own)),
+    (Mesi::Invalid, true, false, Some(Purpose::Own)),
+    (Mesi::Shared, false, true, None),
+    (Mesi::Shared, true, false, Some(Purpose::Own)),
+    (Mesi::Shared, true, true, Some(Purpose::Upgrade)),
+    (Mesi::Exclusive, true, true, None),
+    (Mesi::Modified, true, false, None),
+];
+
 #[test]
 fn requests_that_accesses_need(rt: HostRuntime) {
-    for (state, alone, upgrades, want) in [
-        (Mesi::Invalid, false, true, Some(Purpose::Read)),
-        (Mesi::Invalid, true, true, Some(Purpose::Own)),
-        (Mesi::Invalid, true, false, Some(Purpose::Own)),
-        (Mesi::Shared, false, true, None),
-        (Mesi::Shared, true, false, Some(Purpose::Own)),
-        (Mesi::Shared, true, true, Some(Purpose::Upgrade)),
-        (Mesi::Exclusive, true, true, None),
-        (Mesi::Modified, true, false, None),
-    ] {
+    for (state, alone, upgrades, want) in NEEDS {
         assert_eq!(rt;
             state.wanted(alone, upgrades),
             want,
