@@ -1,13 +1,12 @@
 use crate::Controller;
 use fsb_access::Setting;
 use fsb_io::Memory;
-use fsb_script::Settings;
 use std::alloc::Global;
 use std::test::Fail;
 
 /// Settings of these bytes at these addresses, in order.
-fn settings_of(alloc: Global, rows: &[(u64, u8)]) -> Result<Settings, Memory> {
-    let mut settings = Settings::new(alloc);
+fn settings_of(alloc: Global, rows: &[(u64, u8)]) -> Result<Vec<Setting>, Memory> {
+    let mut settings = Vec::new(alloc);
     for (addr, byte) in rows {
         settings.push(Setting {
             addr: *addr,

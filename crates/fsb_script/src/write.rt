@@ -1,13 +1,11 @@
-ghost use Rattle.std.specs.Prelude.{◌≡◌, ◌+◌, ◌++◌, OnOk, IfOk, IsTrue};
-ghost use Rattle.fsb_script.specs.Runs.{is_run};
-ghost use Rattle.fsb_script.specs.Statements.{settings_at};
+ghost use Rattle.std.specs.Prelude.{◌≡◌, ◌+◌, ◌++◌, OnOk, IfOk};
 ghost use Rattle.fsb_script.specs.Text.{settings_text, accesses_text, item_text, items_text, script_text, scripts_text, hazards_text, profile_text, bridge_text, bench_text};
 ghost use Rattle.fsb_script.specs.View.{plan_view};
 
 use crate::line::{
     access_line, agent_line, hazard_line, head_lines, idle_line, setting_line, window_line,
 };
-use crate::plan::{Plan, Settings, Window};
+use crate::plan::{Plan, Window};
 use fsb_access::{Access, Item, Script, Setting};
 use fsb_hazard::HazardLine;
 use fsb_io::Memory;
@@ -24,7 +22,7 @@ pub fn write_bench(alloc: Global, plan: &Plan) -> Result<Vec<u8>, Memory>
     text.extend_from_slice(head.as_slice())?;
     put_profile(&mut text, plan.profile)?;
     put_bridge(&mut text, &plan.bridge)?;
-    put_settings(&mut text, &plan.mem)?;
+    put_settings(&mut text, plan.mem.as_slice())?;
     put_scripts(&mut text, scripts)?;
     put_hazards(&mut text, plan.hazards.as_slice())?;
     Ok(text)
@@ -48,27 +46,11 @@ fn put_bridge(text: &mut Vec<u8>, bridge: &Option<Window>) -> Result<(), Memory>
     Ok(())
 }
 
-fn put_settings(text: &mut Vec<u8>, settings: &Settings) -> Result<(), Memory>
+fn put_settings(text: &mut Vec<u8>, settings: &[Setting]) -> Result<(), Memory>
     ensures { OnOk result (text.new.items ≡ text.old.items ++ settings_text settings.now) }
 {
-    let mut runs = settings.runs();
-    while let Some((addr, bytes)) = runs.next() {
-        put_run(text, addr, bytes)?;
-    }
-    Ok(())
-}
-
-fn put_run(text: &mut Vec<u8>, addr: u64, bytes: &[u8]) -> Result<(), Memory>
-    requires { IsTrue (is_run (addr, bytes.now)) }
-    ensures { OnOk result (
-        text.new.items ≡ text.old.items ++ settings_text (settings_at addr bytes.now)) }
-{
-    for (i, byte) in bytes.iter().enumerate() {
-        let setting = Setting {
-            addr: addr + i as u64,
-            byte: *byte,
-        };
-        text.extend_from_slice(setting_line(&setting).as_slice())?;
+    for setting in settings {
+        text.extend_from_slice(setting_line(setting).as_slice())?;
     }
     Ok(())
 }

@@ -1,10 +1,10 @@
-//! Memory settings as runs.
+//! Memory settings, lent in the order in which they came.
 
 use fsb_access::Setting;
 use fsb_script::Settings;
 use std::test::Fail;
 
-/// Settings one by one.
+/// Settings one by one: their addresses and bytes.
 static ROWS: [(u64, u8); 10] = [
     (0x40, 1),
     (0x41, 2),
@@ -18,32 +18,22 @@ static ROWS: [(u64, u8); 10] = [
     (0, 10),
 ];
 
-/// Their runs.
-static RUNS: [(u64, &'static [u8]); 7] = [
-    (0x40, &[1, 2]),
-    (0x41, &[3]),
-    (0x40, &[4, 5]),
-    (0x43, &[6]),
-    (0x42, &[7]),
-    (u64::MAX - 1, &[8, 9]),
-    (0, &[10]),
-];
-
-/// Of settings one by one, those whose addresses follow one another are one run, also up to the last address of all.
+/// Settings are lent as they came, also where their addresses follow one another, and at the last address of all.
 #[test]
-fn runs_of_settings(rt: HostRuntime) -> Result<(), Fail> {
+fn settings_in_order(rt: HostRuntime) -> Result<(), Fail> {
     let mut settings = Settings::new(rt.alloc());
-    assert!(rt; settings.runs().next().is_none());
+    assert!(rt; settings.as_slice().is_empty());
     for (addr, byte) in ROWS.iter() {
         settings.push(Setting {
             addr: *addr,
             byte: *byte,
         })?;
     }
-    let mut left = settings.runs();
-    for run in RUNS.iter() {
-        assert_eq!(rt; left.next(), Some(*run));
+    let lent = settings.as_slice();
+    assert_eq!(rt; lent.len(), ROWS.len());
+    for (setting, (addr, byte)) in lent.iter().zip(ROWS.iter()) {
+        assert_eq!(rt; setting.addr, *addr);
+        assert_eq!(rt; setting.byte, *byte);
     }
-    assert!(rt; left.next().is_none());
     Ok(())
 }
