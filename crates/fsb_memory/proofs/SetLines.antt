@@ -5,7 +5,8 @@ use Rattle.std.proofs.lemmas.Bool.{cases_eq}
 use Rattle.std.proofs.lemmas.Bool.Decides.{nat_tests}
 use Rattle.std.proofs.lemmas.List.Sums.{fold_more, fold-append}
 use Rattle.std.proofs.lemmas.List.Folds.{list_any-append}
-use Rattle.std.proofs.Math.Seq.{take-add, take-suc}
+use Rattle.std.proofs.Math.Bool.{or_comm}
+use Rattle.std.proofs.Math.Seq.{take-suc, take-add}
 use Rattle.std.specs.Prelude.{◌==◌, nat_lt}
 use Rattle.std.specs.List.{list_any}
 use Rattle.fsb_access.specs.declared.access.Setting.{Setting}
@@ -51,32 +52,21 @@ names_so_far-more line settings count setting sofar below is of other =
     ∙ ap (λ s. take count settings ++ s ∷ []) (sym is) in
     rw (more, list_any-append, sofar other) (grind (arith, nat_tests))
 
--- a line, and whether it is named, after the first settings, and then after more of them
-bytes-front : (line : ℕ) (before now : List ℕ) (front back : List Setting) → now ≡ set_bytes line before front
-    → set_bytes line now back ≡ set_bytes line before (front ++ back)
-bytes-front line before now front back is = rw is (sym (fold-append (set_byte line) before front back))
-
-named-front :
-    (line : ℕ) (before now : Bool) (front back : List Setting) → now ≡ (list_any (is_in_line line) front || before)
-    → (list_any (is_in_line line) back || now) ≡ (list_any (is_in_line line) (front ++ back) || before)
-named-front line before now front back is =
-    rw (is, list_any-append) (grind (arith, nat_tests))
-
+-- a line, and whether it is named, after the settings so far and some more
 pub bytes-more :
-    (line : ℕ) (first before now : List ℕ) (settings left : List Setting) (done count : ℕ) → left ≡ drop done settings
-    → before ≡ set_bytes line first (take done settings) → now ≡ set_bytes line before (take count left)
-    → now ≡ set_bytes line first (take (done + count) settings)
-bytes-more line first before now settings left done count rest sofar is =
-    is ∙ ap (λ l. set_bytes line before (take count l)) rest
-    ∙ bytes-front line first before (take done settings) (take count (drop done settings)) sofar
-    ∙ ap (set_bytes line first) (sym (take-add done count settings))
+    (line : ℕ) (zeros before now : List ℕ) (settings : List Setting) (done count : ℕ)
+    → before ≡ set_bytes line zeros (take done settings) → now ≡ set_bytes line before (take count (drop done settings))
+    → now ≡ set_bytes line zeros (take (done + count) settings)
+bytes-more line zeros before now settings done count stands more =
+    more ∙ rw (stands, take-add done count settings)
+    (sym (fold-append (set_byte line) zeros (take done settings) (take count (drop done settings))))
 
 pub named-more :
-    (line : ℕ) (first before now : Bool) (settings left : List Setting) (done count : ℕ) → left ≡ drop done settings
-    → before ≡ (list_any (is_in_line line) (take done settings) || first)
-    → now ≡ (list_any (is_in_line line) (take count left) || before)
-    → now ≡ (list_any (is_in_line line) (take (done + count) settings) || first)
-named-more line first before now settings left done count rest sofar is =
-    is ∙ ap (λ l. list_any (is_in_line line) (take count l) || before) rest
-    ∙ named-front line first before (take done settings) (take count (drop done settings)) sofar
-    ∙ ap (λ l. list_any (is_in_line line) l || first) (sym (take-add done count settings))
+    (line : ℕ) (before now : Bool) (settings : List Setting) (done count : ℕ)
+    → before ≡ list_any (is_in_line line) (take done settings)
+    → now ≡ (list_any (is_in_line line) (take count (drop done settings)) || before)
+    → now ≡ list_any (is_in_line line) (take (done + count) settings)
+named-more line before now settings done count stands more =
+    more ∙ rw (stands, take-add done count settings, list_any-append)
+    (or_comm (list_any (is_in_line line) (take count (drop done settings)))
+    (list_any (is_in_line line) (take done settings)))

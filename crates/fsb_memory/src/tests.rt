@@ -1,13 +1,12 @@
 use crate::Controller;
 use fsb_access::Setting;
 use fsb_io::Memory;
-use fsb_script::Settings;
 use std::alloc::Global;
 use std::test::Fail;
 
 /// Settings of these bytes at these addresses, in order.
-fn settings_of(alloc: Global, rows: &[(u64, u8)]) -> Result<Settings, Memory> {
-    let mut settings = Settings::new(alloc);
+fn settings_of(alloc: Global, rows: &[(u64, u8)]) -> Result<Vec<Setting>, Memory> {
+    let mut settings = Vec::new(alloc);
     for (addr, byte) in rows {
         settings.push(Setting {
             addr: *addr,
@@ -28,7 +27,7 @@ fn settings_make_the_lines(rt: HostRuntime) -> Result<(), Fail> {
         (0x40, 9),
     ];
     let sets = settings_of(rt.alloc(), &rows)?;
-    let memory = Controller::new(rt.alloc(), &sets, &[5, 2, 5])?;
+    let memory = Controller::new(rt.alloc(), sets.as_slice(), &[5, 2, 5])?;
     let mut second = [0; 32];
     second[0] = 9;
     second[1] = 5;
@@ -51,7 +50,7 @@ fn settings_make_the_lines(rt: HostRuntime) -> Result<(), Fail> {
 #[test]
 fn put_changes_one_line(rt: HostRuntime) -> Result<(), Fail> {
     let sets = settings_of(rt.alloc(), &[(0x40, 7)])?;
-    let mut memory = Controller::new(rt.alloc(), &sets, &[2, 3, 9])?;
+    let mut memory = Controller::new(rt.alloc(), sets.as_slice(), &[2, 3, 9])?;
     let before = memory.line(2);
     memory.put(3, [1; 32]);
     memory.put(3, [6; 32]);
@@ -81,7 +80,7 @@ fn later_settings_win_across_runs(rt: HostRuntime) -> Result<(), Fail> {
         (0, 11),
     ];
     let sets = settings_of(rt.alloc(), &rows)?;
-    let memory = Controller::new(rt.alloc(), &sets, &[])?;
+    let memory = Controller::new(rt.alloc(), sets.as_slice(), &[])?;
     assert_eq!(rt; &memory.line(2)[28..], [0, 5, 9, 7].as_slice());
     assert_eq!(rt; &memory.line(3)[..3], [8, 4, 0].as_slice());
     assert_eq!(rt; memory.line(0)[0], 11);

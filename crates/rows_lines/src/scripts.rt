@@ -1,0 +1,278 @@
+//! Bench files that are read, with what they say, and those that are not, with their first fault.
+
+use fsb_access::{Access, Group, Item, LINE_BYTES};
+use fsb_hazard::HazardLine;
+use fsb_io::Memory;
+use fsb_script::{Cause, Plan, ScriptFault, ScriptStop, Window, is_lawful_script, read_bench};
+use std::alloc::{AllocError, Global};
+use std::process::Abort;
+use std::test::Fail;
+use table::{BAD, GOOD};
+
+mod table;
+
+/// What stands before the text of a row.
+#[derive(Clone, Copy, Debug)]
+pub(crate) enum Start {
+    /// Nothing.
+    Whole,
+    /// The five lines of a head.
+    Head,
+    /// A head and the line `agent 0`.
+    Items,
+    /// A head and the script of a load: eight lines.
+    Tail,
+    /// A head and the lines `agent 0` and `lock`.
+    Lock,
+    /// The five lines of a head of two agents.
+    Two,
+}
+
+impl Start {
+    fn text(self) -> &'static str {
+        match self {
+            Start::Whole => "",
+            Start::Head => "p6bench 1\nagents 1\nclocks 60\ncache 64\nahead 1\n",
+            Start::Items => "p6bench 1\nagents 1\nclocks 60\ncache 64\nahead 1\nagent 0\n",
+            Start::Tail => {
+                "p6bench 1\nagents 1\nclocks 60\ncache 64\nahead 1\nagent 0\nld 1 40\nend\n"
+            }
+            Start::Lock => { "p6bench 1\nagents 1\nclocks 60\ncache 64\nahead 1\nagent 0\nlock\n" }
+            Start::Two => "p6bench 1\nagents 2\nclocks 60\ncache 64\nahead 1\n",
+        }
+    }
+}
+
+/// A text with what stands before it.
+fn behind(alloc: Global, start: Start, text: &str) -> Result<Vec<u8>, AllocError> {
+    let mut whole = Vec::from_slice(alloc, start.text().as_bytes())?;
+    whole.extend_from_slice(text.as_bytes())?;
+    Ok(whole)
+}
+
+/// The plan of a text, or why it is not read; it asserts that the text is short enough to be read at all.
+pub(crate) fn read(
+    rt: &impl Abort,
+    alloc: Global,
+    start: Start,
+    text: &str,
+) -> Result<Plan, ScriptStop> {
+    let whole = behind(alloc, start, text).expect(rt, "out of memory");
+    assert!(rt; whole.len() <= 1_000_000);
+    read_bench(alloc, whole.as_slice())
+}
+
+/// Asserts that a text is read where no fault is given, and otherwise that it has this first bad line, and that line this
+/// cause.
+fn expect_stop(
+    rt: &impl Abort,
+    alloc: Global,
+    start: Start,
+    text: &str,
+    fault: Option<(u32, Cause)>,
+) {
+    let stop = read(rt, alloc, start, text).err();
+    let fault = fault.map(|(line, cause)| ScriptStop::Bad(ScriptFault { line, cause }));
+    assert_eq!(rt; stop, fault, "{start:?} {text:?}");
+}
+
+#[test]
+fn each_bad_line_and_its_cause(rt: HostRuntime) {
+    for (start, text, line, cause) in BAD.iter() {
+        expect_stop(&rt, rt.alloc(), *start, text, Some((*line, *cause)));
+    }
+}
+
+#[test]
+fn each_text_that_is_read(rt: HostRuntime) {
+    for (start, text) in GOOD.iter() {
+        expect_stop(&rt, rt.alloc(), *start, text, None);
+    }
+}
+
+/// A line that stands 4,096 times, a line behind them, and the fault of both, if there is one. A script has at most 4,096
+/// items, and a file at most 4,096 hazard lines; the first word comes before that, and every other cause after.
+static BEHIND_4096: [(Start, &'static str, &'static str, Option<(u32, Cause)>); 9] = [
+    (Start::Items, "ld 1 40\n", "end\n", None),
+    (
+        Start::Items,
+        "ld 1 40\n",
+        "ld x\n",
+        Some((4_103, Cause::Range)),
+    ),
+    (
+        Start::Items,
+        "ld 1 40\n",
+        "idle x\n",
+        Some((4_103, Cause::Range)),
+    ),
+    (
+        Start::Items,
+        "ld 1 40\n",
+        "lock x\n",
+        Some((4_103, Cause::Range)),
+    ),
+    (
+        Start::Items,
+        "ld 1 40\n",
+        "tx x\n",
+        Some((4_103, Cause::Word)),
+    ),
+    (Start::Tail, "tx 0 retry\n", "", None),
+    (
+        Start::Tail,
+        "tx 0 retry\n",
+        "tx x\n",
+        Some((4_105, Cause::Range)),
+    ),
+    (
+        Start::Tail,
+        "tx 0 retry\n",
+        "bnr 0 0\n",
+        Some((4_105, Cause::Range)),
+    ),
+    (
+        Start::Tail,
+        "tx 0 retry\n",
+        "ld 1 40\n",
+        Some((4_105, Cause::Word)),
+    ),
+];
+
+#[test]
+fn item_and_hazard_line_4097(rt: HostRuntime) -> Result<(), Fail> {
+    for (start, repeated, line, fault) in BEHIND_4096.iter() {
+        let mut text = repeated.repeat(rt.alloc(), 4_096)?;
+        text.push_str(line)?;
+        expect_stop(&rt, rt.alloc(), *start, &text, *fault);
+    }
+    Ok(())
+}
+
+/// A cache has a power of two of lines, at most 1,024.
+#[test]
+fn sizes_of_caches(rt: HostRuntime) -> Result<(), Fail> {
+    for lines in 0..=4_096_u64 {
+        let lawful = lines.count_ones() == 1 && lines <= 1_024;
+        let text = format!(in rt.alloc();
+            "p6bench 1\nagents 1\nclocks 0\ncache {lines}\nahead 1\nagent 0\nend\n"
+        )?;
+        let fault = if lawful {
+            None
+        } else {
+            Some((4, Cause::Range))
+        };
+        expect_stop(&rt, rt.alloc(), Start::Whole, &text, fault);
+    }
+    Ok(())
+}
+
+/// Hazard lines, and what each says.
+static HAZARDS: [(&'static str, HazardLine); 9] = [
+    ("tx 7 stall 1\n", HazardLine::Stall(7, 1)),
+    ("tx 7 trdy 2\n", HazardLine::Trdy(7, 2)),
+    ("tx 7 resp 3\n", HazardLine::Resp(7, 3)),
+    ("tx 7 data 255\n", HazardLine::Gap(7, 255)),
+    ("tx 199999 retry\n", HazardLine::Retry(199_999)),
+    ("tx 7 defer 65535\n", HazardLine::Defer(7, 65_535)),
+    ("tx 0 aerr\n", HazardLine::Aerr(0)),
+    ("bnr 5 8\n", HazardLine::Bnr(5, 8)),
+    ("bnr 5 5\n", HazardLine::Bnr(5, 5)),
+];
+
+#[test]
+fn what_each_hazard_says(rt: HostRuntime) {
+    for (text, hazard) in HAZARDS.iter() {
+        match read(&rt, rt.alloc(), Start::Tail, text) {
+            Ok(plan) => assert_eq!(rt; plan.hazards.as_slice(), [*hazard].as_slice()),
+            Err(_) => panic!(rt; "{text:?}"),
+        }
+    }
+}
+
+/// What a text behind a head says: its profile, its bridge, and the clocks of agent 0's only item where that is idle.
+static SAID: [(&'static str, u8, Option<Window>, Option<u32>); 5] = [
+    ("profile 1\nagent 0\nend\n", 1, None, None),
+    ("profile 2\nagent 0\nend\n", 2, None, None),
+    (
+        "bridge 1000 20\nagent 0\nend\n",
+        1,
+        Some(Window {
+            base: 0x1000,
+            size: 0x20,
+        }),
+        None,
+    ),
+    ("agent 0\nidle 1\nend\n", 1, None, Some(1)),
+    ("agent 0\nidle 200000\nend\n", 1, None, Some(200_000)),
+];
+
+/// The clocks of agent 0's only item, where there is one and it is idle.
+fn idle_of(plan: &Plan) -> Option<u32> {
+    match plan.scripts.as_slice().first()?.as_slice() {
+        [Item::Idle(clocks)] => Some(*clocks),
+        _ => None,
+    }
+}
+
+#[test]
+fn what_profile_bridge_and_idle_say(rt: HostRuntime) {
+    for (text, profile, bridge, idle) in SAID.iter() {
+        match read(&rt, rt.alloc(), Start::Head, text) {
+            Ok(plan) => {
+                let said = (plan.profile, plan.bridge, idle_of(&plan));
+                assert_eq!(rt; said, (*profile, *bridge, *idle), "{text:?}");
+            }
+            Err(_) => panic!(rt; "{text:?}"),
+        }
+    }
+}
+
+/// The lines of a cache, the lines that a locked item loads from, and whether a script may have that item.
+///
+/// It has 1 to 8 accesses, of at most 4 different lines; and no two different lines of it have one cache set: their numbers
+/// differ modulo the number of cache lines.
+static LOCKED: [(u32, &'static [u32], bool); 17] = [
+    (1_024, &[], false),
+    (1_024, &[1], true),
+    (1_024, &[1, 1, 1, 1, 1, 1, 1, 1], true),
+    (1_024, &[1, 1, 1, 1, 1, 1, 1, 1, 1], false),
+    (1_024, &[1, 2, 3, 4], true),
+    (1_024, &[4, 3, 2, 1, 1, 2, 3, 4], true),
+    (1_024, &[1, 2, 3, 4, 5], false),
+    (1_024, &[1, 1, 1, 2, 3, 4, 5], false),
+    (1_024, &[1, 2, 3, 4, 5, 5, 5, 5], false),
+    (1, &[2, 2], true),
+    (1, &[2, 4], false),
+    (2, &[2, 3, 2, 3], true),
+    (2, &[2, 3, 4], false),
+    (64, &[2, 65], true),
+    (64, &[2, 66], false),
+    (64, &[3, 2, 5, 66], false),
+    (1_024, &[0, 1_023], true),
+];
+
+/// A locked item that loads the first byte of each of these lines.
+fn loads(alloc: Global, lines: &[u32]) -> Result<Item, Memory> {
+    let mut group = Group::new(alloc);
+    for line in lines {
+        group.push(Access::Load {
+            size: 1,
+            addr: u64::from(*line) * LINE_BYTES,
+        })?;
+    }
+    Ok(Item::Locked(group))
+}
+
+#[test]
+fn sizes_and_cache_sets_of_locked_items(rt: HostRuntime) -> Result<(), Fail> {
+    for (cache, lines, is_lawful) in LOCKED.iter() {
+        let items = [loads(rt.alloc(), lines)?];
+        assert_eq!(rt;
+            0 < *cache && is_lawful_script(*cache, &items),
+            *is_lawful,
+            "{cache} {lines:?}"
+        );
+    }
+    Ok(())
+}
