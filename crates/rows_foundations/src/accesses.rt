@@ -1,7 +1,5 @@
 //! Accesses: which are lawful, what a flat memory serves, and the lists that agents do and keep.
 
-ghost use Rattle.std.specs.Prelude.{◌<◌, length};
-
 use fsb_access::{Access, Done, Flat, Group, Item, Log, Operand, Script, Setting, cut, number_put};
 use fsb_io::Memory;
 use std::alloc::Global;

@@ -1,7 +1,5 @@
 //! The names and numbers of the lines, and what samples tell.
 
-ghost use Rattle.std.specs.Prelude.{◌≡◌, true};
-
 use fsb_signal::{
     Lines, Marks, SIGNALS, Sample, Word, idle_sample, line_at, signal_at, signal_named,
 };
