@@ -1,18 +1,11 @@
-use crate::{Status, Words, bench};
+//! A call of `bench`, and how it is to end.
+
 use fsb_hazard::{Hazard, ScriptHazard};
 use fsb_io::{MemSink, MemSource, Memory};
 use fsb_probe::{DataProbe, LineProbe, Probe};
+use fsb_top::{Status, Words, bench};
 use std::alloc::Global;
 use std::process::Abort;
-
-mod dumps;
-mod faults;
-mod looks;
-mod made;
-mod rows;
-mod runs;
-mod statuses;
-mod words;
 
 /// A command line that names a bench file and a dump.
 pub(crate) const NAMED: [&str; 3] = ["run", "first.bench", "first.vcd"];
@@ -68,32 +61,25 @@ pub(crate) struct Wanted<'a> {
     pub(crate) status: Status,
     /// What is printed.
     pub(crate) out: &'a [u8],
+    /// What is dumped; None where that is looked at otherwise.
+    pub(crate) dump: Option<&'a [u8]>,
     /// How often the source, `out` and `dump` are called.
     pub(crate) calls: (u64, u64, u64),
 }
 
-/// The end with this status and this text, with one call of `out` a line, where a text of one piece was read and no dump was written.
-pub(crate) fn told<'a>(status: Status, out: &'a str) -> Wanted<'a> {
+/// The end with this status and this text, with one call of `out` a line, where the source was called so often and no dump was written.
+pub(crate) fn told<'a>(reads: u64, status: Status, out: &'a [u8]) -> Wanted<'a> {
     Wanted {
         status,
-        out: out.as_bytes(),
-        calls: (3, lines_of(out), 0),
+        out,
+        dump: Some(b""),
+        calls: (reads, lines_of(out), 0),
     }
 }
 
-/// The end with this status where nothing was called.
-pub(crate) const UNCALLED: Wanted<'static> = Wanted {
-    status: Status::BadWords,
-    out: b"",
-    calls: (0, 0, 0),
-};
-
 /// How many lines the text has.
-pub(crate) fn lines_of(text: &str) -> u64 {
-    text.as_bytes()
-        .iter()
-        .filter(|&&byte| byte == b'\n')
-        .count() as u64
+pub(crate) fn lines_of(text: &[u8]) -> u64 {
+    text.iter().filter(|&&byte| byte == b'\n').count() as u64
 }
 
 /// How a call of `bench` ended, and the objects that it was given.
@@ -105,30 +91,20 @@ pub(crate) struct Ended {
     pub(crate) dump: MemSink,
 }
 
-/// Makes the call, with a script's object on the bench of a run, and with room for all that is written.
+/// Makes the call, with a script's object on the bench of a run.
 pub(crate) fn end_of(alloc: Global, call: &Call<'_>) -> Result<Ended, Memory> {
     let mut hazards: Vec<Box<dyn Hazard>> = Vec::new(alloc);
     hazards.push(Box::new(alloc, ScriptHazard::new(alloc))?)?;
     ended_over(alloc, call, hazards)
 }
 
-/// Makes the call over these hazard objects, which are to stand on the bench of a run.
+/// Makes the call over these hazard objects, which are to stand on the bench of a run, with room for all that is written.
 pub(crate) fn ended_over(
     alloc: Global,
     call: &Call<'_>,
     hazards: Vec<Box<dyn Hazard>>,
 ) -> Result<Ended, Memory> {
     let probes = probes_of(alloc, call.probes)?;
-    ended_with(alloc, call, hazards, probes)
-}
-
-/// Makes the call over these hazard objects and these probes.
-fn ended_with(
-    alloc: Global,
-    call: &Call<'_>,
-    hazards: Vec<Box<dyn Hazard>>,
-    probes: Vec<Box<dyn Probe>>,
-) -> Result<Ended, Memory> {
     let words = words_of(alloc, call.words)?;
     let mut source = MemSource::new(alloc, call.text, call.fails.source)?;
     let mut out = MemSink::new(alloc, 1_000, call.fails.out)?;
@@ -151,7 +127,7 @@ fn ended_with(
 }
 
 /// The words of a command line.
-pub(crate) fn words_of(alloc: Global, list: &[&str]) -> Result<Words, Memory> {
+fn words_of(alloc: Global, list: &[&str]) -> Result<Words, Memory> {
     let mut words = Words::new(alloc);
     for word in list {
         words.push(alloc, word)?;
@@ -161,41 +137,13 @@ pub(crate) fn words_of(alloc: Global, list: &[&str]) -> Result<Words, Memory> {
 
 /// No probes, or those of ADS#, of DRDY# and of the data.
 fn probes_of(alloc: Global, three: bool) -> Result<Vec<Box<dyn Probe>>, Memory> {
-    if !three {
-        return Ok(Vec::new(alloc));
+    let mut probes: Vec<Box<dyn Probe>> = Vec::new(alloc);
+    if three {
+        probes.push(Box::new(alloc, LineProbe::new(7))?)?;
+        probes.push(Box::new(alloc, LineProbe::new(17))?)?;
+        probes.push(Box::new(alloc, DataProbe::new())?)?;
     }
-    let probes = with_line_probe(alloc, Vec::new(alloc), LineProbe::new(7))?;
-    let probes = with_line_probe(alloc, probes, LineProbe::new(17))?;
-    with_data_probe(alloc, probes)
-}
-
-/// The probes, and behind them one of a line.
-fn with_line_probe(
-    alloc: Global,
-    mut probes: Vec<Box<dyn Probe>>,
-    probe: LineProbe,
-) -> Result<Vec<Box<dyn Probe>>, Memory> {
-    probes.push(Box::new(alloc, probe)?)?;
     Ok(probes)
-}
-
-/// The probes, and behind them one of the data.
-fn with_data_probe(
-    alloc: Global,
-    mut probes: Vec<Box<dyn Probe>>,
-) -> Result<Vec<Box<dyn Probe>>, Memory> {
-    probes.push(Box::new(alloc, DataProbe::new())?)?;
-    Ok(probes)
-}
-
-/// Makes the call, and names what is otherwise than it is wanted, if anything is.
-pub(crate) fn difference(
-    alloc: Global,
-    call: &Call<'_>,
-    wanted: &Wanted<'_>,
-) -> Result<&'static str, Memory> {
-    let ended = end_of(alloc, call)?;
-    Ok(compared(&ended, call, wanted))
 }
 
 /// Names what is otherwise than it is wanted, if anything is.
@@ -205,34 +153,45 @@ pub(crate) fn compared(ended: &Ended, call: &Call<'_>, wanted: &Wanted<'_>) -> &
         "the status"
     } else if ended.out.holds() != wanted.out {
         "what is printed"
+    } else if wanted.dump.is_some() && wanted.dump != Some(ended.dump.holds()) {
+        "what is dumped"
     } else if calls != wanted.calls {
         "how often the objects are called"
-    } else if !is_called_well(ended, call) {
-        "the names, the faults, or what is left"
+    } else if !is_begun_well(ended, call) {
+        "what is begun, or what is left"
+    } else if !is_failed_well(ended, call) {
+        "how often the objects failed"
     } else {
         ""
     }
 }
 
 /// Whether the source and the dump were begun under the second and the third word where they were called more than once, `out` was
-/// never begun, what fails is told as often as it was called, and all was read before anything was printed.
-fn is_called_well(ended: &Ended, call: &Call<'_>) -> bool {
-    is_begun(ended.source.begun_as(), ended.source.calls(), call.words, 1)
-        && is_begun(ended.dump.begun_as(), ended.dump.calls(), call.words, 2)
+/// never begun, and all was read but where the source failed.
+fn is_begun_well(ended: &Ended, call: &Call<'_>) -> bool {
+    is_begun(
+        ended.source.begun_as(),
+        ended.source.calls(),
+        call.words.get(1),
+    ) && is_begun(ended.dump.begun_as(), ended.dump.calls(), call.words.get(2))
         && ended.out.begun_as().is_none()
-        && ended.source.faults() == faults_of(call.fails.source, ended.source.calls())
-        && ended.out.faults() == faults_of(call.fails.out, ended.out.calls())
-        && ended.dump.faults() == faults_of(call.fails.dump, ended.dump.calls())
-        && (ended.out.calls() == 0 || ended.source.left().is_empty())
+        && (ended.status == Status::ReadFault || ended.source.left().is_empty())
 }
 
-/// Whether an object that was called so often is begun under the word at the place, or not begun where no call came behind the first.
-fn is_begun(begun: Option<&[u8]>, calls: u64, words: &[&str], place: usize) -> bool {
-    match (begun, words.get(place)) {
+/// Whether an object that was called so often is begun under the word, or not begun where no call came behind the first.
+fn is_begun(begun: Option<&[u8]>, calls: u64, word: Option<&&str>) -> bool {
+    match (begun, word) {
         (Some(begun), Some(word)) => calls > 1 && begun == word.as_bytes(),
         (Some(_), None) => false,
         (None, _) => calls <= 1,
     }
+}
+
+/// Whether each object counts those of its calls that were to fail.
+fn is_failed_well(ended: &Ended, call: &Call<'_>) -> bool {
+    ended.source.faults() == faults_of(call.fails.source, ended.source.calls())
+        && ended.out.faults() == faults_of(call.fails.out, ended.out.calls())
+        && ended.dump.faults() == faults_of(call.fails.dump, ended.dump.calls())
 }
 
 /// How many of the first calls fail, where at most one does.
@@ -243,7 +202,7 @@ fn faults_of(fails: &[u32], calls: u64) -> u64 {
     }
 }
 
-/// Expects that the call ends as it is wanted.
+/// Makes the call, and expects that it ends as it is wanted.
 pub(crate) fn expect(
     rt: &impl Abort,
     alloc: Global,
@@ -251,6 +210,7 @@ pub(crate) fn expect(
     call: &Call<'_>,
     wanted: &Wanted<'_>,
 ) -> Result<(), Memory> {
-    assert_eq!(rt; difference(alloc, call, wanted)?, "", "{name}");
+    let ended = end_of(alloc, call)?;
+    assert_eq!(rt; compared(&ended, call, wanted), "", "{name}");
     Ok(())
 }

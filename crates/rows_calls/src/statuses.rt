@@ -1,9 +1,9 @@
 //! The exit status and the printed line of each status.
 
-use crate::{Status, code, status_line};
 use fsb_audit::FoulAt;
 use fsb_rules::Broken;
 use fsb_script::{Cause, ScriptFault};
+use fsb_top::{Status, code, status_line};
 use vcd_read::{VcdCause, VcdFault};
 
 /// Each status but those of a first fault: its exit status, and its line.

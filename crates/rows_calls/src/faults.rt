@@ -1,27 +1,27 @@
 //! Each call of an object fails once.
 
-use super::dumps::{Dump, changed, joined, text_of};
-use super::looks::{AUDIT, FIND, FIRST_TABLE, FIRST_WAVE, SHOW, WAVE};
-use super::made::{LEAST, LEAST_SUMMARY};
-use super::runs::{EMPTY, EMPTY_LOG};
-use super::{
-    CHECK, Call, FIRST, FIRST_LOG, Fails, NAMED, NO_FAILS, Wanted, call_of, compared, end_of,
-    expect, lines_of, told,
+use crate::calls::{
+    CHECK, Call, FIRST, FIRST_LOG, Fails, NAMED, NO_FAILS, Wanted, call_of, end_of, expect,
+    lines_of, told,
 };
-use crate::{Status, code};
+use crate::dumps::{Text, changed, clock_text, joined, text_of};
+use crate::looks::{AUDIT, FIND, FIRST_TABLE, FIRST_WAVE, SHOW, WAVE};
+use crate::made::{LEAST, LEAST_SUMMARY};
 use fsb_io::Memory;
+use fsb_top::{Status, code};
 use rows_store::{NO_SAMPLES, SIMULATOR_HEAD, SIMULATOR_RISES, SIMULATOR_START};
 use std::alloc::Global;
 use std::process::Abort;
 use std::test::Fail;
 
-/// A call that ends with `Done`: how often it calls the source and the dump, and what it prints.
+/// A call that ends with `Done`: how often it calls the source, what it prints, how often it calls the dump, and what it dumps.
 #[derive(Clone, Copy)]
 struct Whole<'a> {
     call: Call<'a>,
     reads: u32,
+    out: &'a [u8],
     dumps: u32,
-    out: &'a str,
+    dump: &'a [u8],
 }
 
 /// Expects that each call of the source and of `out` is told where it fails, and that there are no more calls than these.
@@ -29,7 +29,9 @@ fn expect_faults(rt: &impl Abort, alloc: Global, whole: &Whole<'_>) -> Result<()
     for read in 0..whole.reads {
         expect_read_fault(rt, alloc, whole, read)?;
     }
-    expect_write_faults(rt, alloc, whole)?;
+    for line in 0..lines_of(whole.out).min(1_000) as u32 {
+        expect_write_fault(rt, alloc, whole, line)?;
+    }
     expect_no_fault(rt, alloc, whole)
 }
 
@@ -49,28 +51,8 @@ fn expect_read_fault(
         fails,
         ..whole.call
     };
-    let wanted = Wanted {
-        status: Status::ReadFault,
-        out: b"",
-        calls: (u64::from(read) + 1, 0, 0),
-    };
+    let wanted = told(u64::from(read) + 1, Status::ReadFault, b"");
     expect(rt, alloc, "a read", &call, &wanted)
-}
-
-/// Expects for each line that its call of `out` is told where it fails.
-fn expect_write_faults(rt: &impl Abort, alloc: Global, whole: &Whole<'_>) -> Result<(), Memory> {
-    let text = whole.out.as_bytes();
-    let mut line = 0_u32;
-    let mut printed = 0;
-    for place in 0..text.len() {
-        if text[place] == b'\n' {
-            let before = text.get(..printed).unwrap_or(b"");
-            expect_write_fault(rt, alloc, whole, line, before)?;
-            line = line.saturating_add(1);
-            printed = place + 1;
-        }
-    }
-    Ok(())
 }
 
 /// Expects that this call of `out` is told where it fails, that what was printed before it stays, and that the dump is not begun.
@@ -79,7 +61,6 @@ fn expect_write_fault(
     alloc: Global,
     whole: &Whole<'_>,
     line: u32,
-    before: &[u8],
 ) -> Result<(), Memory> {
     let out = [line];
     let fails = Fails {
@@ -90,12 +71,26 @@ fn expect_write_fault(
         fails,
         ..whole.call
     };
+    let before = first_lines(whole.out, line as usize);
     let wanted = Wanted {
-        status: Status::WriteFault,
-        out: before,
         calls: (u64::from(whole.reads), u64::from(line) + 1, 0),
+        ..told(0, Status::WriteFault, before)
     };
     expect(rt, alloc, "a write", &call, &wanted)
+}
+
+/// So many lines of the text, or all that it has.
+fn first_lines(text: &[u8], lines: usize) -> &[u8] {
+    let mut left = lines;
+    for place in 0..text.len() {
+        if left == 0 {
+            return &text[..place];
+        }
+        if text[place] == b'\n' {
+            left -= 1;
+        }
+    }
+    text
 }
 
 /// Expects that there is no further call: none of those fails.
@@ -113,68 +108,61 @@ fn expect_no_fault(rt: &impl Abort, alloc: Global, whole: &Whole<'_>) -> Result<
     };
     let wanted = Wanted {
         status: Status::Done,
-        out: whole.out.as_bytes(),
+        out: whole.out,
+        dump: Some(whole.dump),
         calls: (u64::from(whole.reads), lines, u64::from(whole.dumps)),
     };
     expect(rt, alloc, "no further call", &call, &wanted)
 }
 
-/// Commands over what there is of the first run, its bench file or its dump, the third number of those of the dump's calls.
-const OVER_THE_FIRST_RUN: [(&[&str], Dump<'static>, bool, u32, &str); 6] = [
-    (&NAMED, Dump::Texts(&[FIRST]), false, 62, FIRST_LOG),
-    (&CHECK, Dump::OfRun(FIRST), false, 0, "accepted clocks=60\n"),
-    (
-        &AUDIT,
-        Dump::OfRun(FIRST),
-        false,
-        0,
-        "clean clocks=60 chunks=4\n",
-    ),
-    (
-        &FIND,
-        Dump::OfRun(FIRST),
-        false,
-        0,
-        "found clock=8 steps=2,8\n",
-    ),
-    (&WAVE, Dump::OfRun(FIRST), false, 0, FIRST_WAVE),
-    (&SHOW, Dump::OfRun(FIRST), true, 0, FIRST_TABLE),
+/// Commands over the dump of the first run: the words, whether there are probes, and what is printed.
+const OVER_THE_FIRST_DUMP: [(&[&str], bool, &str); 5] = [
+    (&CHECK, false, "accepted clocks=60\n"),
+    (&AUDIT, false, "clean clocks=60 chunks=4\n"),
+    (&FIND, false, "found clock=8 steps=2,8\n"),
+    (&WAVE, false, FIRST_WAVE),
+    (&SHOW, true, FIRST_TABLE),
 ];
 
-/// The same of a call with these words over this text, which is begun, read, and read again at its end.
-fn expect_faults_over<'a>(
-    rt: &impl Abort,
-    alloc: Global,
-    words: &'a [&'a str],
-    text: &'a [u8],
-    probes: bool,
-    dumps: u32,
-    out: &'a str,
-) -> Result<(), Memory> {
-    let whole = Whole {
-        call: Call {
-            probes,
-            ..call_of(words, text)
-        },
-        reads: 3,
-        dumps,
-        out,
-    };
-    expect_faults(rt, alloc, &whole)
+#[test]
+fn each_read_and_each_write_of_a_look_fails(rt: HostRuntime) -> Result<(), Fail> {
+    let text = text_of(rt.alloc(), &Text::OfRun(FIRST))?;
+    for (words, probes, out) in OVER_THE_FIRST_DUMP.iter() {
+        let call = Call {
+            probes: *probes,
+            ..call_of(*words, &text)
+        };
+        // The file is begun, read, and read again at its end.
+        let whole = Whole {
+            call,
+            reads: 3,
+            out: out.as_bytes(),
+            dumps: 0,
+            dump: b"",
+        };
+        expect_faults(&rt, rt.alloc(), &whole)?;
+    }
+    Ok(())
 }
 
 #[test]
-fn each_read_and_each_write_fails(rt: HostRuntime) -> Result<(), Fail> {
-    for (words, dump, probes, dumps, out) in OVER_THE_FIRST_RUN.iter() {
-        let text = text_of(rt.alloc(), dump)?;
-        expect_faults_over(&rt, rt.alloc(), *words, &text, *probes, *dumps, *out)?;
-    }
+fn each_read_and_each_write_of_a_run_fails(rt: HostRuntime) -> Result<(), Fail> {
+    let dump = text_of(rt.alloc(), &Text::OfRun(FIRST))?;
+    let run = Whole {
+        call: call_of(&NAMED, FIRST.as_bytes()),
+        reads: 3,
+        out: FIRST_LOG.as_bytes(),
+        dumps: 62,
+        dump: &dump,
+    };
+    expect_faults(&rt, rt.alloc(), &run)?;
     // A plan that is made from a seed reads nothing.
     let made = Whole {
         call: call_of(&LEAST, b""),
         reads: 0,
+        out: LEAST_SUMMARY.as_bytes(),
         dumps: 0,
-        out: LEAST_SUMMARY,
+        dump: b"",
     };
     expect_faults(&rt, rt.alloc(), &made)?;
     Ok(())
@@ -198,8 +186,9 @@ fn each_call_of_a_long_check_fails(rt: HostRuntime) -> Result<(), Fail> {
     let whole = Whole {
         call: call_of(&CHECK, &text),
         reads: 4,
+        out: b"accepted clocks=6000\n",
         dumps: 0,
-        out: "accepted clocks=6000\n",
+        dump: b"",
     };
     expect_faults(&rt, rt.alloc(), &whole)?;
     Ok(())
@@ -222,68 +211,43 @@ const CHANGES: [&str; 13] = [
     "13\n",
 ];
 
-/// What the dump of the first run has of a clock.
-fn clock_text(alloc: Global, clock: u32) -> Result<String, Memory> {
-    if clock == 0 {
-        return Ok(String::from_str(alloc, "#5\n1!\n")?);
+/// What a call of the dump adds to it in the first run: the begin nothing, then the header and the first values, and then the clocks.
+fn piece(alloc: Global, call: u32) -> Result<Vec<u8>, Memory> {
+    match call {
+        0 => Ok(Vec::new(alloc)),
+        1 => Ok(changed(alloc, NO_SAMPLES, "1\"\n", "0\"\n")?),
+        2 => Ok(joined(alloc, &["#5\n1!\n"])?),
+        _ => {
+            let clock = call - 2;
+            let changes = CHANGES.get(clock as usize).copied().unwrap_or("");
+            Ok(clock_text(alloc, clock, changes)?.into_bytes())
+        }
     }
-    let changes = CHANGES.get(clock as usize).copied().unwrap_or("");
-    let rise = u64::from(clock) * 10 + 5;
-    Ok(format!(in alloc; "#{}0\n0!\n{changes}#{rise}\n1!\n", clock)?)
-}
-
-/// Adds what a call of the dump adds to it: the begin nothing, then the header and the first values, and then the clocks.
-fn add_piece(alloc: Global, text: &mut Vec<u8>, call: u32) -> Result<(), Memory> {
-    if call == 1 {
-        let asked = changed(alloc, NO_SAMPLES, "1\"\n", "0\"\n")?;
-        text.extend_from_slice(&asked)?;
-    } else if call > 1 {
-        let piece = clock_text(alloc, call - 2)?;
-        text.extend_from_slice(piece.as_bytes())?;
-    }
-    Ok(())
-}
-
-/// Names what is otherwise than it is wanted of a run with this dump, if anything is.
-fn dump_difference(
-    alloc: Global,
-    bench: &str,
-    fails: Fails<'_>,
-    wanted: &Wanted<'_>,
-    dump: &[u8],
-) -> Result<&'static str, Memory> {
-    let call = Call {
-        fails,
-        ..call_of(&NAMED, bench.as_bytes())
-    };
-    let ended = end_of(alloc, &call)?;
-    Ok(if ended.dump.holds() == dump {
-        compared(&ended, &call, wanted)
-    } else {
-        "what is dumped"
-    })
 }
 
 /// Expects that this call of the first run's dump is told where it fails, and what was dumped before it stays.
 fn expect_dump_fault(
     rt: &impl Abort,
     alloc: Global,
-    call: u32,
+    number: u32,
     before: &[u8],
 ) -> Result<(), Memory> {
-    let dump = [call];
+    let dump = [number];
     let fails = Fails {
         dump: &dump,
         ..NO_FAILS
     };
+    let call = Call {
+        fails,
+        ..call_of(&NAMED, FIRST.as_bytes())
+    };
     let wanted = Wanted {
         status: Status::DumpFault,
-        calls: (3, 3, u64::from(call) + 1),
-        ..told(Status::DumpFault, FIRST_LOG)
+        out: FIRST_LOG.as_bytes(),
+        dump: Some(before),
+        calls: (3, 3, u64::from(number) + 1),
     };
-    let told = dump_difference(alloc, FIRST, fails, &wanted, before)?;
-    assert_eq!(rt; told, "", "at call {call}");
-    Ok(())
+    expect(rt, alloc, "a write of the dump", &call, &wanted)
 }
 
 #[test]
@@ -291,25 +255,21 @@ fn each_write_of_a_dump_fails(rt: HostRuntime) -> Result<(), Fail> {
     let mut text = Vec::new(rt.alloc());
     for call in 0..62 {
         expect_dump_fault(&rt, rt.alloc(), call, &text)?;
-        add_piece(rt.alloc(), &mut text, call)?;
+        text.extend_from_slice(&piece(rt.alloc(), call)?)?;
     }
-    let wanted = Wanted {
+    let whole = Wanted {
+        status: Status::Done,
+        out: FIRST_LOG.as_bytes(),
+        dump: Some(&text),
         calls: (3, 3, 62),
-        ..told(Status::Done, FIRST_LOG)
     };
-    let whole = dump_difference(rt.alloc(), FIRST, NO_FAILS, &wanted, &text)?;
-    assert_eq!(rt; whole, "");
-    Ok(())
-}
-
-#[test]
-fn empty_run(rt: HostRuntime) -> Result<(), Fail> {
-    let wanted = Wanted {
-        calls: (3, 1, 2),
-        ..told(Status::Done, EMPTY_LOG)
-    };
-    let whole = dump_difference(rt.alloc(), EMPTY, NO_FAILS, &wanted, NO_SAMPLES.as_bytes())?;
-    assert_eq!(rt; whole, "");
+    expect(
+        &rt,
+        rt.alloc(),
+        "the whole dump",
+        &call_of(&NAMED, FIRST.as_bytes()),
+        &whole,
+    )?;
     Ok(())
 }
 
@@ -324,8 +284,13 @@ fn read_fault_is_told_before_a_fault_of_the_dump(rt: HostRuntime) -> Result<(), 
         fails,
         ..call_of(&CHECK, b"0a")
     };
-    let wanted = told(Status::ReadFault, "");
-    expect(&rt, rt.alloc(), "at the end", &call, &wanted)?;
+    expect(
+        &rt,
+        rt.alloc(),
+        "at the end",
+        &call,
+        &told(3, Status::ReadFault, b""),
+    )?;
     Ok(())
 }
 

@@ -1,9 +1,10 @@
 //! The worked runs: what each prints, and its dump is accepted.
 
-use super::{CHECK, NAMED, call_of, difference, end_of, told};
-use crate::Status;
+use crate::calls::{CHECK, NAMED, call_of, end_of, expect, told};
 use fsb_io::Memory;
+use fsb_top::Status;
 use std::alloc::Global;
+use std::process::Abort;
 use std::test::Fail;
 
 /// Each worked run: its name, its bench file and its log. The last ones are of profile 2.
@@ -753,33 +754,29 @@ fn accepted(alloc: Global, log: &str) -> Result<String, Memory> {
     Ok(format!(in alloc; "accepted clocks={clocks}\n")?)
 }
 
-/// Names what is otherwise than that the dump of the run with this log is accepted, if anything is.
-fn check_difference(alloc: Global, dump: &[u8], log: &str) -> Result<&'static str, Memory> {
+/// Expects that the run of a bench file has this log, and that its dump is accepted.
+fn expect_run(
+    rt: &impl Abort,
+    alloc: Global,
+    name: &str,
+    bench: &str,
+    log: &str,
+) -> Result<(), Memory> {
+    let run = end_of(alloc, &call_of(&NAMED, bench.as_bytes()))?;
+    assert!(rt;
+        run.status == Status::Done && run.out.holds() == log.as_bytes(),
+        "{name}"
+    );
     let line = accepted(alloc, log)?;
-    difference(
-        alloc,
-        &call_of(&CHECK, dump),
-        &told(Status::Done, line.as_str()),
-    )
-}
-
-/// Names what is otherwise than that the run has this log, and its dump is accepted, if anything is.
-fn run_difference(alloc: Global, text: &str, log: &str) -> Result<&'static str, Memory> {
-    let run = end_of(alloc, &call_of(&NAMED, text.as_bytes()))?;
-    if run.status != Status::Done {
-        Ok("the status")
-    } else if run.out.holds() != log.as_bytes() {
-        Ok("the log")
-    } else {
-        check_difference(alloc, run.dump.holds(), log)
-    }
+    let wanted = told(3, Status::Done, line.as_bytes());
+    expect(rt, alloc, name, &call_of(&CHECK, run.dump.holds()), &wanted)
 }
 
 /// The log is compared whole. Of the dump it is looked that its check accepts it: rows_benches compares the trace.
 #[test]
 fn worked_runs(rt: HostRuntime) -> Result<(), Fail> {
-    for (name, text, log) in ROWS.iter() {
-        assert_eq!(rt; run_difference(rt.alloc(), *text, *log)?, "", "{name}");
+    for (name, bench, log) in ROWS.iter() {
+        expect_run(&rt, rt.alloc(), *name, *bench, *log)?;
     }
     Ok(())
 }
