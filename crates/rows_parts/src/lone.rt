@@ -1,17 +1,20 @@
 //! One agent's requests over a list of choices, driven by the arbiter, the queue and the phases: a loop that meets what
 //! they ask of their caller at each clock, and makes a trace that breaks no rule.
 
-use crate::tests::QUIET;
-use crate::{Drive, Phased, Phases};
+ghost use Rattle.std.specs.Prelude.{◌<◌, ◌^◌, length};
+
+use crate::phases::{QUIET, settle};
+use crate::rows::expect;
 use fsb_arbiter::Arbiter;
 use fsb_encode::{Kind, Pair, Request, encode};
 use fsb_hazard::{Choice, Turn};
 use fsb_io::Memory;
+use fsb_phase::{Drive, Phased, Phases};
 use fsb_queue::{Entry, Queue};
-use fsb_signal::{Lines, Marks, Sample};
+use fsb_signal::Sample;
 use fsb_trace::{Outcome, Who, end_of, outcome_of, requests, response, snoop_end, verdict};
+use rows_store::{ADS, AERR, BREQ0, DBSY, DEFER, DRDY, HIT, HITM, RS0, TRDY, UNMARKED, sample};
 use std::alloc::Global;
-use std::process::Abort;
 
 /// The three machines, what they made of the bus so far, and what the agent is about to do.
 #[derive(Drop)]
@@ -49,28 +52,18 @@ fn outcome(choice: &Choice) -> Outcome {
     }
 }
 
-/// What becomes of the request at this place of the queue, if it has this number.
-fn outcome_at(queue: &Queue, i: usize, number: Option<u32>) -> Option<Outcome> {
-    match queue.at(i) {
-        Some(e) if Some(e.number) == number => Some(outcome(&e.choice)),
-        _ => None,
-    }
-}
-
-/// The line, where it is asserted.
-fn line_if(is_asserted: bool, line: Lines) -> u32 {
-    if is_asserted { line.0 } else { 0 }
+/// The lines, where they are asserted.
+fn lines_if(are_asserted: bool, lines: u32) -> u32 {
+    if are_asserted { lines } else { 0 }
 }
 
 /// The lines that are driven.
 fn driven(drive: &Drive) -> u32 {
-    let code = u32::from(drive.rs % 8) * Lines::RS0.0;
-    line_if(drive.stall, Lines::HIT)
-        .wrapping_add(line_if(drive.stall, Lines::HITM))
-        .wrapping_add(line_if(drive.trdy, Lines::TRDY))
-        .wrapping_add(line_if(drive.dbsy, Lines::DBSY))
-        .wrapping_add(line_if(drive.chunk.is_some(), Lines::DRDY))
-        .wrapping_add(code)
+    lines_if(drive.stall, HIT | HITM)
+        | lines_if(drive.trdy, TRDY)
+        | lines_if(drive.dbsy, DBSY)
+        | lines_if(drive.chunk.is_some(), DRDY)
+        | u32::from(drive.rs % 8) * RS0
 }
 
 /// The words of both clocks of a read with this number, which is lawful.
@@ -123,46 +116,35 @@ impl Bus {
             && self.arbiter.winner() == Some(Who::Symmetric(0))
     }
 
-    /// Whether there is DEFER#: at a snoop end whose request is to be retried.
-    fn defers(&self, drive: &Drive) -> bool {
-        if drive.stall {
-            return false;
-        }
-        for i in 0..8 {
-            if outcome_at(&self.queue, i, drive.snoop) == Some(Outcome::Retried) {
-                return true;
+    /// What becomes of the request with this number, if it is in the queue.
+    fn outcome_of(&self, number: Option<u32>) -> Option<Outcome> {
+        for e in self.queue.iter() {
+            if Some(e.number) == number {
+                return Some(outcome(&e.choice));
             }
         }
-        false
+        None
     }
 
-    /// The lines of the clock: what the phases drive, and what the agent does.
+    /// The lines of the clock: what the phases drive, and what the agent does. There is DEFER# at a snoop end whose request is to be
+    /// retried.
     fn lines(&self, drive: &Drive, choices: &[Choice]) -> u32 {
         let asks = self.wants(choices) && self.since != 1;
+        let defers = !drive.stall && self.outcome_of(drive.snoop) == Some(Outcome::Retried);
         driven(drive)
-            .wrapping_add(line_if(self.defers(drive), Lines::DEFER))
-            .wrapping_add(line_if(asks, Lines::BREQ0))
-            .wrapping_add(line_if(self.error().is_some(), Lines::AERR))
-            .wrapping_add(line_if(self.begins(choices), Lines::ADS))
-    }
-
-    /// Gives the request with this number its outcome.
-    fn settle(&mut self, number: Option<u32>) {
-        for i in 0..8 {
-            let found = outcome_at(&self.queue, i, number);
-            if let Some(outcome) = found {
-                if i < self.queue.len() {
-                    self.queue.settle(i, outcome);
-                }
-            }
-        }
+            | lines_if(defers, DEFER)
+            | lines_if(asks, BREQ0)
+            | lines_if(self.error().is_some(), AERR)
+            | lines_if(self.begins(choices), ADS)
     }
 
     /// Takes what happened at the clock into the queue.
     fn pass(&mut self, clock: u32, phased: &Phased) -> Result<(), Memory> {
-        if phased.snooped.is_some() {
+        if let Some(number) = phased.snooped {
             self.snooped.push(clock)?;
-            self.settle(phased.snooped);
+            if let Some(outcome) = self.outcome_of(phased.snooped) {
+                settle(&mut self.queue, number, outcome);
+            }
         }
         if phased.ended.is_some() {
             self.ended.push(clock)?;
@@ -201,12 +183,7 @@ impl Bus {
         };
         let put = if begins { Some(first) } else { self.second };
         let on_bus = put.unwrap_or(Pair { addr: 0, req: 0 });
-        let sample = Sample::known(
-            Lines(lines % (1 << 21)),
-            on_bus.req % 32,
-            on_bus.addr % (1 << 33),
-            0,
-        );
+        let sample = sample((lines, u64::from(on_bus.req), on_bus.addr));
         let phased = self.phases.absorb(clock, &sample, &self.queue);
         self.arbiter.absorb(&sample);
         self.trace.push(sample)?;
@@ -221,30 +198,6 @@ impl Bus {
         }
         Ok(())
     }
-}
-
-/// Runs the loop and asserts that its trace is accepted, has each request that began, and has the snoop ends, responses
-/// and ends that were told.
-fn expect_accepted(rt: &impl Abort, alloc: Global, choices: &[Choice], clocks: u32, live: u32) {
-    let mut bus = Bus::new(alloc).expect(rt, "out of memory");
-    for clock in 0..clocks {
-        bus.step(clock, choices).expect(rt, "out of memory");
-    }
-    let w = &bus.trace;
-    assert!(rt; w.len() < 1 << 32);
-    assert_eq!(rt; verdict(Marks::of_profile(1), w), None);
-    let seen = requests(alloc, w).expect(rt, "out of memory");
-    assert_eq!(rt; seen.len(), choices.len());
-    assert_eq!(rt; bus.queue.len(), 0);
-    assert_eq!(rt; bus.snooped.len(), live as usize);
-    assert_eq!(rt; bus.ended.len(), live as usize);
-    for i in 0..live {
-        assert_eq!(rt; snoop_end(w, i), bus.snooped.get(i as usize).copied());
-        assert_eq!(rt; end_of(w, i), bus.ended.get(i as usize).copied());
-        assert!(rt; outcome_of(w, i).is_some());
-        assert!(rt; response(w, i).is_some());
-    }
-    assert_eq!(rt; snoop_end(w, live), None);
 }
 
 /// Choices of every hazard that a request has.
@@ -288,12 +241,50 @@ const HAZARDS: [Choice; 9] = [
     QUIET,
 ];
 
-#[test]
-fn quiet_requests(rt: HostRuntime) {
-    expect_accepted(&rt, rt.alloc(), &[QUIET; 6], 80, 6);
+/// The choices of the requests, the clocks, and how many of the requests are not cancelled.
+const ROWS: [(&str, &[Choice], u32, u32); 2] = [
+    ("quiet requests", &[QUIET; 6], 80, 6),
+    ("requests with each hazard of a request", &HAZARDS, 400, 7),
+];
+
+/// Whether the trace has the snoop end, the response and the end of live request `i` that were told.
+fn has_told(bus: &Bus, i: u32) -> bool
+    requires { length bus.now.trace.items < 2 ^ 32 }
+{
+    let w = bus.trace.as_slice();
+    snoop_end(w, i) == bus.snooped.get(i as usize).copied()
+        && end_of(w, i) == bus.ended.get(i as usize).copied()
+        && outcome_of(w, i).is_some()
+        && response(w, i).is_some()
 }
 
+/// The trace of each loop is accepted, has each request that began, and has the snoop ends, responses and ends that were told.
 #[test]
-fn requests_with_each_hazard_of_a_request(rt: HostRuntime) {
-    expect_accepted(&rt, rt.alloc(), &HAZARDS, 400, 7);
+fn traces_of_the_loop_are_accepted(rt: HostRuntime) {
+    for (name, choices, clocks, live) in ROWS {
+        let mut bus = Bus::new(rt.alloc()).expect(&rt, "out of memory");
+        for clock in 0..clocks {
+            bus.step(clock, choices).expect(&rt, "out of memory");
+        }
+        assert!(rt; bus.trace.len() < 1 << 32);
+        let seen = requests(rt.alloc(), &bus.trace).expect(&rt, "out of memory");
+        expect(&rt, name, 0, verdict(UNMARKED, &bus.trace).is_none());
+        expect(
+            &rt,
+            name,
+            1,
+            seen.len() == choices.len() && bus.queue.len() == 0,
+        );
+        let told = live as usize;
+        expect(
+            &rt,
+            name,
+            2,
+            bus.snooped.len() == told && bus.ended.len() == told,
+        );
+        expect(&rt, name, 3, snoop_end(&bus.trace, live).is_none());
+        for i in 0..live {
+            expect(&rt, name, 4, has_told(&bus, i));
+        }
+    }
 }
