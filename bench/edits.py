@@ -12,7 +12,7 @@ For each edit a line is printed: the crate, the edit, and
   passed        the crate is proved with the edit in it
   bad           it does not apply, or the prover cannot read the crate with it
   not tried     `rt` told nothing of it, as where a crate below is not proved
-The last line counts them. The status is 1 where one was not refused.
+The last line counts them. The status is 1 where one passed, is bad or was not tried.
 """
 
 import collections
@@ -89,7 +89,7 @@ def main():
         for crate in crates:
             counts += judge(copy, crate)
     print("%d edits, %s" % (sum(counts.values()), ", ".join("%d %s" % (n, word) for word, n in sorted(counts.items()))))
-    return 0 if set(counts) <= {"refused"} else 1
+    return 0 if set(counts) <= {"refused", "names"} else 1
 
 
 if __name__ == "__main__":

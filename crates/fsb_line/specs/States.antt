@@ -1,5 +1,5 @@
 -- The states of an agent, the kinds of requests, and what a snoop end makes of a state.
-use Rattle.std.specs.Prelude.{not, Bool, true, false, cond, Option, Some, None}
+use Rattle.std.specs.Prelude.{not, Bool, true, false, cond}
 use Rattle.fsb_line.specs.declared.purpose.Purpose.{Purpose}
 use Rattle.fsb_line.specs.declared.purpose.Purpose.TheVariants.{Own, Read, Upgrade, WriteBack}
 use Rattle.fsb_line.specs.declared.purpose.Ruling.{Ruling}
@@ -104,13 +104,6 @@ answer_of Invalid = answers.Clean
 answer_of Shared = answers.Hit
 answer_of Exclusive = answers.Hit
 answer_of Modified = answers.Modified
-
--- the request that an access needs first, which wants the line alone or not; none where the state serves it
-abbrev pub wanted : Mesi → Bool → Bool → Option Purpose
-wanted Invalid alone upgrades = Some (cond alone Own Read)
-wanted Shared alone upgrades = cond alone (Some (cond upgrades Upgrade Own)) None
-wanted Exclusive alone upgrades = None
-wanted Modified alone upgrades = None
 
 -- a request is held off while another agent's is open: a write-back
 abbrev pub is_held_off : Purpose → Bool → Bool

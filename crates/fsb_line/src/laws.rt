@@ -66,7 +66,7 @@ pub fn flat_memory_replays_the_stores()
     ensures { (x : MemoryLine) (es : List Event) → (run x es).now ≡ stored_by_all x es x.now }
 {}
 
-/// Every snoop end that may happen comes out as `Purpose::settled` decides.
+/// Every snoop end that may happen comes out as `settled_as` decides.
 #[tactic(auto, using(crate::proofs::Theorem::snoop_end_decided))]
 pub fn snoop_ends_come_out_as_decided()
     ensures { (x : MemoryLine) (e : Event) → May x e → IsDecidedEnd x e }

@@ -3,11 +3,11 @@
 //!
 //! The line is a record of specs/, its events are a type, and coherence is a theorem over every
 //! list of events that may happen (`laws`). `witness` has runs that meet the conditions of the
-//! events, `needed` runs that go wrong where a condition is left out. The functions of `Mesi`,
-//! `Purpose` and `Link` are the words that the events use, as calls. Of these the agents call
-//! `Mesi::answer`, `after_snoop`, `granted`, `is_held`, `is_sole` and `Purpose::owns`; what else the
-//! agents and the bus decide, fsb_coherent ties to the events of a line, clock by clock. No clock,
-//! queue, cache set or address stands here. docs/coherence.md tells the argument.
+//! events, `needed` runs that go wrong where a condition is left out. The functions of `Mesi` and
+//! `Purpose` are words of the events that the agents call; what else agents and bus decide,
+//! fsb_coherent ties to the events of a line, clock by clock. `Link`, `Ruling` and `Settled` are
+//! types that the definitions speak of. No clock, queue, cache set or address stands here.
+//! docs/coherence.md tells the argument.
 #![tactic(auto)]
 
 pub use link::Link;
@@ -19,6 +19,4 @@ mod link;
 pub mod needed;
 mod purpose;
 mod state;
-#[cfg(test)]
-mod tests;
 pub mod witness;

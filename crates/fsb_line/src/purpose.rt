@@ -14,38 +14,13 @@ pub enum Purpose {
 
 impl Purpose {
     ghost use Rattle.std.specs.Prelude.{◌≡◌};
-    ghost use Rattle.fsb_line.specs.States.{is_held_off, kind_owns, settled_as};
+    ghost use Rattle.fsb_line.specs.States.{kind_owns};
 
     /// Whether a request of this kind makes its agent the owner of the line.
     pub fn owns(self) -> bool
         ensures { result ≡ kind_owns self }
     {
         matches!(self, Purpose::Own | Purpose::Upgrade)
-    }
-
-    /// Whether a request of this kind is held off, where another agent's request on the line has no
-    /// snoop end yet or none has. Only a write-back is: the other agent may still take the line.
-    pub fn is_held_off(self, other_is_open: bool) -> bool
-        ensures { result ≡ is_held_off self other_is_open }
-    {
-        self == Purpose::WriteBack && other_is_open
-    }
-
-    /// How a request of this kind is settled at its snoop end: by another agent that has the line
-    /// Modified (`owned`), by a deferral of the line that awaits its reply (`pending`), and by what
-    /// the bus was told (`turn`), in this order.
-    pub fn settled(self, owned: bool, pending: bool, turn: Ruling) -> Settled
-        ensures { result ≡ settled_as self owned pending turn }
-    {
-        match (self, turn) {
-            _ if owned => Settled::Handed,
-            (Purpose::WriteBack, _) => Settled::Written,
-            _ if pending => Settled::Retried,
-            (_, Ruling::Retry) => Settled::Retried,
-            (Purpose::Read | Purpose::Own, Ruling::Defer) => Settled::Deferred,
-            (Purpose::Read | Purpose::Own, Ruling::Keep) => Settled::Granted,
-            (Purpose::Upgrade, Ruling::Keep | Ruling::Defer) => Settled::Upgraded,
-        }
     }
 }
 

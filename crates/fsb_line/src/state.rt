@@ -1,4 +1,4 @@
-use crate::purpose::{Purpose, Settled};
+use crate::purpose::Purpose;
 
 /// The state of a line at one agent.
 #[derive(Clone, Copy, Debug, PartialEq, Eq)]
@@ -15,17 +15,8 @@ pub enum Mesi {
 }
 
 impl Mesi {
-    ghost use Rattle.std.specs.Prelude.{◌≡◌, IfSome, IsTrue};
-    ghost use Rattle.fsb_line.specs.States.{
-      after_snoop,
-      answer_of,
-      granted,
-      is_held,
-      is_sole,
-      state_after,
-      suits,
-      wanted,
-    };
+    ghost use Rattle.std.specs.Prelude.{◌≡◌};
+    ghost use Rattle.fsb_line.specs.States.{after_snoop, answer_of, granted, is_held, is_sole};
 
     /// Whether the agent holds the line.
     pub fn is_held(self) -> bool
@@ -53,23 +44,6 @@ impl Mesi {
         }
     }
 
-    /// The request that an access needs first: none where the state serves it. An access that isn't
-    /// a plain load wants the line `alone`. `upgrades` says that the bus knows upgrades.
-    pub fn wanted(self, alone: bool, upgrades: bool) -> Option<Purpose>
-        ensures value { result ≡ wanted self alone upgrades }
-        ensures suited { IfSome result (λ kind. IsTrue (suits kind self)) }
-        ensures serves { result ≡ None → IsTrue (is_held self) }
-        ensures serves_alone { result ≡ None → IsTrue alone → IsTrue (is_sole self) }
-    {
-        match self {
-            Mesi::Exclusive | Mesi::Modified => None,
-            Mesi::Shared if !alone => None,
-            Mesi::Shared if upgrades => Some(Purpose::Upgrade),
-            Mesi::Invalid if !alone => Some(Purpose::Read),
-            Mesi::Shared | Mesi::Invalid => Some(Purpose::Own),
-        }
-    }
-
     /// The state in which a request of this kind gets its line. `shared` says that another agent
     /// was seen to hold the line.
     pub fn granted(kind: Purpose, shared: bool) -> Mesi
@@ -91,22 +65,6 @@ impl Mesi {
             Purpose::Read if self.is_held() => Mesi::Shared,
             Purpose::Own | Purpose::Upgrade => Mesi::Invalid,
             Purpose::Read | Purpose::WriteBack => self,
-        }
-    }
-
-    /// The state after a snoop end: of the agent's own request where `mine`, else of another's.
-    /// A reply has the kind of the request that it answers, and `shared` is what that one saw.
-    pub fn state_after(self, mine: bool, kind: Purpose, settled: Settled, shared: bool) -> Mesi
-        ensures { result ≡ state_after self mine kind settled shared }
-    {
-        match settled {
-            Settled::Replied if !mine => self,
-            _ if !mine => self.after_snoop(kind),
-            Settled::Granted | Settled::Replied => Mesi::granted(kind, shared),
-            Settled::Handed => Mesi::granted(kind, true),
-            Settled::Upgraded if self.is_held() => Mesi::Modified,
-            Settled::Upgraded | Settled::Written => Mesi::Invalid,
-            Settled::Retried | Settled::Deferred => self,
         }
     }
 }

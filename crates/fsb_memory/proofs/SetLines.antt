@@ -1,14 +1,14 @@
 -- Settings of one line, put one after the other.
 use Rattle.std.proofs.Common.{◌≡◌, ℕ, ◌+◌, ◌/◌, ◌%◌, ◌<◌, cond, ◌&&◌, ◌||◌, List, [], ◌∷◌, ◌++◌, length, get_or, set}
-use Rattle.std.proofs.Common.{take, drop, Bool, sym, ap, ◌∙◌, ⊎_elim, arith, add-one}
+use Rattle.std.proofs.Common.{true, take, drop, Bool, sym, ap, ◌∙◌, ⊎_elim, arith, add-one}
 use Rattle.std.proofs.lemmas.Bool.{cases_eq}
 use Rattle.std.proofs.lemmas.Bool.Decides.{nat_tests}
-use Rattle.std.proofs.lemmas.List.Sums.{fold_more, fold-append}
+use Rattle.std.proofs.lemmas.List.Sums.{fold_more, fold-append, prefix_len-drop_yes}
 use Rattle.std.proofs.lemmas.List.Folds.{list_any-append}
 use Rattle.std.proofs.Math.Bool.{or_comm}
 use Rattle.std.proofs.Math.Seq.{take-suc, take-add}
 use Rattle.std.specs.Prelude.{◌==◌, nat_lt}
-use Rattle.std.specs.List.{list_any}
+use Rattle.std.specs.List.{list_any, prefix_len}
 use Rattle.fsb_access.specs.declared.access.Setting.{Setting}
 use Rattle.fsb_memory.specs.Controller.{is_in_line, set_byte, set_bytes}
 
@@ -51,6 +51,15 @@ names_so_far-more line settings count setting sofar below is of other =
     ap (λ n. take n settings) (add-one count) ∙ take-suc settings count no_setting below
     ∙ ap (λ s. take count settings ++ s ∷ []) (sym is) in
     rw (more, list_any-append, sofar other) (grind (arith, nat_tests))
+
+-- how many settings from a place on are of the line: one more than from the next place on
+pub in_line-more :
+    (line : ℕ) (settings : List Setting) (count : ℕ) → count < length settings
+    → (get_or settings count no_setting).addr / 32 ≡ line
+    → prefix_len (is_in_line line) (drop count settings) ≡ 1 + prefix_len (is_in_line line) (drop (count + 1) settings)
+in_line-more line settings count below of =
+    let here : is_in_line line (get_or settings count no_setting) ≡ true = grind (arith, nat_tests) in
+    prefix_len-drop_yes (is_in_line line) settings count no_setting below here
 
 -- a line, and whether it is named, after the settings so far and some more
 pub bytes-more :

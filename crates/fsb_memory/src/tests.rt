@@ -27,7 +27,7 @@ fn settings_make_the_lines(rt: HostRuntime) -> Result<(), Fail> {
         (0x40, 9),
     ];
     let sets = settings_of(rt.alloc(), &rows)?;
-    let memory = Controller::new(rt.alloc(), sets.as_slice(), &[5, 2, 5])?;
+    let memory = Controller::new(rt.alloc(), &sets, &[5, 2, 5])?;
     let mut second = [0; 32];
     second[0] = 9;
     second[1] = 5;
@@ -50,7 +50,7 @@ fn settings_make_the_lines(rt: HostRuntime) -> Result<(), Fail> {
 #[test]
 fn put_changes_one_line(rt: HostRuntime) -> Result<(), Fail> {
     let sets = settings_of(rt.alloc(), &[(0x40, 7)])?;
-    let mut memory = Controller::new(rt.alloc(), sets.as_slice(), &[2, 3, 9])?;
+    let mut memory = Controller::new(rt.alloc(), &sets, &[2, 3, 9])?;
     let before = memory.line(2);
     memory.put(3, [1; 32]);
     memory.put(3, [6; 32]);
@@ -80,7 +80,7 @@ fn later_settings_win_across_runs(rt: HostRuntime) -> Result<(), Fail> {
         (0, 11),
     ];
     let sets = settings_of(rt.alloc(), &rows)?;
-    let memory = Controller::new(rt.alloc(), sets.as_slice(), &[])?;
+    let memory = Controller::new(rt.alloc(), &sets, &[])?;
     assert_eq!(rt; &memory.line(2)[28..], [0, 5, 9, 7].as_slice());
     assert_eq!(rt; &memory.line(3)[..3], [8, 4, 0].as_slice());
     assert_eq!(rt; memory.line(0)[0], 11);

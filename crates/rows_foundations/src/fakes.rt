@@ -1,5 +1,7 @@
 //! Outsides that are handed to files and to standard output in place of the system.
 
+ghost use Rattle.std.specs.Prelude.{IsErr};
+
 use std::alloc::Allocator;
 use std::cell::Cell;
 use std::fmt::Display;
@@ -9,7 +11,9 @@ use std::io::{ErrorKind, Read, Seek, SeekFrom, Write};
 use std::rt::Files;
 
 /// What no test asks of an outside.
-fn unsupported<T>() -> io::Result<T> {
+fn unsupported<T>() -> io::Result<T>
+    ensures { IsErr result }
+{
     Err(io::Error::from(ErrorKind::Unsupported))
 }
 

@@ -1,9 +1,12 @@
 //! Real files and standard output, and where a dump goes.
 
+ghost use Rattle.std.specs.Prelude.{◌≤◌, length};
+
 use crate::fakes::{BusySystem, Redirected};
 use fsb_io::{Failed, FileSink, FileSource, ReadStop, Sink, Source, StdoutSink, put_all, read_all};
+use std::rt::Files;
 use std::test::Fail;
-use std::{env, fs};
+use std::{env, fs, io};
 
 #[test]
 fn interrupted_calls_are_tried_again_a_thousand_times(rt: HostRuntime) {
@@ -67,11 +70,38 @@ fn standard_output_is_written_and_never_begun(rt: HostRuntime) {
 }
 
 /// Where a byte goes that is written to a sink.
-#[derive(Clone, Copy, PartialEq, Eq)]
+#[derive(Clone, Copy, Debug, PartialEq, Eq)]
 enum Place {
+    /// The sink cannot be begun, nor written.
     Nowhere,
     Output,
     File,
+}
+
+/// Begins a sink under a name, where standard output goes to the file `output` and the file `spared` is to be kept, and writes
+/// a byte: how long the file `text` is before the byte, where the byte goes, and how long the file is after it.
+fn placed<R: Files>(
+    files: &R,
+    output: &str,
+    spared: Option<&str>,
+    name: &str,
+    text: &str,
+) -> io::Result<(u64, Option<Place>, u64)>
+    requires { length name.now ≤ 4096 }
+{
+    let system = Redirected::new(files, output);
+    let mut sink = FileSink::new(&system, spared);
+    let is_begun = sink.begin(name).is_ok();
+    let before = fs::metadata(files, text)?.len();
+    let is_written = sink.write(b"x").is_ok();
+    let after = fs::metadata(files, text)?.len();
+    let place = match (is_begun, is_written, system.printed()) {
+        (false, false, 0) => Some(Place::Nowhere),
+        (true, true, 1) => Some(Place::Output),
+        (true, true, 0) => Some(Place::File),
+        _ => None,
+    };
+    Ok((before, place, after))
 }
 
 #[test]
@@ -86,27 +116,21 @@ fn no_file_is_lost_whatever_its_names(rt: HostRuntime) -> Result<(), Fail> {
     let _ = fs::remove_file(&rt, link);
     fs::hard_link(&rt, text, link)?;
 
-    // What standard output goes to, the file that is spared, the name of the dump; what the text holds before; where a byte
-    // goes that is written then, and how long the text is before it.
-    for (output, spared, name, before, place, left) in [
-        (text, None, text, "text", Place::Output, 4),
-        (text, Some(other), link, "text", Place::Output, 4),
-        (other, Some(text), text, "text", Place::Nowhere, 4),
-        (other, Some(text), link, "text", Place::Nowhere, 4),
-        ("/no/output", None, text, "text", Place::Nowhere, 4),
-        (other, None, link, "text", Place::File, 0),
-        ("/no/output", None, text, "", Place::File, 0),
+    // What standard output goes to, the file that is spared, the name of the sink, and what the text holds before.
+    for (output, spared, name, held, wanted) in [
+        (text, None, text, "text", (4, Place::Output, 4)),
+        (text, Some(other), link, "text", (4, Place::Output, 4)),
+        (other, Some(text), text, "text", (4, Place::Nowhere, 4)),
+        (other, Some(text), link, "text", (4, Place::Nowhere, 4)),
+        ("/no/output", None, text, "text", (4, Place::Nowhere, 4)),
+        (other, None, link, "text", (0, Place::File, 1)),
+        ("/no/output", None, text, "", (0, Place::File, 1)),
     ] {
-        fs::write(&rt, text, before)?;
-        let system = Redirected::new(&rt, output);
-        let mut sink = FileSink::new(&system, spared);
+        fs::write(&rt, text, held)?;
         assert!(rt; name.len() <= 4_096);
-        assert_eq!(rt; sink.begin(name).is_ok(), place != Place::Nowhere);
-        assert_eq!(rt; fs::metadata(&rt, text)?.len(), left);
-        assert_eq!(rt; sink.write(b"x").is_ok(), place != Place::Nowhere);
-        assert_eq!(rt; system.printed(), usize::from(place == Place::Output));
-        let more = u64::from(place == Place::File);
-        assert_eq!(rt; fs::metadata(&rt, text)?.len(), left + more);
+        let (before, place, after) = wanted;
+        let came = placed(&rt, output, spared, name, text)?;
+        assert_eq!(rt; came, (before, Some(place), after));
     }
     for name in [text, link, other] {
         fs::remove_file(&rt, name)?;

@@ -8,35 +8,87 @@ use std::test::Fail;
 /// How many bytes are gathered at most.
 const ROOM: usize = 65_536;
 
-#[test]
-fn pieces_are_handed_on_when_the_room_is_full(rt: HostRuntime) -> Result<(), Fail> {
-    let long = vec![in rt.alloc(); b'a'; ROOM - 1]?;
-    let mut sink = Gather::new(rt.alloc(), MemSink::new(rt.alloc(), 200_000, &[])?)?;
-    assert_eq!(rt; sink.begin("dump"), Ok(()));
-    assert_eq!(rt; sink.sink().begun_as(), Some(b"dump".as_slice()));
-    assert_eq!(rt; put_all(&mut sink, &long), Ok(()));
-    assert_eq!(rt; sink.write(b"bcd"), Ok(1), "there is room for one byte");
-    assert_eq!(rt; (sink.sink().calls(), sink.gathered().len()), (1, ROOM));
-    assert_eq!(rt; sink.write(b"cd"), Ok(2));
-    assert_eq!(rt; sink.gathered(), b"cd".as_slice());
-    assert_eq!(rt; sink.finish(), Ok(()));
-    assert_eq!(rt; sink.sink().holds().len(), ROOM + 2);
-    assert!(rt; sink.sink().holds().ends_with(b"aabcd"));
-    assert_eq!(rt; sink.sink().calls(), 3, "a begin and two writes");
-    Ok(())
+/// A call of a gathering sink.
+#[derive(Clone, Copy)]
+enum Call {
+    Begin(&'static str),
+    Write(&'static [u8]),
+    Finish,
+}
+
+/// Makes the call: how many bytes the sink takes.
+fn called(sink: &mut Gather<MemSink>, call: Call) -> Result<usize, Failed> {
+    match call {
+        Call::Begin(name) if name.len() <= 4_096 => {
+            sink.begin(name)?;
+            Ok(0)
+        }
+        Call::Begin(_) => Err(Failed),
+        Call::Write(piece) => sink.write(piece),
+        Call::Finish => {
+            sink.finish()?;
+            Ok(0)
+        }
+    }
+}
+
+/// A gathering sink over one with so much room whose calls fail as said.
+fn gathering(alloc: Global, room: usize, fails: &[u32]) -> Result<Gather<MemSink>, Memory> {
+    Gather::new(alloc, MemSink::new(alloc, room, fails)?)
+}
+
+/// The call, how many bytes it takes, how many are then gathered, the last of them, and how many calls the sink below has had.
+type Row = (Call, Result<usize, Failed>, usize, &'static [u8], u64);
+
+/// The calls of a sink over one whose call 1 fails.
+const BEGUN_AGAIN: [Row; 6] = [
+    (Call::Begin("old"), Ok(0), 0, b"", 1),
+    (Call::Write(b"old text"), Ok(8), 8, b"old text", 1),
+    (Call::Begin("new"), Err(Failed), 8, b"old text", 2),
+    (Call::Begin("new"), Ok(0), 0, b"", 3),
+    (Call::Write(b"new"), Ok(3), 3, b"new", 3),
+    (Call::Finish, Ok(0), 0, b"", 4),
+];
+
+/// The calls of a sink in which there is room for one byte behind others.
+const FULL: [Row; 3] = [
+    (Call::Write(b"bcd"), Ok(1), ROOM, b"ab", 1),
+    (Call::Write(b"cd"), Ok(2), 2, b"cd", 2),
+    // A begin and two writes.
+    (Call::Finish, Ok(0), 0, b"", 3),
+];
+
+/// Whether the call does what the row says.
+fn is_so(sink: &mut Gather<MemSink>, row: &Row) -> bool {
+    let &(call, answer, count, last, calls) = row;
+    called(sink, call) == answer
+        && sink.gathered().len() == count
+        && sink.gathered().ends_with(last)
+        && sink.sink().calls() == calls
 }
 
 #[test]
 fn begin_drops_what_was_gathered(rt: HostRuntime) -> Result<(), Fail> {
-    let mut sink = Gather::new(rt.alloc(), MemSink::new(rt.alloc(), 100, &[1])?)?;
-    assert_eq!(rt; sink.begin("old"), Ok(()));
-    assert_eq!(rt; put_all(&mut sink, b"old text"), Ok(()));
-    assert_eq!(rt; sink.begin("new"), Err(Failed));
-    assert_eq!(rt; sink.gathered(), b"old text".as_slice());
-    assert_eq!(rt; sink.begin("new"), Ok(()));
-    assert_eq!(rt; put_all(&mut sink, b"new"), Ok(()));
-    assert_eq!(rt; sink.finish(), Ok(()));
+    let mut sink = gathering(rt.alloc(), 100, &[1])?;
+    for (at, row) in BEGUN_AGAIN.iter().enumerate() {
+        assert!(rt; is_so(&mut sink, row), "call {at}");
+    }
     assert_eq!(rt; sink.sink().holds(), b"new".as_slice());
+    Ok(())
+}
+
+#[test]
+fn pieces_are_handed_on_when_the_room_is_full(rt: HostRuntime) -> Result<(), Fail> {
+    let long = vec![in rt.alloc(); b'a'; ROOM - 1]?;
+    let mut sink = gathering(rt.alloc(), 200_000, &[])?;
+    assert_eq!(rt; called(&mut sink, Call::Begin("dump")), Ok(0));
+    assert_eq!(rt; sink.sink().begun_as(), Some(b"dump".as_slice()));
+    assert_eq!(rt; put_all(&mut sink, &long), Ok(()));
+    for (at, row) in FULL.iter().enumerate() {
+        assert!(rt; is_so(&mut sink, row), "call {at}");
+    }
+    let holds = sink.sink().holds();
+    assert!(rt; holds.len() == ROOM + 2 && holds.ends_with(b"aabcd"));
     Ok(())
 }
 
@@ -57,7 +109,7 @@ const FAILING: [(&[u32], [Result<(), Failed>; 4], usize); 5] = [
 /// What they answer over a sink whose calls fail as said, and how many bytes are then left gathered and held below.
 fn filled(alloc: Global, fails: &[u32]) -> Result<([Result<(), Failed>; 4], usize, usize), Memory> {
     let full = vec![in alloc; b'a'; ROOM]?;
-    let mut sink = Gather::new(alloc, MemSink::new(alloc, 200_000, fails)?)?;
+    let mut sink = gathering(alloc, 200_000, fails)?;
     let room = put_all(&mut sink, &full);
     let more = put_all(&mut sink, b"b");
     let answers = [room, more, sink.finish(), sink.finish()];

@@ -102,22 +102,24 @@ fn answers_of_hazard_lines(rt: HostRuntime) {
     entry_laws();
 }
 
+/// The seed, the request, and the line that it has.
+const SEEDS: [(u64, u32, Option<HazardLine>); 10] = [
+    (0, 0, None),
+    (0, 1, Some(HazardLine::Gap(1, 1))),
+    (0, 3, Some(HazardLine::Aerr(3))),
+    (0, 5, Some(HazardLine::Stall(5, 1))),
+    (0, 6, None),
+    (0, 8, Some(HazardLine::Resp(8, 2))),
+    (0, 10, Some(HazardLine::Retry(10))),
+    (0, 13, Some(HazardLine::Trdy(13, 1))),
+    (42, 9, Some(HazardLine::Defer(9, 5))),
+    (u64::MAX, 2, Some(HazardLine::Gap(2, 1))),
+];
+
 #[test]
 fn lines_of_seeds(rt: HostRuntime) {
     assert_eq!(rt; next_state(0), 1_442_695_040_888_963_407);
-    let rows = [
-        (0, 0, None),
-        (0, 1, Some(HazardLine::Gap(1, 1))),
-        (0, 3, Some(HazardLine::Aerr(3))),
-        (0, 5, Some(HazardLine::Stall(5, 1))),
-        (0, 6, None),
-        (0, 8, Some(HazardLine::Resp(8, 2))),
-        (0, 10, Some(HazardLine::Retry(10))),
-        (0, 13, Some(HazardLine::Trdy(13, 1))),
-        (42, 9, Some(HazardLine::Defer(9, 5))),
-        (u64::MAX, 2, Some(HazardLine::Gap(2, 1))),
-    ];
-    for (seed, number, line) in rows {
+    for (seed, number, line) in SEEDS {
         assert_eq!(rt;
             seed_line(seed, number),
             line,
@@ -135,18 +137,20 @@ fn entries_of_a_seed(rt: HostRuntime) {
     assert_eq!(rt; seed_entry(0, &Ask::Clock(10)), QUIET);
 }
 
+/// The turns of two choices, and that of both together.
+const JOINS: [(Turn, Turn, Turn); 7] = [
+    (Turn::Keep, Turn::Keep, Turn::Keep),
+    (Turn::Keep, Turn::Defer(4), Turn::Defer(4)),
+    (Turn::Keep, Turn::Retry, Turn::Retry),
+    (Turn::Defer(4), Turn::Defer(9), Turn::Defer(9)),
+    (Turn::Defer(0), Turn::Defer(0), Turn::Defer(0)),
+    (Turn::Defer(65_535), Turn::Retry, Turn::Retry),
+    (Turn::Retry, Turn::Retry, Turn::Retry),
+];
+
 #[test]
 fn turns_of_two_choices(rt: HostRuntime) {
-    let rows = [
-        (Turn::Keep, Turn::Keep, Turn::Keep),
-        (Turn::Keep, Turn::Defer(4), Turn::Defer(4)),
-        (Turn::Keep, Turn::Retry, Turn::Retry),
-        (Turn::Defer(4), Turn::Defer(9), Turn::Defer(9)),
-        (Turn::Defer(0), Turn::Defer(0), Turn::Defer(0)),
-        (Turn::Defer(65_535), Turn::Retry, Turn::Retry),
-        (Turn::Retry, Turn::Retry, Turn::Retry),
-    ];
-    for (one, other, turn) in rows {
+    for (one, other, turn) in JOINS {
         let a = Choice { turn: one, ..QUIET };
         let b = Choice {
             turn: other,
@@ -289,25 +293,27 @@ const OVERLAPPING: [HazardLine; 9] = [
     HazardLine::Bnr(u32::MAX, u32::MAX),
 ];
 
+/// Clocks, and whether one of the lines holds them.
+const HOLDS: [(u32, bool); 12] = [
+    (0, false),
+    (1, false),
+    (2, true),
+    (3, true),
+    (4, false),
+    (5, true),
+    (8, true),
+    (20, true),
+    (22, true),
+    (23, false),
+    (u32::MAX - 1, false),
+    (u32::MAX, true),
+];
+
 #[test]
 fn overlapping_clocks_and_lines_of_one_request(rt: HostRuntime) -> Result<(), Fail> {
     let mut hazard = ScriptHazard::new(rt.alloc());
     assert_eq!(rt; hazard.load(&OVERLAPPING), Ok(()));
-    let rows = [
-        (0, false),
-        (1, false),
-        (2, true),
-        (3, true),
-        (4, false),
-        (5, true),
-        (8, true),
-        (20, true),
-        (22, true),
-        (23, false),
-        (u32::MAX - 1, false),
-        (u32::MAX, true),
-    ];
-    for (clock, bnr) in rows {
+    for (clock, bnr) in HOLDS {
         let answer = Choice { bnr, ..QUIET };
         let chosen = hazard.choose(&Ask::Clock(clock));
         assert_eq!(rt; chosen, answer, "at clock {clock}");

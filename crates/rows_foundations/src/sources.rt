@@ -1,7 +1,5 @@
 //! Sources in memory, and reading to the end.
 
-ghost use Rattle.std.specs.Prelude.{◌≤◌, IfOk, length};
-
 use fsb_io::{Failed, MemSource, ReadStop, Source, read_all};
 use std::test::Fail;
 
@@ -11,7 +9,7 @@ type Call = (
     Option<&'static str>,
     Result<&'static [u8], Failed>,
     &'static [u8],
-    Option<&'static str>,
+    Option<&'static [u8]>,
 );
 
 /// The calls of a source of six bytes whose calls 1 and 3 fail.
@@ -19,19 +17,20 @@ const CALLS: [Call; 7] = [
     // Nothing is left before it is begun.
     (None, Ok(b""), b"", None),
     (Some("first"), Err(Failed), b"", None),
-    (Some("second"), Ok(b""), b"abcdef", Some("second")),
-    (None, Err(Failed), b"abcdef", Some("second")),
-    (None, Ok(b"abcd"), b"ef", Some("second")),
-    (None, Ok(b"ef"), b"", Some("second")),
-    (None, Ok(b""), b"", Some("second")),
+    (Some("second"), Ok(b""), b"abcdef", Some(b"second")),
+    (None, Err(Failed), b"abcdef", Some(b"second")),
+    (None, Ok(b"abcd"), b"ef", Some(b"second")),
+    (None, Ok(b"ef"), b"", Some(b"second")),
+    (None, Ok(b""), b"", Some(b"second")),
 ];
 
 /// Begins the source under a name, or reads some of it: how many bytes came.
-fn called(source: &mut MemSource, name: Option<&str>, buf: &mut [u8]) -> Result<usize, Failed>
-    ensures { IfOk result (λ n. n ≤ length buf.new) }
-{
+fn called(source: &mut MemSource, name: Option<&str>, buf: &mut [u8]) -> Result<usize, Failed> {
     match name {
-        Some(name) if name.len() <= 4_096 => source.begin(name).map(|()| 0),
+        Some(name) if name.len() <= 4_096 => {
+            source.begin(name)?;
+            Ok(0)
+        }
         Some(_) => Err(Failed),
         None => source.read(buf),
     }
@@ -42,12 +41,13 @@ fn source_fails_at_the_listed_calls_and_loses_nothing(rt: HostRuntime) -> Result
     let mut source = MemSource::new(rt.alloc(), b"abcdef", &[1, 3])?;
     for (name, bytes, left, begun_as) in CALLS {
         let mut buf = [0; 4];
-        match called(&mut source, name, &mut buf) {
-            Ok(count) => assert_eq!(rt; Ok(&buf[..count]), bytes),
-            Err(failed) => assert_eq!(rt; Err(failed), bytes),
+        let count = called(&mut source, name, &mut buf);
+        match bytes {
+            Ok(bytes) => assert!(rt; count == Ok(bytes.len()) && buf.starts_with(bytes)),
+            Err(failed) => assert_eq!(rt; count, Err(failed)),
         }
         assert_eq!(rt; source.left(), left);
-        assert_eq!(rt; source.begun_as(), begun_as.map(str::as_bytes));
+        assert_eq!(rt; source.begun_as(), begun_as);
     }
     assert_eq!(rt; (source.calls(), source.faults()), (7, 2));
     Ok(())

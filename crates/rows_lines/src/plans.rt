@@ -1,6 +1,6 @@
 //! Canonical texts of plans: of those that are read, and of those that the generator makes.
 
-use crate::scripts::{Start, read};
+use crate::scripts::read;
 use fsb_access::{Access, Item, Operand, Script};
 use fsb_hazard::HazardLine;
 use fsb_script::{Window, plan_of, write_bench};
@@ -77,7 +77,7 @@ static WRITTEN: [(&'static str, &'static str); 7] = [
 #[test]
 fn texts_read_and_written(rt: HostRuntime) -> Result<(), Fail> {
     for (text, canonical) in WRITTEN.iter() {
-        match read(&rt, rt.alloc(), Start::Whole, text) {
+        match read(&rt, rt.alloc(), text) {
             Ok(plan) => {
                 let written = write_bench(rt.alloc(), &plan)?;
                 assert_eq!(rt; written.as_slice(), canonical.as_bytes());
@@ -140,7 +140,7 @@ fn are_the_scripts(scripts: &[Script]) -> bool {
 /// The plan that has these scripts and hazards, profile 2 and this bridge is written as the text with a line of each form.
 #[test]
 fn lines_of_scripts_and_hazards(rt: HostRuntime) -> Result<(), Fail> {
-    let Ok(plan) = read(&rt, rt.alloc(), Start::Whole, EACH_FORM) else {
+    let Ok(plan) = read(&rt, rt.alloc(), EACH_FORM) else {
         rt.abort();
     };
     assert!(rt; are_the_scripts(plan.scripts.as_slice()));

@@ -3,7 +3,7 @@
 use fsb_access::{Access, Group, Item, LINE_BYTES};
 use fsb_hazard::HazardLine;
 use fsb_io::Memory;
-use fsb_script::{Cause, Plan, ScriptFault, ScriptStop, Window, is_lawful_script, read_bench};
+use fsb_script::{Plan, ScriptStop, Window, is_lawful_script, read_bench};
 use std::alloc::{AllocError, Global};
 use std::process::Abort;
 use std::test::Fail;
@@ -11,160 +11,125 @@ use table::{BAD, GOOD};
 
 mod table;
 
-/// What stands before the text of a row.
-#[derive(Clone, Copy, Debug)]
-pub(crate) enum Start {
-    /// Nothing.
-    Whole,
-    /// The five lines of a head.
-    Head,
-    /// A head and the line `agent 0`.
-    Items,
-    /// A head and the script of a load: eight lines.
-    Tail,
-    /// A head and the lines `agent 0` and `lock`.
-    Lock,
-    /// The five lines of a head of two agents.
-    Two,
-}
+/// What may stand before the text of a row, by its name: nothing, the five lines of a head, a head and the line `agent 0`, a
+/// head and the script of a load, a head and the lines `agent 0` and `lock`, and the five lines of a head of two agents.
+static STARTS: [(&'static str, &'static str); 6] = [
+    ("whole", ""),
+    (
+        "head",
+        "p6bench 1\nagents 1\nclocks 60\ncache 64\nahead 1\n",
+    ),
+    (
+        "items",
+        "p6bench 1\nagents 1\nclocks 60\ncache 64\nahead 1\nagent 0\n",
+    ),
+    (
+        "tail",
+        "p6bench 1\nagents 1\nclocks 60\ncache 64\nahead 1\nagent 0\nld 1 40\nend\n",
+    ),
+    (
+        "lock",
+        "p6bench 1\nagents 1\nclocks 60\ncache 64\nahead 1\nagent 0\nlock\n",
+    ),
+    ("two", "p6bench 1\nagents 2\nclocks 60\ncache 64\nahead 1\n"),
+];
 
-impl Start {
-    fn text(self) -> &'static str {
-        match self {
-            Start::Whole => "",
-            Start::Head => "p6bench 1\nagents 1\nclocks 60\ncache 64\nahead 1\n",
-            Start::Items => "p6bench 1\nagents 1\nclocks 60\ncache 64\nahead 1\nagent 0\n",
-            Start::Tail => {
-                "p6bench 1\nagents 1\nclocks 60\ncache 64\nahead 1\nagent 0\nld 1 40\nend\n"
-            }
-            Start::Lock => { "p6bench 1\nagents 1\nclocks 60\ncache 64\nahead 1\nagent 0\nlock\n" }
-            Start::Two => "p6bench 1\nagents 2\nclocks 60\ncache 64\nahead 1\n",
+/// A text with what stands before it, which is named; `/` stands for a line feed.
+fn behind(alloc: Global, start: &str, text: &str) -> Result<String, AllocError> {
+    let mut whole = String::new(alloc);
+    for (name, lines) in STARTS.iter() {
+        if *name == start {
+            whole.push_str(lines)?;
         }
     }
-}
-
-/// A text with what stands before it.
-fn behind(alloc: Global, start: Start, text: &str) -> Result<Vec<u8>, AllocError> {
-    let mut whole = Vec::from_slice(alloc, start.text().as_bytes())?;
-    whole.extend_from_slice(text.as_bytes())?;
+    let lines = text.replace(alloc, "/", "\n")?;
+    whole.push_str(&lines)?;
     Ok(whole)
 }
 
 /// The plan of a text, or why it is not read; it asserts that the text is short enough to be read at all.
-pub(crate) fn read(
-    rt: &impl Abort,
-    alloc: Global,
-    start: Start,
-    text: &str,
-) -> Result<Plan, ScriptStop> {
-    let whole = behind(alloc, start, text).expect(rt, "out of memory");
-    assert!(rt; whole.len() <= 1_000_000);
-    read_bench(alloc, whole.as_slice())
+pub(crate) fn read(rt: &impl Abort, alloc: Global, text: &str) -> Result<Plan, ScriptStop> {
+    assert!(rt; text.len() <= 1_000_000);
+    read_bench(alloc, text.as_bytes())
 }
 
-/// Asserts that a text is read where no fault is given, and otherwise that it has this first bad line, and that line this
-/// cause.
-fn expect_stop(
-    rt: &impl Abort,
-    alloc: Global,
-    start: Start,
-    text: &str,
-    fault: Option<(u32, Cause)>,
-) {
-    let stop = read(rt, alloc, start, text).err();
-    let fault = fault.map(|(line, cause)| ScriptStop::Bad(ScriptFault { line, cause }));
-    assert_eq!(rt; stop, fault, "{start:?} {text:?}");
+/// Asserts what is told of a text: `read`, or its first bad line and that line's cause.
+fn expect_told(rt: &impl Abort, alloc: Global, text: &str, wanted: &str) {
+    match read(rt, alloc, text) {
+        Ok(_) => assert_eq!(rt; "read", wanted),
+        Err(ScriptStop::Bad(fault)) => {
+            let line = fault.line;
+            let cause = fault.cause;
+            let told = format!(in alloc; "{line} {cause:?}").expect(rt, "out of memory");
+            assert_eq!(rt; told.as_str(), wanted);
+        }
+        Err(ScriptStop::Memory) => rt.abort(),
+    }
+}
+
+/// Asserts of each row what is told of its text.
+fn expect_rows(rt: &impl Abort, alloc: Global, rows: &str) {
+    for row in rows.lines() {
+        let (start, rest) = row.split_once("|").expect(rt, "no start");
+        let (text, wanted) = rest.split_once("|").expect(rt, "no text");
+        let whole = behind(alloc, start, text).expect(rt, "out of memory");
+        expect_told(rt, alloc, &whole, wanted);
+    }
 }
 
 #[test]
 fn each_bad_line_and_its_cause(rt: HostRuntime) {
-    for (start, text, line, cause) in BAD.iter() {
-        expect_stop(&rt, rt.alloc(), *start, text, Some((*line, *cause)));
-    }
+    expect_rows(&rt, rt.alloc(), BAD);
 }
 
 #[test]
 fn each_text_that_is_read(rt: HostRuntime) {
-    for (start, text) in GOOD.iter() {
-        expect_stop(&rt, rt.alloc(), *start, text, None);
-    }
+    expect_rows(&rt, rt.alloc(), GOOD);
 }
 
-/// A line that stands 4,096 times, a line behind them, and the fault of both, if there is one. A script has at most 4,096
-/// items, and a file at most 4,096 hazard lines; the first word comes before that, and every other cause after.
-static BEHIND_4096: [(Start, &'static str, &'static str, Option<(u32, Cause)>); 9] = [
-    (Start::Items, "ld 1 40\n", "end\n", None),
+/// What stands before a line that stands 4,096 times, that line, and a line behind them with what is told of it all. A script
+/// has at most 4,096 items, and a file at most 4,096 hazard lines; the first word comes before that, and every other cause after.
+static BEHIND_4096: [(&'static str, &'static str, &'static str); 2] = [
     (
-        Start::Items,
-        "ld 1 40\n",
-        "ld x\n",
-        Some((4_103, Cause::Range)),
+        "items",
+        "ld 1 40/",
+        "end/|read\nld x/|4103 Range\nidle x/|4103 Range\nlock x/|4103 Range\ntx x/|4103 Word\n",
     ),
     (
-        Start::Items,
-        "ld 1 40\n",
-        "idle x\n",
-        Some((4_103, Cause::Range)),
-    ),
-    (
-        Start::Items,
-        "ld 1 40\n",
-        "lock x\n",
-        Some((4_103, Cause::Range)),
-    ),
-    (
-        Start::Items,
-        "ld 1 40\n",
-        "tx x\n",
-        Some((4_103, Cause::Word)),
-    ),
-    (Start::Tail, "tx 0 retry\n", "", None),
-    (
-        Start::Tail,
-        "tx 0 retry\n",
-        "tx x\n",
-        Some((4_105, Cause::Range)),
-    ),
-    (
-        Start::Tail,
-        "tx 0 retry\n",
-        "bnr 0 0\n",
-        Some((4_105, Cause::Range)),
-    ),
-    (
-        Start::Tail,
-        "tx 0 retry\n",
-        "ld 1 40\n",
-        Some((4_105, Cause::Word)),
+        "tail",
+        "tx 0 retry/",
+        "|read\ntx x/|4105 Range\nbnr 0 0/|4105 Range\nld 1 40/|4105 Word\n",
     ),
 ];
 
 #[test]
-fn item_and_hazard_line_4097(rt: HostRuntime) -> Result<(), Fail> {
-    for (start, repeated, line, fault) in BEHIND_4096.iter() {
-        let mut text = repeated.repeat(rt.alloc(), 4_096)?;
-        text.push_str(line)?;
-        expect_stop(&rt, rt.alloc(), *start, &text, *fault);
+fn item_and_hazard_line_4097(rt: HostRuntime) {
+    for (start, repeated, rows) in BEHIND_4096.iter() {
+        let lines = repeated
+            .repeat(rt.alloc(), 4_096)
+            .expect(&rt, "out of memory");
+        let whole = behind(rt.alloc(), start, &lines).expect(&rt, "out of memory");
+        for row in rows.lines() {
+            let (line, wanted) = row.split_once("|").expect(&rt, "no line");
+            let line = behind(rt.alloc(), "whole", line).expect(&rt, "out of memory");
+            let text = format!(in rt.alloc(); "{whole}{line}").expect(&rt, "out of memory");
+            expect_told(&rt, rt.alloc(), &text, wanted);
+        }
     }
-    Ok(())
 }
 
 /// A cache has a power of two of lines, at most 1,024.
 #[test]
-fn sizes_of_caches(rt: HostRuntime) -> Result<(), Fail> {
+fn sizes_of_caches(rt: HostRuntime) {
     for lines in 0..=4_096_u64 {
-        let lawful = lines.count_ones() == 1 && lines <= 1_024;
+        let is_lawful = lines.count_ones() == 1 && lines <= 1_024;
         let text = format!(in rt.alloc();
             "p6bench 1\nagents 1\nclocks 0\ncache {lines}\nahead 1\nagent 0\nend\n"
-        )?;
-        let fault = if lawful {
-            None
-        } else {
-            Some((4, Cause::Range))
-        };
-        expect_stop(&rt, rt.alloc(), Start::Whole, &text, fault);
+        );
+        let text = text.expect(&rt, "out of memory");
+        let wanted = if is_lawful { "read" } else { "4 Range" };
+        expect_told(&rt, rt.alloc(), &text, wanted);
     }
-    Ok(())
 }
 
 /// Hazard lines, and what each says.
@@ -183,7 +148,8 @@ static HAZARDS: [(&'static str, HazardLine); 9] = [
 #[test]
 fn what_each_hazard_says(rt: HostRuntime) {
     for (text, hazard) in HAZARDS.iter() {
-        match read(&rt, rt.alloc(), Start::Tail, text) {
+        let whole = behind(rt.alloc(), "tail", text).expect(&rt, "out of memory");
+        match read(&rt, rt.alloc(), &whole) {
             Ok(plan) => assert_eq!(rt; plan.hazards.as_slice(), [*hazard].as_slice()),
             Err(_) => panic!(rt; "{text:?}"),
         }
@@ -218,7 +184,8 @@ fn idle_of(plan: &Plan) -> Option<u32> {
 #[test]
 fn what_profile_bridge_and_idle_say(rt: HostRuntime) {
     for (text, profile, bridge, idle) in SAID.iter() {
-        match read(&rt, rt.alloc(), Start::Head, text) {
+        let whole = behind(rt.alloc(), "head", text).expect(&rt, "out of memory");
+        match read(&rt, rt.alloc(), &whole) {
             Ok(plan) => {
                 let said = (plan.profile, plan.bridge, idle_of(&plan));
                 assert_eq!(rt; said, (*profile, *bridge, *idle), "{text:?}");

@@ -2,5 +2,4 @@ pub mod Examples
 mod Rows
 pub mod Append
 pub mod MarkFacts
-mod HeadingFacts
 pub mod Interface

@@ -7,5 +7,4 @@ pub mod Levels
 pub mod LevelFacts
 pub mod Values
 pub mod Judging
-pub mod Heading
 pub mod Reading

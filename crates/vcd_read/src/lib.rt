@@ -22,7 +22,6 @@ mod machine;
 mod mode;
 mod open_block;
 mod reader;
-mod run;
 mod scan;
 mod stop;
 mod words;
