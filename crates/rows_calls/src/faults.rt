@@ -87,7 +87,7 @@ fn first_lines(text: &[u8], lines: usize) -> &[u8] {
             return &text[..place];
         }
         if text[place] == b'\n' {
-            left -= 1;
+            left = left.saturating_sub(1);
         }
     }
     text
@@ -218,7 +218,7 @@ fn piece(alloc: Global, call: u32) -> Result<Vec<u8>, Memory> {
         1 => Ok(changed(alloc, NO_SAMPLES, "1\"\n", "0\"\n")?),
         2 => Ok(joined(alloc, &["#5\n1!\n"])?),
         _ => {
-            let clock = call - 2;
+            let clock = call.saturating_sub(2);
             let changes = CHANGES.get(clock as usize).copied().unwrap_or("");
             Ok(clock_text(alloc, clock, changes)?.into_bytes())
         }
