@@ -31,5 +31,3 @@ mod item;
 mod laws;
 mod log;
 mod put;
-#[cfg(test)]
-mod tests;

@@ -27,6 +27,4 @@ mod outlook;
 mod outs;
 mod parts;
 mod snooping;
-#[cfg(test)]
-mod tests;
 mod wanting;

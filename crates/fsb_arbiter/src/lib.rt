@@ -8,5 +8,3 @@ pub use arbiter::Arbiter;
 
 mod arbiter;
 mod order;
-#[cfg(test)]
-mod tests;

@@ -16,5 +16,3 @@ pub use laws::{
 mod bridge;
 mod deferral;
 mod laws;
-#[cfg(test)]
-mod tests;

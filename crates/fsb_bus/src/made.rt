@@ -59,7 +59,7 @@ pub(crate) fn memory_of(alloc: Global, plan: &Plan) -> Result<Controller, Memory
     for script in plan.scripts.as_slice() {
         name_items(&mut lines, script.as_slice())?;
     }
-    let memory = Controller::new(alloc, &plan.mem, &lines)?;
+    let memory = Controller::new(alloc, plan.mem.as_slice(), &lines)?;
     Ok(memory)
 }
 

@@ -23,6 +23,4 @@ pub use laws::{lines_serve_as_memory, set_has_one_line, sizes_are_powers_of_two}
 mod cache;
 mod held;
 mod laws;
-#[cfg(test)]
-mod tests;
 mod value;

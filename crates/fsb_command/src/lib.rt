@@ -8,7 +8,5 @@ pub use words::Words;
 mod command;
 mod number;
 mod range;
-#[cfg(test)]
-mod tests;
 mod usage;
 mod words;

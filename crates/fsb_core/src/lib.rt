@@ -36,5 +36,3 @@ mod asking;
 mod bare;
 mod bench;
 mod stepping;
-#[cfg(test)]
-mod tests;

@@ -6,5 +6,3 @@
 pub use clocks::{any_where, count_where, first_where, nth_where};
 
 mod clocks;
-#[cfg(test)]
-mod tests;

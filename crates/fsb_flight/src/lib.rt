@@ -9,5 +9,3 @@ pub use laws::{numbers_go_on, queue_goes_on};
 
 mod clock;
 mod laws;
-#[cfg(test)]
-mod tests;

@@ -7,5 +7,3 @@
 pub use gather::Gather;
 
 mod gather;
-#[cfg(test)]
-mod tests;

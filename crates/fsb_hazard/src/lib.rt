@@ -18,5 +18,3 @@ mod hazard;
 mod kinds;
 mod line;
 mod seed;
-#[cfg(test)]
-mod tests;

@@ -65,19 +65,3 @@ impl HazardLines {
         self.lines.as_slice()
     }
 }
-
-#[cfg(test)]
-mod tests {
-    use super::*;
-    use std::test::Fail;
-
-    #[test]
-    fn lines_are_kept_in_order(rt: HostRuntime) -> Result<(), Fail> {
-        let mut lines = HazardLines::new(rt.alloc());
-        lines.push(HazardLine::Stall(0, 2))?;
-        lines.push(HazardLine::Bnr(5, 8))?;
-        let expected = [HazardLine::Stall(0, 2), HazardLine::Bnr(5, 8)];
-        assert_eq!(rt; lines.as_slice(), expected.as_slice());
-        Ok(())
-    }
-}

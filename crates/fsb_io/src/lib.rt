@@ -20,5 +20,3 @@ mod read;
 mod refusal;
 mod sink;
 mod source;
-#[cfg(test)]
-mod tests;

@@ -19,6 +19,4 @@ mod link;
 pub mod needed;
 mod purpose;
 mod state;
-#[cfg(test)]
-mod tests;
 pub mod witness;

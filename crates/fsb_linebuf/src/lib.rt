@@ -16,5 +16,3 @@ pub use entry::{Fill, Push};
 
 mod buffers;
 mod entry;
-#[cfg(test)]
-mod tests;

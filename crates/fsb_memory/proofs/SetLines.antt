@@ -1,13 +1,14 @@
 -- Settings of one line, put one after the other.
 use Rattle.std.proofs.Common.{◌≡◌, ℕ, ◌+◌, ◌/◌, ◌%◌, ◌<◌, cond, ◌&&◌, ◌||◌, List, [], ◌∷◌, ◌++◌, length, get_or, set}
-use Rattle.std.proofs.Common.{take, drop, Bool, sym, ap, ◌∙◌, ⊎_elim, arith, add-one}
+use Rattle.std.proofs.Common.{true, take, drop, Bool, sym, ap, ◌∙◌, ⊎_elim, arith, add-one}
 use Rattle.std.proofs.lemmas.Bool.{cases_eq}
 use Rattle.std.proofs.lemmas.Bool.Decides.{nat_tests}
-use Rattle.std.proofs.lemmas.List.Sums.{fold_more, fold-append}
+use Rattle.std.proofs.lemmas.List.Sums.{fold_more, fold-append, prefix_len-drop_yes}
 use Rattle.std.proofs.lemmas.List.Folds.{list_any-append}
-use Rattle.std.proofs.Math.Seq.{take-add, take-suc}
+use Rattle.std.proofs.Math.Bool.{or_comm}
+use Rattle.std.proofs.Math.Seq.{take-suc, take-add}
 use Rattle.std.specs.Prelude.{◌==◌, nat_lt}
-use Rattle.std.specs.List.{list_any}
+use Rattle.std.specs.List.{list_any, prefix_len}
 use Rattle.fsb_access.specs.declared.access.Setting.{Setting}
 use Rattle.fsb_memory.specs.Controller.{is_in_line, set_byte, set_bytes}
 
@@ -51,32 +52,30 @@ names_so_far-more line settings count setting sofar below is of other =
     ∙ ap (λ s. take count settings ++ s ∷ []) (sym is) in
     rw (more, list_any-append, sofar other) (grind (arith, nat_tests))
 
--- a line, and whether it is named, after the first settings, and then after more of them
-bytes-front : (line : ℕ) (before now : List ℕ) (front back : List Setting) → now ≡ set_bytes line before front
-    → set_bytes line now back ≡ set_bytes line before (front ++ back)
-bytes-front line before now front back is = rw is (sym (fold-append (set_byte line) before front back))
+-- how many settings from a place on are of the line: one more than from the next place on
+pub in_line-more :
+    (line : ℕ) (settings : List Setting) (count : ℕ) → count < length settings
+    → (get_or settings count no_setting).addr / 32 ≡ line
+    → prefix_len (is_in_line line) (drop count settings) ≡ 1 + prefix_len (is_in_line line) (drop (count + 1) settings)
+in_line-more line settings count below of =
+    let here : is_in_line line (get_or settings count no_setting) ≡ true = grind (arith, nat_tests) in
+    prefix_len-drop_yes (is_in_line line) settings count no_setting below here
 
-named-front :
-    (line : ℕ) (before now : Bool) (front back : List Setting) → now ≡ (list_any (is_in_line line) front || before)
-    → (list_any (is_in_line line) back || now) ≡ (list_any (is_in_line line) (front ++ back) || before)
-named-front line before now front back is =
-    rw (is, list_any-append) (grind (arith, nat_tests))
-
+-- a line, and whether it is named, after the settings so far and some more
 pub bytes-more :
-    (line : ℕ) (first before now : List ℕ) (settings left : List Setting) (done count : ℕ) → left ≡ drop done settings
-    → before ≡ set_bytes line first (take done settings) → now ≡ set_bytes line before (take count left)
-    → now ≡ set_bytes line first (take (done + count) settings)
-bytes-more line first before now settings left done count rest sofar is =
-    is ∙ ap (λ l. set_bytes line before (take count l)) rest
-    ∙ bytes-front line first before (take done settings) (take count (drop done settings)) sofar
-    ∙ ap (set_bytes line first) (sym (take-add done count settings))
+    (line : ℕ) (zeros before now : List ℕ) (settings : List Setting) (done count : ℕ)
+    → before ≡ set_bytes line zeros (take done settings) → now ≡ set_bytes line before (take count (drop done settings))
+    → now ≡ set_bytes line zeros (take (done + count) settings)
+bytes-more line zeros before now settings done count stands more =
+    more ∙ rw (stands, take-add done count settings)
+    (sym (fold-append (set_byte line) zeros (take done settings) (take count (drop done settings))))
 
 pub named-more :
-    (line : ℕ) (first before now : Bool) (settings left : List Setting) (done count : ℕ) → left ≡ drop done settings
-    → before ≡ (list_any (is_in_line line) (take done settings) || first)
-    → now ≡ (list_any (is_in_line line) (take count left) || before)
-    → now ≡ (list_any (is_in_line line) (take (done + count) settings) || first)
-named-more line first before now settings left done count rest sofar is =
-    is ∙ ap (λ l. list_any (is_in_line line) (take count l) || before) rest
-    ∙ named-front line first before (take done settings) (take count (drop done settings)) sofar
-    ∙ ap (λ l. list_any (is_in_line line) l || first) (sym (take-add done count settings))
+    (line : ℕ) (before now : Bool) (settings : List Setting) (done count : ℕ)
+    → before ≡ list_any (is_in_line line) (take done settings)
+    → now ≡ (list_any (is_in_line line) (take count (drop done settings)) || before)
+    → now ≡ list_any (is_in_line line) (take (done + count) settings)
+named-more line before now settings done count stands more =
+    more ∙ rw (stands, take-add done count settings, list_any-append)
+    (or_comm (list_any (is_in_line line) (take count (drop done settings)))
+    (list_any (is_in_line line) (take done settings)))

@@ -1,11 +1,9 @@
-ghost use Rattle.std.specs.Prelude.{◌≡◌, ◌≢◌, ℕ, ◌+◌, ◌-◌, ◌/◌, ◌%◌, ◌^◌, ◌<◌, ◌≤◌, ◌||◌, ◌==◌, false, IsTrue, IfOk, OnOk, OnErr, length, min, take};
+ghost use Rattle.std.specs.Prelude.{◌≡◌, ◌≢◌, ℕ, ◌<◌, ◌≤◌, ◌||◌, ◌==◌, false, IsTrue, IfOk, OnOk, OnErr, length, take};
 ghost use Rattle.std.specs.List.{list_any};
-ghost use Rattle.fsb_script.specs.Statements.{settings_at};
-ghost use Rattle.fsb_memory.specs.Controller.{is_mapped, line_in, start_bytes, is_in_line, is_line_named, set_bytes, HasSetPart};
+ghost use Rattle.fsb_memory.specs.Controller.{is_mapped, line_in, start_bytes, is_in_line, is_line_named, first_line, count_in_first_line, set_bytes};
 
-use fsb_access::LINE_BYTES;
+use fsb_access::{LINE_BYTES, Setting};
 use fsb_io::Memory;
-use fsb_script::Settings;
 use indexmap::IndexMap;
 use std::alloc::Global;
 use std::marker::Model;
@@ -27,7 +25,7 @@ impl Model for Controller {
 impl Controller {
     /// The memory that the settings make: later settings win, and all other bytes are 0. A line is named by a setting of
     /// one of its bytes, or in `lines`.
-    pub fn new(alloc: Global, sets: &Settings, lines: &[u64]) -> Result<Controller, Memory>
+    pub fn new(alloc: Global, sets: &[Setting], lines: &[u64]) -> Result<Controller, Memory>
         ensures bytes { IfOk result (λ controller.
             (line : ℕ) → line_in controller line ≡ start_bytes sets.now line) }
         ensures named { IfOk result (λ controller.
@@ -63,7 +61,7 @@ impl Controller {
     }
 
     /// The memory that the settings make, with the lines that they name.
-    fn of_settings(alloc: Global, sets: &Settings) -> Result<Controller, Memory>
+    fn of_settings(alloc: Global, sets: &[Setting]) -> Result<Controller, Memory>
         ensures bytes { IfOk result (λ controller.
             (line : ℕ) → line_in controller line ≡ start_bytes sets.now line) }
         ensures named { IfOk result (λ controller.
@@ -72,59 +70,37 @@ impl Controller {
         let mut controller = Controller {
             lines: IndexMap::new(alloc),
         };
-        let mut runs = sets.runs();
-        while let Some((addr, bytes)) = runs.next() {
-            controller.set_run(addr, bytes)?;
+        let mut done = 0;
+        while done < sets.len() {
+            done += controller.set(&sets[done..])?;
         }
         Ok(controller)
     }
 
-    /// Puts the bytes of a run, whose first one is at this address. Where memory lacks, the first of them are put, up to
-    /// a line that was not named.
-    fn set_run(&mut self, addr: u64, bytes: &[u8]) -> Result<(), Memory>
-        requires { addr + length bytes.now ≤ 2 ^ 64 }
-        ensures bytes { OnOk result (
-            (line : ℕ) → line_in self.new line
-            ≡ set_bytes line (line_in self.old line) (settings_at addr bytes.now)) }
-        ensures named { OnOk result (
-            (line : ℕ) → is_mapped self.new line
-            ≡ (list_any (is_in_line line) (settings_at addr bytes.now)
-            || is_mapped self.old line)) }
-        ensures part { OnErr result (HasSetPart self.old self.new addr bytes.now) }
-    {
-        let mut done = 0;
-        while done < bytes.len() {
-            done += self.set(addr + done as u64, &bytes[done..])?;
-        }
-        Ok(())
-    }
-
-    /// Puts the first bytes, those up to the end of the first one's line, and answers how many they are. The line is
+    /// Puts the first settings, those up to the first one of another line, and answers how many they are. The line is
     /// read once and put back once for all of them.
-    fn set(&mut self, addr: u64, bytes: &[u8]) -> Result<usize, Memory>
-        requires any { 0 < length bytes.now }
-        requires below { addr + length bytes.now ≤ 2 ^ 64 }
+    fn set(&mut self, sets: &[Setting]) -> Result<usize, Memory>
+        requires { 0 < length sets.now }
         ensures some { IfOk result (λ count. 0 < count) }
-        ensures within { IfOk result (λ count. count ≤ length bytes.now) }
-        ensures count { IfOk result (λ count. count ≡ min (length bytes.now) (32 - addr % 32)) }
+        ensures within { IfOk result (λ count. count ≤ length sets.now) }
+        ensures count { IfOk result (λ count. count ≡ count_in_first_line sets.now) }
         ensures bytes { IfOk result (λ count.
             (line : ℕ) → line_in self.new line
-            ≡ set_bytes line (line_in self.old line) (take count (settings_at addr bytes.now))) }
+            ≡ set_bytes line (line_in self.old line) (take count sets.now)) }
         ensures named { IfOk result (λ count.
             (line : ℕ) → is_mapped self.new line
-            ≡ (list_any (is_in_line line) (take count (settings_at addr bytes.now))
-            || is_mapped self.old line)) }
-        ensures unnamed { OnErr result (is_mapped self.old (addr / 32) ≡ false) }
+            ≡ (list_any (is_in_line line) (take count sets.now) || is_mapped self.old line)) }
+        ensures unnamed { OnErr result (is_mapped self.old (first_line sets.now) ≡ false) }
         ensures unchanged { OnErr result (self.new ≡ self.old) }
     {
-        let line = addr / LINE_BYTES;
-        let mut kept = self.line(line);
+        let line = sets[0].addr / LINE_BYTES;
+        let mut bytes = self.line(line);
         let mut count = 0;
-        while count < bytes.len() && (addr + count as u64) / LINE_BYTES == line {
-            kept[((addr + count as u64) % LINE_BYTES) as usize] = bytes[count];
+        while count < sets.len() && sets[count].addr / LINE_BYTES == line {
+            bytes[(sets[count].addr % LINE_BYTES) as usize] = sets[count].byte;
             count += 1;
         }
-        self.keep(line, kept)?;
+        self.keep(line, bytes)?;
         Ok(count)
     }
 

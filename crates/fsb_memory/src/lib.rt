@@ -7,5 +7,3 @@
 pub use controller::Controller;
 
 mod controller;
-#[cfg(test)]
-mod tests;

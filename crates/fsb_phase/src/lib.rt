@@ -10,10 +10,6 @@ pub use fsb_encode::chunk_order;
 pub use phases::Phases;
 
 mod drive;
-#[cfg(test)]
-mod lone;
 mod phases;
 mod places;
-#[cfg(test)]
-mod tests;
 mod timing;

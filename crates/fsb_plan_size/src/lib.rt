@@ -5,5 +5,3 @@
 pub use count::access_count;
 
 mod count;
-#[cfg(test)]
-mod tests;

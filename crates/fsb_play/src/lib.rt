@@ -13,6 +13,4 @@ mod clocks;
 mod output;
 mod playing;
 mod print;
-#[cfg(test)]
-mod tests;
 mod text;

@@ -11,6 +11,4 @@ pub use watching::{total_of, watch_all};
 
 mod kinds;
 mod probe;
-#[cfg(test)]
-mod tests;
 mod watching;

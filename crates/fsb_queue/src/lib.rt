@@ -8,5 +8,3 @@ pub use queue::Queue;
 
 mod entry;
 mod queue;
-#[cfg(test)]
-mod tests;

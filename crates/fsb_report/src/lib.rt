@@ -10,6 +10,4 @@ pub use verdict::{rejected_line, verdict_line};
 mod counts;
 mod log;
 mod summary;
-#[cfg(test)]
-mod tests;
 mod verdict;

@@ -9,4 +9,3 @@ pub mod View
 pub mod DraftKept
 pub mod Text
 pub mod Made
-pub mod Runs

@@ -210,7 +210,7 @@ impl PlanDraft {
             (mem_line (progress self.old) line.now) }
     {
         let (addr, bytes) = memory_of(line)?;
-        self.mem.push_run(addr, bytes.as_slice())?;
+        self.mem.push_bytes(addr, bytes.as_slice())?;
         self.place = Place::Memory;
         Ok(())
     }

@@ -5,7 +5,7 @@ pub use fault::{Cause, ScriptFault, ScriptStop};
 pub use lawful::is_lawful_script;
 pub use laws::one_answer;
 pub use made::plan_of;
-pub use plan::{Plan, Runs, Scripts, Settings, Window};
+pub use plan::{Plan, Scripts, Settings, Window};
 pub use read::read_bench;
 pub use write::write_bench;
 
@@ -20,7 +20,5 @@ mod place;
 mod plan;
 mod read;
 mod statement;
-#[cfg(test)]
-mod tests;
 mod word;
 mod write;

@@ -1,8 +1,6 @@
-ghost use Rattle.std.specs.Prelude.{◌≡◌, ◌<◌, ◌≤◌, ◌+◌, ◌^◌, List, [], ◌∷◌, ◌++◌, length, IsTrue, OnOk, OnErr};
+ghost use Rattle.std.specs.Prelude.{◌≡◌, ◌≤◌, ◌+◌, ◌^◌, List, [], ◌∷◌, ◌++◌, length, IsTrue, OnOk, OnErr};
 ghost use Rattle.std.specs.List.{list_all};
-ghost use Rattle.std.specs.Vec.{vec_len, vec_capacity};
 ghost use Rattle.fsb_script.specs.Bounds.{is_cache, is_profile, is_lawful_script, is_lawful_bridge, is_lawful_setting, are_lawful_hazards};
-ghost use Rattle.fsb_script.specs.Runs.{settings_of, is_run, are_longest, byte_count, OneRunMore};
 ghost use Rattle.fsb_script.specs.Statements.{settings_at};
 
 use fsb_access::{Script, Setting};
@@ -52,35 +50,20 @@ impl Scripts {
     }
 }
 
-/// Bytes of memory whose addresses follow one another: where they begin, and how many they are.
-#[derive(Clone, Copy, Debug, PartialEq, Eq)]
-struct Run {
-    addr: u64,
-    len: usize,
-}
-
 /// The bytes of memory as a run begins, in the order in which they are set; of two settings of one byte the later one
-/// wins. Each takes a byte, and 16 more where its address does not follow that of the one before it.
+/// wins.
 #[derive(Debug, Drop)]
 pub struct Settings {
-    runs: Vec<Run>,
-    /// The bytes of all runs, in order.
-    bytes: Vec<u8>,
+    settings: Vec<Setting>,
 }
 
 impl Model for Settings {
-    ghost use Rattle.std.specs.Prelude.{◌≡◌, List, length, IsTrue};
-    ghost use Rattle.std.specs.List.{list_all};
+    ghost use Rattle.std.specs.Prelude.{List};
     ghost use Rattle.fsb_access.specs.declared.access.Setting.{Setting};
-    ghost use Rattle.fsb_script.specs.Runs.{settings_of, is_run, are_longest, byte_count, runs_with};
 
     ghost Value = { List Setting };
 
-    ghost view = { λ s. settings_of (runs_with s.runs.items s.bytes.items) };
-
-    ghost invariant = { λ s. (byte_count s.runs.items ≡ length s.bytes.items)
-        × IsTrue (list_all is_run (runs_with s.runs.items s.bytes.items))
-        × IsTrue (are_longest (runs_with s.runs.items s.bytes.items)) };
+    ghost view = { λ s. s.settings.items };
 }
 
 impl Settings {
@@ -89,8 +72,7 @@ impl Settings {
         ensures { result ≡ [] }
     {
         Settings {
-            runs: Vec::new(alloc),
-            bytes: Vec::new(alloc),
+            settings: Vec::new(alloc),
         }
     }
 
@@ -99,106 +81,33 @@ impl Settings {
         ensures ok { OnOk result (self.new ≡ self.old ++ setting ∷ []) }
         ensures err { OnErr result (self.new ≡ self.old) }
     {
-        self.add(setting.addr, &[setting.byte])
+        self.settings.push(setting)?;
+        Ok(())
     }
 
     /// Adds a setting for each byte, from an address on. After `Memory` the list is as before.
-    #[tactic(auto, using(crate::proofs::RunLemmas::lawful_more))]
-    pub(crate) fn push_run(&mut self, addr: u64, bytes: &[u8]) -> Result<(), Memory>
+    pub(crate) fn push_bytes(&mut self, addr: u64, bytes: &[u8]) -> Result<(), Memory>
         requires { addr + length bytes.now ≤ 2 ^ 36 }
         ensures lawful { IsTrue (list_all is_lawful_setting self.old) →
             IsTrue (list_all is_lawful_setting self.new) }
         ensures ok { OnOk result (self.new ≡ self.old ++ settings_at addr bytes.now) }
         ensures err { OnErr result (self.new ≡ self.old) }
     {
-        if bytes.is_empty() {
-            return Ok(());
+        self.settings.reserve(bytes.len())?;
+        for (i, byte) in bytes.iter().enumerate() {
+            self.settings.push_reserved(Setting {
+                addr: addr + i as u64,
+                byte: *byte,
+            });
         }
-        self.add(addr, bytes)?;
         Ok(())
     }
 
-    /// Adds the bytes of a run, to the last run where its addresses go on there.
-    fn add(&mut self, addr: u64, bytes: &[u8]) -> Result<(), Memory>
-        requires run { IsTrue (is_run (addr, bytes.now)) }
-        ensures ok { OnOk result (self.new ≡ self.old ++ settings_at addr bytes.now) }
-        ensures err { OnErr result (self.new ≡ self.old) }
+    /// The settings, in order.
+    pub fn as_slice(&self) -> &[Setting]
+        ensures { result.now ≡ self.now }
     {
-        self.runs.reserve(1)?;
-        self.bytes.extend_from_slice(bytes)?;
-        add_run(&mut self.runs, addr, bytes.len());
-        Ok(())
-    }
-
-    /// The settings run by run, in their order: the address of a run's first byte, and its bytes. No run begins where
-    /// the one before it ends. It takes no memory.
-    pub fn runs(&self) -> Runs<'_>
-        ensures settings { settings_of result ≡ self.now }
-        ensures each { IsTrue (list_all is_run result) }
-        ensures longest { IsTrue (are_longest result) }
-    {
-        Runs {
-            runs: self.runs.as_slice(),
-            bytes: self.bytes.as_slice(),
-        }
-    }
-}
-
-/// One run more; or the last one is longer, where its addresses go on with this one.
-fn add_run(runs: &mut Vec<Run>, addr: u64, len: usize)
-    requires room { vec_len runs.old < vec_capacity runs.old }
-    requires few { byte_count runs.old.items + len < 2 ^ 64 }
-    ensures { OneRunMore runs.old.items runs.new.items addr len }
-{
-    let count = runs.len();
-    if count > 0 && goes_on(&runs[count - 1], addr) {
-        runs[count - 1].len += len;
-    } else {
-        runs.push_reserved(Run { addr, len });
-    }
-}
-
-/// Whether the address follows those of the run.
-fn goes_on(run: &Run, addr: u64) -> bool
-    ensures follows { IsTrue result → run.now.addr + run.now.len ≡ addr }
-    ensures always { run.now.addr + run.now.len ≡ addr → IsTrue result }
-{
-    run.addr <= addr && addr - run.addr == run.len as u64
-}
-
-/// The runs of a list of settings that are left, in order.
-#[derive(Debug, Drop)]
-pub struct Runs<'a> {
-    runs: &'a [Run],
-    bytes: &'a [u8],
-}
-
-impl<'a> Model for Runs<'a> {
-    ghost use Rattle.std.specs.Prelude.{◌≡◌, ℕ, List, length};
-    ghost use Rattle.fsb_script.specs.Runs.{byte_count, runs_with};
-
-    ghost Value = { List (ℕ × List ℕ) };
-
-    ghost view = { λ r. runs_with r.runs.now r.bytes.now };
-
-    ghost invariant = { λ r. byte_count r.runs.now ≡ length r.bytes.now };
-}
-
-impl<'a> Iterator for Runs<'a> {
-    ghost use Rattle.std.specs.Iterator.{YieldsFirstBy, item_count};
-
-    type Item = (u64, &'a [u8]);
-
-    ghost next_gives = { YieldsFirstBy (λ run. (run.0, run.1.now)) (λ left. left) };
-
-    ghost remaining = { item_count (λ left. left) };
-
-    fn next(&mut self) -> Option<(u64, &'a [u8])> {
-        let (run, runs) = self.runs.split_first()?;
-        let (bytes, left) = self.bytes.split_at(run.len);
-        self.runs = runs;
-        self.bytes = left;
-        Some((run.addr, bytes))
+        self.settings.as_slice()
     }
 }
 

@@ -1,13 +1,11 @@
-ghost use Rattle.std.specs.Prelude.{◌≡◌, ◌+◌, ◌++◌, OnOk, IfOk, IsTrue};
-ghost use Rattle.fsb_script.specs.Runs.{is_run};
-ghost use Rattle.fsb_script.specs.Statements.{settings_at};
+ghost use Rattle.std.specs.Prelude.{◌≡◌, ◌+◌, ◌++◌, OnOk, IfOk};
 ghost use Rattle.fsb_script.specs.Text.{settings_text, accesses_text, item_text, items_text, script_text, scripts_text, hazards_text, profile_text, bridge_text, bench_text};
 ghost use Rattle.fsb_script.specs.View.{plan_view};
 
 use crate::line::{
     access_line, agent_line, hazard_line, head_lines, idle_line, setting_line, window_line,
 };
-use crate::plan::{Plan, Settings, Window};
+use crate::plan::{Plan, Window};
 use fsb_access::{Access, Item, Script, Setting};
 use fsb_hazard::HazardLine;
 use fsb_io::Memory;
@@ -24,7 +22,7 @@ pub fn write_bench(alloc: Global, plan: &Plan) -> Result<Vec<u8>, Memory>
     text.extend_from_slice(head.as_slice())?;
     put_profile(&mut text, plan.profile)?;
     put_bridge(&mut text, &plan.bridge)?;
-    put_settings(&mut text, &plan.mem)?;
+    put_settings(&mut text, plan.mem.as_slice())?;
     put_scripts(&mut text, scripts)?;
     put_hazards(&mut text, plan.hazards.as_slice())?;
     Ok(text)
@@ -48,27 +46,11 @@ fn put_bridge(text: &mut Vec<u8>, bridge: &Option<Window>) -> Result<(), Memory>
     Ok(())
 }
 
-fn put_settings(text: &mut Vec<u8>, settings: &Settings) -> Result<(), Memory>
+fn put_settings(text: &mut Vec<u8>, settings: &[Setting]) -> Result<(), Memory>
     ensures { OnOk result (text.new.items ≡ text.old.items ++ settings_text settings.now) }
 {
-    let mut runs = settings.runs();
-    while let Some((addr, bytes)) = runs.next() {
-        put_run(text, addr, bytes)?;
-    }
-    Ok(())
-}
-
-fn put_run(text: &mut Vec<u8>, addr: u64, bytes: &[u8]) -> Result<(), Memory>
-    requires { IsTrue (is_run (addr, bytes.now)) }
-    ensures { OnOk result (
-        text.new.items ≡ text.old.items ++ settings_text (settings_at addr bytes.now)) }
-{
-    for (i, byte) in bytes.iter().enumerate() {
-        let setting = Setting {
-            addr: addr + i as u64,
-            byte: *byte,
-        };
-        text.extend_from_slice(setting_line(&setting).as_slice())?;
+    for setting in settings {
+        text.extend_from_slice(setting_line(setting).as_slice())?;
     }
     Ok(())
 }
@@ -133,99 +115,4 @@ fn put_hazards(text: &mut Vec<u8>, hazards: &[HazardLine]) -> Result<(), Memory>
         text.extend_from_slice(hazard_line(hazard).as_slice())?;
     }
     Ok(())
-}
-
-#[cfg(test)]
-mod tests {
-    use super::*;
-    use crate::plan::Scripts;
-    use fsb_access::{Group, Operand};
-    use std::test::Fail;
-
-    /// The scripts of two agents, of which the second has no items.
-    fn two_scripts(alloc: Global) -> Result<Scripts, Memory> {
-        let mut group = Group::new(alloc);
-        group.push(Access::Load {
-            size: 1,
-            addr: 0x40,
-        })?;
-        group.push(Access::Store {
-            size: 1,
-            addr: 0x40,
-            value: Operand::LastPlus(1),
-        })?;
-        let mut script = Script::new(alloc);
-        script.push(Item::Idle(11))?;
-        script.push(Item::Locked(group))?;
-        script.push(Item::One(Access::Store {
-            size: 8,
-            addr: 0xf_ffff_fff8,
-            value: Operand::Literal(0xfedc_ba98_7654_3210),
-        }))?;
-        let mut scripts = Scripts::new(alloc);
-        scripts.push(script)?;
-        scripts.push(Script::new(alloc))?;
-        Ok(scripts)
-    }
-
-    const SCRIPTS: &str = "\
-agent 0
-idle 11
-lock
-ld 1 40
-st 1 40 r+1
-unlock
-st 8 ffffffff8 fedcba9876543210
-end
-agent 1
-end
-";
-
-    /// A hazard of each kind.
-    const HAZARDS: [HazardLine; 9] = [
-        HazardLine::Stall(0, 1),
-        HazardLine::Trdy(1, 255),
-        HazardLine::Resp(2, 3),
-        HazardLine::Gap(3, 4),
-        HazardLine::Retry(199_999),
-        HazardLine::Defer(5, 65_535),
-        HazardLine::Defer(6, 0),
-        HazardLine::Aerr(7),
-        HazardLine::Bnr(0, 199_999),
-    ];
-
-    const HAZARD_LINES: &str = "\
-tx 0 stall 1
-tx 1 trdy 255
-tx 2 resp 3
-tx 3 data 4
-tx 199999 retry
-tx 5 defer 65535
-tx 6 defer 0
-tx 7 aerr
-bnr 0 199999
-";
-
-    #[test]
-    fn lines_of_scripts_and_hazards(rt: HostRuntime) -> Result<(), Fail> {
-        let mut text = Vec::new(rt.alloc());
-        put_scripts(&mut text, two_scripts(rt.alloc())?.as_slice())?;
-        assert_eq!(rt; text.as_slice(), SCRIPTS.as_bytes());
-        let mut text = Vec::new(rt.alloc());
-        put_hazards(&mut text, &HAZARDS)?;
-        assert_eq!(rt; text.as_slice(), HAZARD_LINES.as_bytes());
-        let mut text = Vec::new(rt.alloc());
-        put_profile(&mut text, 1)?;
-        assert_eq!(rt; text.as_slice(), b"".as_slice());
-        put_profile(&mut text, 2)?;
-        assert_eq!(rt; text.as_slice(), b"profile 2\n".as_slice());
-        let mut text = Vec::new(rt.alloc());
-        let window = Window {
-            base: 0x1000,
-            size: 0x20,
-        };
-        put_bridge(&mut text, &Some(window))?;
-        assert_eq!(rt; text.as_slice(), b"bridge 1000 20\n".as_slice());
-        Ok(())
-    }
 }

@@ -8,7 +8,7 @@ ghost use Rattle.std.specs.Prelude.{◌≡◌, ℕ, ◌<◌, ◌≤◌, ◌/◌,
 ghost use Rattle.std.specs.Fmt.{decimal};
 ghost use Rattle.fsb_io.specs.NumberText.{hexadecimal};
 ghost use Rattle.fsb_script.specs.TextWords.{decimal_of, hex_of};
-ghost use Rattle.fsb_script.specs.Statements.{settings_at, bytes_of, memory_of, profile_of, window_of, load_of, store_of, idle_of, transaction_of, block_of};
+ghost use Rattle.fsb_script.specs.Statements.{bytes_of, memory_of, profile_of, window_of, load_of, store_of, idle_of, transaction_of, block_of};
 ghost use Rattle.fsb_script.specs.Bounds.{is_lawful_setting, is_lawful_window, is_lawful_hazard};
 ghost use Rattle.fsb_script.specs.declared.plan.Window.{Window};
 ghost use Rattle.fsb_access.specs.declared.access.Access.TheVariants.{Load, Store};
@@ -25,7 +25,8 @@ ghost use Rattle.std.specs.List.{list_all};
 ghost use Rattle.fsb_script_laws.specs.LawfulPlans.{IsLawfulPlan, is_byte_setting};
 ghost use Rattle.fsb_script_laws.specs.LineTexts.{IsLineOf, is_of_one_request};
 
-use fsb_script::{Plan, Settings};
+use fsb_access::Setting;
+use fsb_script::Plan;
 
 /// Numbers read back: decimals below 10^18, hexadecimals below 2^64, and the two digits of a byte
 /// of memory.
@@ -80,21 +81,11 @@ fn is_byte(byte: u8)
 {}
 
 /// Memory is set to bytes.
-fn are_bytes(settings: &Settings)
+fn are_bytes(settings: &[Setting])
     ensures { IsTrue (list_all is_byte_setting settings.now) }
 {
-    let mut runs = settings.runs();
-    while let Some((addr, bytes)) = runs.next() {
-        are_bytes_from(addr, bytes);
-    }
-}
-
-/// A run has bytes.
-fn are_bytes_from(addr: u64, bytes: &[u8])
-    ensures { IsTrue (list_all is_byte_setting (settings_at addr bytes.now)) }
-{
-    for byte in bytes {
-        is_byte(*byte);
+    for setting in settings {
+        is_byte(setting.byte);
     }
 }
 
@@ -102,5 +93,5 @@ fn are_bytes_from(addr: u64, bytes: &[u8])
 pub fn every_plan_reads_back(plan: &Plan)
     ensures { BenchText (bench_text (plan_view plan.now)) (plan_view plan.now) }
 {
-    are_bytes(&plan.mem);
+    are_bytes(plan.mem.as_slice());
 }

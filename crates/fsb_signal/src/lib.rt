@@ -17,5 +17,3 @@ mod query;
 mod sample;
 mod signal;
 mod table;
-#[cfg(test)]
-mod tests;

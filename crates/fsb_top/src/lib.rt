@@ -16,7 +16,5 @@ mod read;
 mod run;
 mod show;
 mod status;
-#[cfg(test)]
-mod tests;
 mod top;
 mod wave;

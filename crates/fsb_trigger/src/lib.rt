@@ -16,6 +16,4 @@ mod decimal;
 mod hunt;
 mod read;
 mod test;
-#[cfg(test)]
-mod tests;
 mod trigger;

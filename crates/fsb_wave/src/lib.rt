@@ -11,7 +11,5 @@ pub use wave::Wave;
 
 mod laws;
 mod range;
-#[cfg(test)]
-mod tests;
 mod text;
 mod wave;

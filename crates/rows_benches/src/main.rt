@@ -10,11 +10,11 @@
 //! rows_timely next, where the prover computes the definition of a simulated run on runs like these.
 #![tactic(auto)]
 
-use fsb_access::{Done, Flat, Setting};
+use fsb_access::{Done, Flat};
 use fsb_core::Bench;
 use fsb_hazard::{Hazard, ScriptHazard, SeedHazard};
 use fsb_io::{FileSource, Source, read_all};
-use fsb_script::{Plan, Settings, plan_of, read_bench};
+use fsb_script::{Plan, plan_of, read_bench};
 use fsb_signal::{Marks, Sample};
 use rows_judged::checked;
 use rows_store::Draws;
@@ -259,27 +259,12 @@ impl Tally {
         if is_accepted(bench.plan().profile, bench.trace()) {
             self.accepted = self.accepted.wrapping_add(1);
         }
-        let mut flat = flat_of(alloc, &bench.plan().mem)?;
+        let mut flat = Flat::new(alloc, bench.plan().mem.as_slice()).ok()?;
         if is_served(&mut flat, bench.log())? {
             self.served = self.served.wrapping_add(1);
         }
         Some(())
     }
-}
-
-/// The one byte memory that the settings make; None for want of memory.
-fn flat_of(alloc: Global, settings: &Settings) -> Option<Flat> {
-    let mut sets = Vec::new(alloc);
-    for (addr, bytes) in settings.runs() {
-        for (i, byte) in bytes.iter().enumerate() {
-            let setting = Setting {
-                addr: addr.wrapping_add(i as u64),
-                byte: *byte,
-            };
-            sets.push(setting).ok()?;
-        }
-    }
-    Flat::new(alloc, sets.as_slice()).ok()
 }
 
 /// Whether the checker accepts the samples of a bus of this profile.

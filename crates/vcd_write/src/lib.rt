@@ -8,6 +8,4 @@ pub use header::put_header;
 mod clock;
 mod dump;
 mod header;
-#[cfg(test)]
-mod tests;
 mod value;

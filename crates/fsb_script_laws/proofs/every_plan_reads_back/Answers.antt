@@ -15,7 +15,7 @@ returns c =
       lawful_profile = p.lawful_profile;
       lawful_bridge = p.lawful_bridge;
       lawful_mem = p.lawful_mem;
-      byte_mem = c.are_bytes.ensures;
+      byte_mem = rw c.as_slice.ensures at c.are_bytes.ensures;
       lawful_scripts = p.lawful_scripts;
       lawful_hazards = p.lawful_hazards;
     })

@@ -31,5 +31,5 @@ returns-clause-named c line named =
     ∙ c.as_slice-script-items.ensures)
     ∙ named in
     c.in_ok-memory.ensures.named line
-    ∙ ap (λ b. list_any (is_in_line line) c.args.plan.now.mem || b) listed
-    ∙ or_true (list_any (is_in_line line) c.args.plan.now.mem)
+    ∙ ap (λ b. list_any (is_in_line line) c.as_slice-2.result.now || b) listed
+    ∙ or_true (list_any (is_in_line line) c.as_slice-2.result.now)

@@ -1,0 +1,139 @@
+//! Real files and standard output, and where a dump goes.
+
+ghost use Rattle.std.specs.Prelude.{◌≤◌, length};
+
+use crate::fakes::{BusySystem, Redirected};
+use fsb_io::{Failed, FileSink, FileSource, ReadStop, Sink, Source, StdoutSink, put_all, read_all};
+use std::rt::Files;
+use std::test::Fail;
+use std::{env, fs, io};
+
+#[test]
+fn interrupted_calls_are_tried_again_a_thousand_times(rt: HostRuntime) {
+    for (interrupts, answer) in [(1_000, Ok(1)), (1_001, Err(Failed))] {
+        let system = BusySystem::new(interrupts);
+        let mut source = FileSource::new(&system);
+        assert_eq!(rt; source.begin("text"), Ok(()));
+        assert_eq!(rt; source.read(&mut [0; 4]), answer);
+        assert_eq!(rt; StdoutSink::new(&system).write(b"text"), answer);
+    }
+}
+
+#[test]
+fn file_is_written_and_read_back(rt: HostRuntime) -> Result<(), Fail> {
+    let path = env::temp_dir(&rt)?.join(rt.alloc(), "fsb_io_written_and_read_back")?;
+    let name = path.as_str();
+    assert!(rt; name.len() <= 4_096);
+
+    let mut sink = FileSink::new(&rt, None);
+    assert_eq!(rt; put_all(&mut sink, b"lost"), Err(Failed), "not begun");
+    assert_eq!(rt; sink.begin(name), Ok(()));
+    assert_eq!(rt; put_all(&mut sink, b"old text"), Ok(()));
+    assert_eq!(rt; sink.begin(name), Ok(()));
+    assert_eq!(rt; put_all(&mut sink, b"11 0 0"), Ok(()));
+    assert_eq!(rt; put_all(&mut sink, b" ld\n"), Ok(()));
+    assert_eq!(rt; sink.faults(), 1);
+
+    let mut source = FileSource::new(&rt);
+    assert_eq!(rt; source.begin(name), Ok(()));
+    let text = read_all(rt.alloc(), &mut source, 100)?;
+    assert_eq!(rt; text.as_slice(), b"11 0 0 ld\n".as_slice());
+    assert_eq!(rt; source.faults(), 0);
+
+    fs::remove_file(&rt, name)?;
+    assert_eq!(rt; source.begin(name), Err(Failed), "the file is gone");
+    assert_eq!(rt; source.faults(), 1);
+    Ok(())
+}
+
+#[test]
+fn read_of_a_folder_and_write_to_a_full_device_are_faults(rt: HostRuntime) -> Result<(), Fail> {
+    let mut source = FileSource::new(&rt);
+    assert_eq!(rt; source.begin("/"), Ok(()), "a folder can be opened");
+    let answer = read_all(rt.alloc(), &mut source, 100);
+    assert!(rt; matches!(answer, Err(ReadStop::ReadFault)));
+    assert_eq!(rt; source.faults(), 1);
+
+    let mut sink = FileSink::new(&rt, None);
+    assert_eq!(rt; sink.begin("/dev/full"), Ok(()));
+    assert_eq!(rt; put_all(&mut sink, b"lost"), Err(Failed));
+    assert_eq!(rt; sink.faults(), 1);
+    Ok(())
+}
+
+#[test]
+fn standard_output_is_written_and_never_begun(rt: HostRuntime) {
+    let mut sink = StdoutSink::new(&rt);
+    assert_eq!(rt; sink.begin("out"), Err(Failed));
+    assert_eq!(rt; put_all(&mut sink, b"a line\n"), Ok(()));
+    assert_eq!(rt; sink.faults(), 1);
+}
+
+/// Where a byte goes that is written to a sink.
+#[derive(Clone, Copy, Debug, PartialEq, Eq)]
+enum Place {
+    /// The sink cannot be begun, nor written.
+    Nowhere,
+    Output,
+    File,
+}
+
+/// Begins a sink under a name, where standard output goes to the file `output` and the file `spared` is to be kept, and writes
+/// a byte: how long the file `text` is before the byte, where the byte goes, and how long the file is after it.
+fn placed<R: Files>(
+    files: &R,
+    output: &str,
+    spared: Option<&str>,
+    name: &str,
+    text: &str,
+) -> io::Result<(u64, Option<Place>, u64)>
+    requires { length name.now ≤ 4096 }
+{
+    let system = Redirected::new(files, output);
+    let mut sink = FileSink::new(&system, spared);
+    let is_begun = sink.begin(name).is_ok();
+    let before = fs::metadata(files, text)?.len();
+    let is_written = sink.write(b"x").is_ok();
+    let after = fs::metadata(files, text)?.len();
+    let place = match (is_begun, is_written, system.printed()) {
+        (false, false, 0) => Some(Place::Nowhere),
+        (true, true, 1) => Some(Place::Output),
+        (true, true, 0) => Some(Place::File),
+        _ => None,
+    };
+    Ok((before, place, after))
+}
+
+#[test]
+fn no_file_is_lost_whatever_its_names(rt: HostRuntime) -> Result<(), Fail> {
+    let folder = env::temp_dir(&rt)?;
+    let text = folder.join(rt.alloc(), "fsb_io_place_text")?;
+    let link = folder.join(rt.alloc(), "fsb_io_place_link")?;
+    let other = folder.join(rt.alloc(), "fsb_io_place_other")?;
+    let (text, link, other) = (text.as_str(), link.as_str(), other.as_str());
+    fs::write(&rt, text, b"text")?;
+    fs::write(&rt, other, b"other")?;
+    let _ = fs::remove_file(&rt, link);
+    fs::hard_link(&rt, text, link)?;
+
+    // What standard output goes to, the file that is spared, the name of the sink, and what the text holds before.
+    for (output, spared, name, held, wanted) in [
+        (text, None, text, "text", (4, Place::Output, 4)),
+        (text, Some(other), link, "text", (4, Place::Output, 4)),
+        (other, Some(text), text, "text", (4, Place::Nowhere, 4)),
+        (other, Some(text), link, "text", (4, Place::Nowhere, 4)),
+        ("/no/output", None, text, "text", (4, Place::Nowhere, 4)),
+        (other, None, link, "text", (0, Place::File, 1)),
+        ("/no/output", None, text, "", (0, Place::File, 1)),
+    ] {
+        fs::write(&rt, text, held)?;
+        assert!(rt; name.len() <= 4_096);
+        let (before, place, after) = wanted;
+        let came = placed(&rt, output, spared, name, text)?;
+        assert_eq!(rt; came, (before, Some(place), after));
+    }
+    for name in [text, link, other] {
+        fs::remove_file(&rt, name)?;
+    }
+    Ok(())
+}

@@ -1,0 +1,189 @@
+//! Command lines, and the command that each is.
+
+use fsb_command::{Command, Words, read_words};
+use fsb_io::Memory;
+use std::alloc::{AllocError, Global};
+use std::process::Abort;
+use std::test::Fail;
+
+/// What a command asks for, but for its trigger: its verb, the names of files, and its numbers. No name is `-`.
+fn told(alloc: Global, command: &Command<'_>) -> Result<String, AllocError> {
+    let (verb, first, second, numbers) = match command {
+        Command::Run { bench, dump } => ("run", *bench, dump.unwrap_or("-"), [0, 0, 0]),
+        Command::Check { dump } => ("check", *dump, "-", [0, 0, 0]),
+        Command::Audit { dump } => ("audit", *dump, "-", [0, 0, 0]),
+        Command::Show { dump } => ("show", *dump, "-", [0, 0, 0]),
+        Command::Find { dump, .. } => ("find", *dump, "-", [0, 0, 0]),
+        Command::Wave { dump, range } => {
+            let clocks = [u64::from(range.from), u64::from(range.to), 0];
+            ("wave", *dump, "-", clocks)
+        }
+        Command::Gen {
+            seed,
+            agents,
+            items,
+        } => (
+            "gen",
+            "-",
+            "-",
+            [*seed, u64::from(*agents), u64::from(*items)],
+        ),
+    };
+    let [a, b, c] = numbers;
+    format!(in alloc; "{verb} {first} {second} {a} {b} {c}")
+}
+
+/// The words of a row, with a bar between them.
+fn words_of(alloc: Global, row: &str) -> Result<Words, Memory> {
+    let mut words = Words::new(alloc);
+    for word in row.split("|") {
+        words.push(alloc, word)?;
+    }
+    Ok(words)
+}
+
+/// Asserts what is told of the words: what they ask for, or `none`.
+fn expect_told(rt: &impl Abort, alloc: Global, words: &Words, wanted: &str) {
+    match read_words(alloc, words).expect(rt, "out of memory") {
+        Some(command) => {
+            let told = told(alloc, &command).expect(rt, "out of memory");
+            assert_eq!(rt; told.as_str(), wanted);
+        }
+        None => assert_eq!(rt; "none", wanted),
+    }
+}
+
+#[test]
+fn words_keep_their_order(rt: HostRuntime) {
+    let words = words_of(rt.alloc(), "run|first.bench|first.vcd").expect(&rt, "out of memory");
+    assert_eq!(rt; words.len(), 3);
+    assert!(rt; !words.is_empty());
+    assert_eq!(rt; words.word(1), Some("first.bench"));
+    assert_eq!(rt; words.word(3), None);
+}
+
+/// Command lines of each form, and what each asks for; and at the bounds of what a plan is made from, where there is none.
+const FORMS: &str = "\
+run|a.bench=run a.bench - 0 0 0
+run|a.bench|d.vcd=run a.bench d.vcd 0 0 0
+run|run|run=run run run 0 0 0
+run|x-|d-=run x- d- 0 0 0
+check|d.vcd=check d.vcd - 0 0 0
+check|help=check help - 0 0 0
+audit|d.vcd=audit d.vcd - 0 0 0
+show|d.vcd=show d.vcd - 0 0 0
+find|d.vcd|ADS/<3:HITM=find d.vcd - 0 0 0
+wave|d.vcd|0|63=wave d.vcd - 0 63 0
+wave|d.vcd|4294967232|4294967295=wave d.vcd - 4294967232 4294967295 0
+gen|0|1|1=gen - - 0 1 1
+gen|00018446744073709551|0004|4096=gen - - 18446744073709551 4 4096
+gen|18446744073709551615|1|1=gen - - 18446744073709551615 1 1
+gen|18446744073709551616|1|1=none
+gen|99999999999999999999|1|1=none
+gen|00000000000000000007|1|1=gen - - 7 1 1
+gen|000000000000000000007|1|1=none
+gen|7|0|1=none
+gen|7|4|1=gen - - 7 4 1
+gen|7|5|1=none
+gen|7|0004|1=gen - - 7 4 1
+gen|7|00004|1=none
+gen|7|4|0=none
+gen|7|4|4096=gen - - 7 4 4096
+gen|7|4|4097=none
+gen|7|4|0001=gen - - 7 4 1
+gen|7|4|00001=none
+";
+
+#[test]
+fn each_form_names_its_command(rt: HostRuntime) {
+    for row in FORMS.lines() {
+        let (row, wanted) = row.split_once("=").expect(&rt, "no command");
+        let words = words_of(rt.alloc(), row).expect(&rt, "out of memory");
+        expect_told(&rt, rt.alloc(), &words, wanted);
+    }
+}
+
+/// Words that have no form.
+const NO_FORM: &str = "\
+run
+
+run|
+run|-x
+run|-x|d.vcd
+run|--|a.bench
+run|a.bench|-d.vcd
+run|a.bench|
+run|a.bench|d.vcd|more
+run|a.bench|d.vcd|more|more
+Run|a.bench
+RUN|a.bench
+runs|a.bench
+ru|a.bench
+checks|d.vcd
+judge|d.vcd
+-|a.bench
+--help
+-h
+help
+help|run
+p6bench|run|a.bench
+check
+check|
+check|-d.vcd
+check|d.vcd|more
+audit
+audit|-d.vcd
+audit|d.vcd|more
+show
+show|-d.vcd
+show|d.vcd|more
+find|d.vcd
+find|d.vcd|
+find|d.vcd|ads
+find|d.vcd|ADS/
+find|-d.vcd|ADS
+find|d.vcd|ADS|HIT
+wave|d.vcd
+wave|d.vcd|0
+wave|d.vcd|0|64
+wave|d.vcd|5|4
+wave|d.vcd|-1|4
+wave|d.vcd||4
+wave|d.vcd|0|00000000004
+wave|d.vcd|4294967295|4294967296
+wave|d.vcd|0|1|2
+gen
+gen|0
+gen|0|1
+gen|0|1|1|1
+gen|0|1|
+gen|-0|1|1
+gen|+0|1|1
+gen|0x1|1|1
+gen|0|1 |1
+";
+
+#[test]
+fn words_without_a_form(rt: HostRuntime) {
+    expect_told(&rt, rt.alloc(), &Words::new(rt.alloc()), "none");
+    for row in NO_FORM.lines() {
+        let words = words_of(rt.alloc(), row).expect(&rt, "out of memory");
+        expect_told(&rt, rt.alloc(), &words, "none");
+    }
+}
+
+/// The forms with a name in them.
+static NAMED: [&'static str; 3] = ["check|", "run|", "run|a.bench|"];
+
+/// The longest word may be the name of a file, of a bench file and of a dump; with one byte more it may not.
+#[test]
+fn longest_word(rt: HostRuntime) -> Result<(), Fail> {
+    let name = "a".repeat(rt.alloc(), 4_096)?;
+    for form in NAMED.iter() {
+        let longest = words_of(rt.alloc(), &format!(in rt.alloc(); "{form}{name}")?)?;
+        assert!(rt; read_words(rt.alloc(), &longest)?.is_some(), "{form}");
+        let longer = words_of(rt.alloc(), &format!(in rt.alloc(); "{form}{name}a")?)?;
+        assert!(rt; read_words(rt.alloc(), &longer)?.is_none(), "{form}");
+    }
+    Ok(())
+}
