@@ -47,9 +47,9 @@ fn expect_told(rt: &impl Abort, alloc: Global, words: &Words, wanted: &str) {
     match read_words(alloc, words).expect(rt, "out of memory") {
         Some(command) => {
             let told = told(alloc, &command).expect(rt, "out of memory");
-            assert_eq!(rt; told.as_str(), wanted);
+            assert_eq!(rt; told.as_str(), wanted, "{words:?}");
         }
-        None => assert_eq!(rt; "none", wanted),
+        None => assert_eq!(rt; "none", wanted, "{words:?}"),
     }
 }
 

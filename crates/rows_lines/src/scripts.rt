@@ -56,12 +56,12 @@ pub(crate) fn read(rt: &impl Abort, alloc: Global, text: &str) -> Result<Plan, S
 /// Asserts what is told of a text: `read`, or its first bad line and that line's cause.
 fn expect_told(rt: &impl Abort, alloc: Global, text: &str, wanted: &str) {
     match read(rt, alloc, text) {
-        Ok(_) => assert_eq!(rt; "read", wanted),
+        Ok(_) => assert_eq!(rt; "read", wanted, "{text:?}"),
         Err(ScriptStop::Bad(fault)) => {
             let line = fault.line;
             let cause = fault.cause;
             let told = format!(in alloc; "{line} {cause:?}").expect(rt, "out of memory");
-            assert_eq!(rt; told.as_str(), wanted);
+            assert_eq!(rt; told.as_str(), wanted, "{text:?}");
         }
         Err(ScriptStop::Memory) => rt.abort(),
     }
