@@ -17,8 +17,11 @@ loop-count-preserved c =
     let sets = c.args.sets.now in
     record {
       within = omega (arith, c.loop-count-test.true);
-      in_line = omega (arith, l.invariant.in_line,
-          in_line-more _ sets l.count c.loop-count-test.true c.if-sets-count.true);
+      in_line = omega (
+        arith,
+        l.invariant.in_line,
+        in_line-more _ sets l.count c.loop-count-test.true c.if-sets-count.true,
+      );
       all = length-set _ _ _ ∙ l.invariant.all;
       bytes = bytes_so_far-more _ _ l.bytes sets l.count _ l.invariant.bytes c.loop-count-test.true
           refl c.if-sets-count.true;
