@@ -7,7 +7,7 @@
 //! `Purpose` and `Link` are the words that the events use, as calls. Of these the agents call
 //! `Mesi::answer`, `after_snoop`, `granted`, `is_held`, `is_sole` and `Purpose::owns`; what else the
 //! agents and the bus decide, fsb_coherent ties to the events of a line, clock by clock. No clock,
-//! queue, cache set or address stands here. docs/coherence.md tells the argument.
+//! queue, cache set or address stands here. docs/proof/coherence.md tells the argument.
 #![tactic(auto)]
 
 pub use link::Link;
