@@ -1,5 +1,5 @@
 #!/usr/bin/env python3
-"""dump_of_trace.py PROFILE FILE: the dump of a trace that is written clock by clock, as docs/dump-format.md says.
+"""dump_of_trace.py PROFILE FILE: the dump of a trace that is written clock by clock, as docs/reference/dump-format.md says.
 
 Each line of FILE is a clock: its number, the control lines that are asserted there or `-`, and the words that are not 0,
 in hexadecimal: REQ=, A= (the address word, whose bit 0 is A3#), D=. Nothing is unknown."""

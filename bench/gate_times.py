@@ -1,7 +1,7 @@
 #!/usr/bin/env python3
 """Runs the gate once, and tells what it takes of each crate.
 
-Usage: bench/gate_times.py TIMES             runs .ci/run, writes what it took into the file TIMES, and the table into docs/DECISIONS.md
+Usage: bench/gate_times.py TIMES             runs .ci/run, writes what it took into the file TIMES, and the table into docs/proof/times.md
        bench/gate_times.py --table TIMES     writes the table from an earlier run, and runs nothing
 
 While the gate runs, /proc is looked at every two seconds: each process of it counts for the crate that it works on, as proof, as tests (the crate is proved
@@ -21,7 +21,7 @@ import sys
 import time
 
 TOP = os.path.dirname(os.path.dirname(os.path.abspath(__file__)))
-DECISIONS = os.path.join(TOP, "docs/DECISIONS.md")
+PAGE = os.path.join(TOP, "docs/proof/times.md")
 HEADING = "| Crate | Tests | Stored runs | Edits | Seconds of a processor: proof | tests | edits |\n|---|---|---|---|---|---|---|\n"
 KINDS = ("proof", "tests", "edits")
 TICKS = os.sysconf("SC_CLK_TCK")
@@ -146,19 +146,19 @@ def row(name, seconds):
 
 
 def write_table(told):
-    """Puts the table in the place of the one that docs/DECISIONS.md has."""
+    """Puts the table in the place of the one that docs/proof/times.md has."""
     order = crates()
     rows = [row(name, told["crates"]) for name in order]
     tests, edits = (sum(one[place] for one in rows) for place in (1, 2))
     took = [sum(one[3][place] for one in rows) for place in range(len(KINDS))]
     last = "| all %d | %d | – | %d | %s |\n" % (len(order), tests, edits, " | ".join(map(str, took)))
     table = HEADING + "".join(one[0] for one in rows) + last
-    with open(DECISIONS) as file:
+    with open(PAGE) as file:
         text = file.read()
     text, count = re.subn(r"\| Crate \| Tests \|(.*\n)(\|.*\n)*", lambda _: table, text)
     if count != 1:
-        sys.exit("docs/DECISIONS.md has %d such tables, and not one" % count)
-    with open(DECISIONS, "w") as file:
+        sys.exit("docs/proof/times.md has %d such tables, and not one" % count)
+    with open(PAGE, "w") as file:
         file.write(text)
 
 

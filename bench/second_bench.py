@@ -1,6 +1,6 @@
 #!/usr/bin/env python3
-"""A second simulator of the bus, written from the documents alone: bench-file.md, bus.md, agents.md, phase-rules.md,
-dump-format.md and commands.md of docs/.
+"""A second simulator of the bus, written from the documents alone: phase-rules.md and dump.md of docs/,
+bench-file.md, dump-format.md and commands.md of docs/reference/, bus.md and agents.md of docs/proof/.
 
     second_bench.py BENCH [TRACE]                       the log as `p6bench run` prints it; the waveform into the file TRACE
     second_bench.py --gen SEED AGENTS ITEMS             the summary as `p6bench gen` prints it

@@ -1,4 +1,4 @@
-"""A second reader of dumps, written from docs/dump-format.md alone: what the lines have at each clock, or the first fault of the text.
+"""A second reader of dumps, written from docs/dump.md and docs/reference/dump-format.md alone: what the lines have at each clock, or the first fault of the text.
 
 It reads the whole text as the document says it, word by word, and is slow and plain.
 """

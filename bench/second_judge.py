@@ -1,5 +1,5 @@
 #!/usr/bin/env python3
-"""A second judge of the bus's waveforms, written from docs/phase-rules.md and docs/dump-format.md alone.
+"""A second judge of the bus's waveforms, written from docs/phase-rules.md, docs/dump.md and docs/reference/dump-format.md alone.
 
     second_judge.py DUMP
 

@@ -1,5 +1,5 @@
 #!/usr/bin/env python3
-"""A second audit, table, search and wave, written from the documents alone (audit.md, show.md and commands.md of docs/), beside those of the program.
+"""A second audit, table, search and wave, written from the documents alone (audit.md of docs/; show.md, commands.md, triggers.md and waves.md of docs/reference/), beside those of the program.
 
     second_look.py [PROGRAM [COUNT [SEED]]]
 

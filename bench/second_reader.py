@@ -1,4 +1,4 @@
-"""Reads bench files for second_bench.py, as docs/bench-file.md says."""
+"""Reads bench files for second_bench.py, as docs/reference/bench-file.md says."""
 import collections
 import re
 

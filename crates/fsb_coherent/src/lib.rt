@@ -1,7 +1,7 @@
 //! A simulated run is coherent, line by line: laws over the definitions, and no code.
 //!
 //! `specs/` has the events of a line of memory in a run, clock by clock, and what the line of the pure machine has to do
-//! with the run after them. docs/coherence.md tells the argument from the bus to the line.
+//! with the run after them. docs/proof/coherence.md tells the argument from the bus to the line.
 #![tactic(auto)]
 
 pub use laws::{

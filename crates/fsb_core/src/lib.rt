@@ -21,7 +21,7 @@
 //!
 //! A step takes no memory and has no refusal. The code looks for nothing in the log, in a script or
 //! in the trace, so that a step costs the same however long the run is already (measured in
-//! docs/speed.md, said by no contract). It goes in this order: the
+//! docs/proof/speed.md, said by no contract). It goes in this order: the
 //! objects are asked for BNR#; what the phases drive, and the bytes that move from a response on;
 //! the hits, agent 0 first; what the agents want and what begins; the snoop result; the sample;
 //! what the objects choose for the request that begins; then what the clock brings: that request,

@@ -2,7 +2,7 @@
 //!
 //! `specs/` says what it is that a trace keeps a rule; `proofs/` has for each rule why a timely run keeps it: rule 12
 //! where who writes a line back has it alone (`WritesBackAlone`), which fsb_tied proves of each run. A rule is
-//! judged over the samples up to its clock alone, and so is each part of what a timely run is; docs/phase-rules.md tells
+//! judged over the samples up to its clock alone, and so is each part of what a timely run is; docs/proof/kept-rules.md tells
 //! beside each rule on which of these parts it rests.
 #![tactic(auto)]
 

@@ -7,7 +7,7 @@
 //! `Purpose` are words of the events that the agents call; what else agents and bus decide,
 //! fsb_coherent ties to the events of a line, clock by clock. `Link`, `Ruling` and `Settled` are
 //! types that the definitions speak of. No clock, queue, cache set or address stands here.
-//! docs/coherence.md tells the argument.
+//! docs/proof/coherence.md tells the argument.
 #![tactic(auto)]
 
 pub use link::Link;

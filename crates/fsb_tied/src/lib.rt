@@ -4,7 +4,7 @@
 //! `proofs/` shows that each clock of a timely run has the facts on which the tie between a line of
 //! the pure machine and the run rests: the order of responses and ends, that accesses are served,
 //! that what begins is the want, and how a request is settled. Where the log is served and follows
-//! the scripts, the bytes of lines, copies and memory are told too. docs/coherence.md tells the
+//! the scripts, the bytes of lines, copies and memory are told too. docs/proof/coherence.md tells the
 //! argument.
 #![tactic(auto)]
 

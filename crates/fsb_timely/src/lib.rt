@@ -3,7 +3,7 @@
 //!
 //! A run is a plan with the choices, the holds, the trace and the log that came of it. What is said of a clock is said of
 //! the run up to that clock, so it stays as it is however the run goes on. The definitions are in `specs/`;
-//! docs/agents.md tells what the agents do, and docs/bus.md how the bus moves. There is no code but laws over them.
+//! docs/proof/agents.md tells what the agents do, and docs/proof/bus.md how the bus moves. There is no code but laws over them.
 #![tactic(auto)]
 
 pub use asked::{answers_are_kept, asked_in_steps};

@@ -1,5 +1,5 @@
 //! Texts of dumps, small ones and those of other tools, with the samples or the first fault that each has, worked out by hand
-//! from docs/dump-format.md: tests of `vcd_read`, whole and in pieces.
+//! from docs/reference/dump-format.md: tests of `vcd_read`, whole and in pieces.
 //!
 //! The tests go over tables: `table` has small texts, `parity` those with parity lines, `loads` the samples of a load, `texts`
 //! what stands before the text of a row, and `calls` goes once through the calls of the reader. The program reads the files of

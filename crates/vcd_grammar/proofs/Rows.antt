@@ -1,4 +1,4 @@
--- Small texts with what they say, worked out by hand from docs/dump-format.md: what the definitions make of them, by
+-- Small texts with what they say, worked out by hand from docs/reference/dump-format.md: what the definitions make of them, by
 -- computation, is that. Each row tells a clause of a definition from a near miss of it.
 use Rattle.std.specs.Prelude.{◌≡◌, ◌+◌, ◌++◌, [], ◌∷◌, length, map, replicate, List, ℕ, Bool, true, false, Option, Some}
 use Rattle.std.specs.Prelude.{None, codes}
