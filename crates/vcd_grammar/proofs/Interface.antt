@@ -4,4 +4,4 @@
 pub use Rattle.vcd_grammar.proofs.Append.{behind-append, blocks_some, ended-cons, events_in-append, open-append}
 pub use Rattle.vcd_grammar.proofs.Append.{tokens-append}
 -- Once the header is over, the marks are known and stay; before that no time has come, so no block has ended.
-pub use Rattle.vcd_grammar.proofs.MarkFacts.{marks-first, marks-longer, marks-whole}
+pub use Rattle.vcd_grammar.proofs.MarkFacts.{marks-first, marks-longer, marks-whole, marks-ended}

@@ -2,4 +2,5 @@ pub mod Examples
 mod Rows
 pub mod Append
 pub mod MarkFacts
+mod HeadingFacts
 pub mod Interface

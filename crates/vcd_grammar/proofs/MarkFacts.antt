@@ -16,11 +16,11 @@ use Rattle.vcd_grammar.specs.Blocks.{Block, BlockEvent, Later, Changed, blocks_f
 use Rattle.vcd_grammar.specs.Values.{at_first, samples_in}
 use Rattle.vcd_grammar.specs.Judging.{Draft, Mode, Header, Variable, Skipped, Closing, Values, Pending, Beside, Passed}
 use Rattle.vcd_grammar.specs.Judging.{Known, nothing, TokenTurn, stays, goes_to, fails, unless_long, drafted}
-use Rattle.vcd_grammar.specs.Judging.{is_declared, other_declared, line_declared, named, with_width, declared}
+use Rattle.vcd_grammar.specs.Judging.{is_declared, other_declared, line_declared, undeclared, named, with_width, declared}
 use Rattle.vcd_grammar.specs.Judging.{missing_from, closed_with, closed, header_turn, later, stamped, scalar_turn}
-use Rattle.vcd_grammar.specs.Judging.{value_turn, is_too_wide, vector_turn, beside_turn, turn_in, turn, behind}
+use Rattle.vcd_grammar.specs.Judging.{value_turn, is_too_wide, vector_turn, beside_turn, turn_in, mode_behind, turn, behind}
 use Rattle.vcd_grammar.specs.Judging.{events_in, is_past_header, marks_of_lines, known_marks}
-use Rattle.vcd_grammar.specs.Reading.{marks_of, marks_so_far, samples_so_far}
+use Rattle.vcd_grammar.specs.Reading.{marks_of, marks_so_far, marks_at_end, samples_so_far}
 use Rattle.vcd_grammar.proofs.Append.{tokens-append, behind-append}
 
 -- ---- behind the header
@@ -90,7 +90,7 @@ past-long : (k : Known) (t : Token) (x : TokenTurn) → is_past_header k.mode �
 past-long k t x h p = past-if k (is_long t.word) (fails k t.place causes.Token) x
     (past-fails k t.place causes.Token h) p
 
-past-in : (m : Mode) (k : Known) (t : Token) → is_past_header m ≡ true → is_past_header k.mode ≡ true
+pub past-in : (m : Mode) (k : Known) (t : Token) → is_past_header m ≡ true → is_past_header k.mode ≡ true
     → Past k (turn_in m k t).known
 past-in Header k t m h = cc m
 past-in (Variable d) k t m h = cc m
@@ -106,9 +106,20 @@ past-in Beside k t m h = past-long k t (beside_turn k t.place (lines_of k.codes 
 past-in Passed k t m h = past-if k (is_end t.word) (goes_to k Values) (stays k) (past-goes k Values refl)
     (past-stays k h)
 
+past-follows : (m : Mode) (t : Token) → is_past_header m ≡ true → is_past_header (mode_behind m t) ≡ true
+past-follows Header t h = cc h
+past-follows (Variable d) t h = cc h
+past-follows Skipped t h = cc h
+past-follows (Closing place) t h = cc h
+past-follows Values t h = refl
+past-follows (Pending from digits) t h = refl
+past-follows Beside t h = refl
+past-follows Passed t h = refl
+
 past-turn : (k : Known) (t : Token) → is_past_header k.mode ≡ true → Past k (turn k t).known
 unfolding turn
-past-turn k t h = past-if k (is_some k.fault) (stays k) (turn_in k.mode k t) (past-stays k h) (past-in k.mode k t h h)
+past-turn k t h = past-if k (is_some k.fault) (goes_to k (mode_behind k.mode t)) (turn_in k.mode k t)
+    (past-goes k (mode_behind k.mode t) (past-follows k.mode t h)) (past-in k.mode k t h h)
 
 pub past-behind : (k : Known) (ts : List Token) → is_past_header k.mode ≡ true → Past k (behind k ts)
 past-behind k [] h = past-stays k h
@@ -161,6 +172,13 @@ marks-whole fed more m h =
       (past-behind (behind nothing (tokens_so_far text)) last known.0).lines,
     ) known.1
 
+-- the last token of a text changes none
+pub marks-ended : (text : List ℕ) (m : Marks) → marks_so_far text ≡ Some m → marks_at_end text ≡ Some m
+unfolding marks_so_far marks_at_end
+marks-ended text m h =
+    let last = ended_at (length text) (open_run text) in
+    rw (behind-append nothing (tokens_so_far text) last) (marks_stay (behind nothing (tokens_so_far text)) last m h)
+
 -- ---- before the end of the header
 
 -- what happens is no time
@@ -179,14 +197,14 @@ calm-if false x y p q = q
 calm-named : (k : Known) (d : Draft) (width : ℕ) (line : Option ℕ) → Calm (named k d width line).events
 calm-named k d width None = refl
 calm-named k d width (Some number) =
-    let lined = if width == width_of number then line_declared k d.code number else fails k d.place causes.Width in
+    let lined = if width == width_of number then line_declared k d.code number else undeclared k d causes.Width in
     calm-if (not d.is_line || is_declared k.lines number) (other_declared k d.code) lined refl
-    (calm-if (width == width_of number) (line_declared k d.code number) (fails k d.place causes.Width) refl refl)
+    (calm-if (width == width_of number) (line_declared k d.code number) (undeclared k d causes.Width) refl refl)
 
 calm-width : (k : Known) (d : Draft) (width : Option ℕ) → Calm (with_width k d width).events
 calm-width k d None = refl
 calm-width k d (Some width) = calm-if ((d.count == 4) && is_code_word d.code) (named k d width d.line)
-    (fails k d.place causes.Header) (calm-named k d width d.line) refl
+    (undeclared k d causes.Header) (calm-named k d width d.line) refl
 
 calm-declared : (k : Known) (d : Draft) → Calm (declared k d).events
 unfolding declared
@@ -223,7 +241,8 @@ calm-in Passed k t m = cc m
 
 calm-turn : (k : Known) (t : Token) → is_past_header k.mode ≡ false → Calm (turn k t).events
 unfolding turn
-calm-turn k t h = calm-if (is_some k.fault) (stays k) (turn_in k.mode k t) refl (calm-in k.mode k t h)
+calm-turn k t h = calm-if (is_some k.fault) (goes_to k (mode_behind k.mode t)) (turn_in k.mode k t) refl
+    (calm-in k.mode k t h)
 
 calm-append : (a b : List BlockEvent) → Calm a → Calm b → Calm (a ++ b)
 calm-append [] b p q = q

@@ -435,8 +435,20 @@ marking =
     ∷ unmarked (codes "$var wire 2 y AP_n $end $enddefinitions $end")
     ∷ unmarked (codes "$var wire 2 y AP_n $end $enddefinitions ")
     ∷ unmarked (codes "$var wire 2 y AP_n $end ")
-    ∷ unmarked (codes "$var wire 1 y AP_n $end $enddefinitions $end ")
+    ∷ unmarked (codes "$var wire 1 y AP_n $end $enddefinitions ")
+    -- a fault before
+    ∷ marked (codes "$var wire 1 y AP_n $end $var wire 1 z RP_n $end $enddefinitions $end ") false false
+    ∷ marked (codes "$var wire 1 z RP_n $end word $var wire 2 y AP_n $end $enddefinitions $end ") false true
+    ∷ marked (codes "word $comment $enddefinitions $end $end $enddefinitions some $end #1 #0 ") false false
+    ∷ unmarked (codes "word $comment $enddefinitions $end $end $enddefinitions $end")
     ∷ []
+
+-- the end of a header that misses a line
+pub marking-missing : marks_so_far (codes "$var wire 2 y AP_n $end $enddefinitions $end ")
+    ≡ Some (record { ap = true; rp = false })
+unfolding marks_so_far ended_at grown_at number_up_to time_in extended header_word value_word is_read_past
+    is_foreign_type signal_number turn drafted declared closed
+marking-missing = refl
 
 pub marking-so_far : map (λ (row : Marked). marks_so_far (lines ++ row.text)) marking
     ≡ map (λ (row : Marked). row.marks) marking

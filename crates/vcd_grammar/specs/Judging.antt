@@ -103,18 +103,22 @@ line_declared k code number = record {
   events = Changed (record { lines = number ∷ []; digits = 120 ∷ [] }) ∷ [];
 }
 
+-- a declaration that is a fault at its `$end`, behind which it is over
+abbrev pub undeclared : Known → Draft → VcdCause → TokenTurn
+undeclared k d cause = fails (record k { mode = Header }) d.place cause
+
 -- a variable of a line's name is that line, where its type allows it and no earlier variable is; it must have the line's width
 abbrev pub named : Known → Draft → ℕ → Option ℕ → TokenTurn
 named k d width None = other_declared k d.code
 named k d width (Some number) =
     if not d.is_line || is_declared k.lines number then other_declared k d.code
-    else (if width == width_of number then line_declared k d.code number else fails k d.place causes.Width)
+    else (if width == width_of number then line_declared k d.code number else undeclared k d causes.Width)
 
 -- a declaration at its `$end`: it has four tokens at least, its width is a number, and its code is one
 abbrev pub with_width : Known → Draft → Option ℕ → TokenTurn
-with_width k d None = fails k d.place causes.Header
+with_width k d None = undeclared k d causes.Header
 with_width k d (Some width) =
-    if (d.count == 4) && is_code_word d.code then named k d width d.line else fails k d.place causes.Header
+    if (d.count == 4) && is_code_word d.code then named k d width d.line else undeclared k d causes.Header
 
 -- a declaration at its `$end`
 unfoldable pub declared : Known → Draft → TokenTurn
@@ -129,7 +133,7 @@ missing_from lines number (e ∷ es) =
 -- the end of the header whose `$enddefinitions` stands at a place
 abbrev pub closed_with : Known → ℕ → Option ℕ → TokenTurn
 closed_with k place None = goes_to k Values
-closed_with k place (Some number) = fails k place (causes.Missing number)
+closed_with k place (Some number) = fails (record k { mode = Values }) place (causes.Missing number)
 
 -- the end of the header
 unfoldable pub closed : Known → ℕ → TokenTurn
@@ -197,9 +201,29 @@ turn_in (Pending from digits) k t = unless_long k t (vector_turn k t.place from 
 turn_in Beside k t = unless_long k t (beside_turn k t.place (lines_of k.codes t.word))
 turn_in Passed k t = if is_end t.word then goes_to k Values else stays k
 
--- what a token does: nothing behind the first fault
+-- where the next token stands behind a word between the sections of a header with a fault
+abbrev pub mode_behind_word : ℕ → HeaderWord → Mode
+mode_behind_word place Declares = Skipped
+mode_behind_word place Finishes = Closing place
+mode_behind_word place Ends = Header
+mode_behind_word place Opens = Skipped
+mode_behind_word place Bare = Header
+
+-- where the next token stands behind one that follows a fault: the sections of the header go on to the `$end` of its
+-- `$enddefinitions`
+abbrev pub mode_behind : Mode → Token → Mode
+mode_behind Header t = if is_long t.word then Header else mode_behind_word t.place (header_word t.word)
+mode_behind (Variable d) t = if is_end t.word then Header else Variable d
+mode_behind Skipped t = if is_end t.word then Header else Skipped
+mode_behind (Closing place) t = if is_end t.word then Values else Closing place
+mode_behind Values t = Values
+mode_behind (Pending from digits) t = Pending from digits
+mode_behind Beside t = Beside
+mode_behind Passed t = Passed
+
+-- what a token does: behind the first fault it declares nothing and changes nothing, and only the header goes on
 unfoldable pub turn : Known → Token → TokenTurn
-turn k t = if is_some k.fault then stays k else turn_in k.mode k t
+turn k t = if is_some k.fault then goes_to k (mode_behind k.mode t) else turn_in k.mode k t
 
 -- what is known behind tokens
 abbrev pub behind : Known → List Token → Known

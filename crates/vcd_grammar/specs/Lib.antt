@@ -7,4 +7,5 @@ pub mod Levels
 pub mod LevelFacts
 pub mod Values
 pub mod Judging
+pub mod Heading
 pub mod Reading

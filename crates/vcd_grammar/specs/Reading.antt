@@ -52,6 +52,11 @@ fault_so_far fed = (behind nothing (tokens_so_far fed)).fault
 unfoldable pub samples_so_far : List ℕ → List Sample
 samples_so_far fed = samples_in at_first (ended (blocks_of (events_in nothing (tokens_so_far fed))))
 
--- the marks that the tokens show which count in some first bytes of a text: none until the header is over
+-- the marks that the tokens show which count in some first bytes of a text: none until the `$enddefinitions` has its
+-- `$end`, and from then on those of the lines that were declared before the first fault
 unfoldable pub marks_so_far : List ℕ → Option Marks
 marks_so_far fed = known_marks (behind nothing (tokens_so_far fed))
+
+-- the marks that a whole text shows, whose last token counts too: none where its `$enddefinitions` has no `$end`
+unfoldable pub marks_at_end : List ℕ → Option Marks
+marks_at_end text = known_marks (behind nothing (tokens_of text))

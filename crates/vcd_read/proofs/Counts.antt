@@ -15,7 +15,7 @@ use Rattle.vcd_grammar.specs.Blocks.{BlockEvent, Later, Changed}
 use Rattle.vcd_grammar.specs.Judging.{Known, TokenTurn, Draft, Mode, Header, Variable, Skipped, Closing, Values}
 use Rattle.vcd_grammar.specs.Judging.{Pending, Beside, Passed, turn, turn_in, stays, goes_to, fails, later, unless_long}
 use Rattle.vcd_grammar.specs.Judging.{header_turn, declared, closed, closed_with, missing_from, other_declared}
-use Rattle.vcd_grammar.specs.Judging.{line_declared, named, with_width, is_declared, drafted, stamped, scalar_turn}
+use Rattle.vcd_grammar.specs.Judging.{line_declared, named, with_width, undeclared, mode_behind, is_declared, drafted, stamped, scalar_turn}
 use Rattle.vcd_grammar.specs.Judging.{value_turn, is_too_wide, vector_turn, beside_turn}
 use Rattle.vcd_read.specs.Lines.{OpenLines, rises, after_event, decided_by, after_events, decided_in}
 use Rattle.vcd_read.specs.Taking.{Taken, decided_of, take_token, take_tokens, samples_in_tokens}
@@ -46,15 +46,15 @@ one_named : (k : Known) (d : Draft) (width : ℕ) (line : Option ℕ) → One (n
 one_named k d width None = record { at_most = omega arith }
 one_named k d width (Some number) =
     either (not d.is_line || is_declared k.lines number) (other_declared k d.code)
-    (if width == width_of number then line_declared k d.code number else fails k d.place causes.Width)
+    (if width == width_of number then line_declared k d.code number else undeclared k d causes.Width)
     (record { at_most = omega arith })
-    (either (width == width_of number) (line_declared k d.code number) (fails k d.place causes.Width)
+    (either (width == width_of number) (line_declared k d.code number) (undeclared k d causes.Width)
     (record { at_most = omega arith }) (record { at_most = omega arith }))
 
 one_width : (k : Known) (d : Draft) (width : Option ℕ) → One (with_width k d width)
 one_width k d None = record { at_most = omega arith }
 one_width k d (Some width) = either ((d.count == 4) && is_code_word d.code) (named k d width d.line)
-    (fails k d.place causes.Header) (one_named k d width d.line) (record { at_most = omega arith })
+    (undeclared k d causes.Header) (one_named k d width d.line) (record { at_most = omega arith })
 
 one_closed : (k : Known) (place : ℕ) (line : Option ℕ) → One (closed_with k place line)
 one_closed k place None = record { at_most = omega arith }
@@ -120,7 +120,8 @@ one_in Passed k t = either (is_end t.word) (goes_to k Values) (stays k) (one_goe
 
 one_turn : (k : Known) (t : Token) → One (turn k t)
 unfolding turn
-one_turn k t = either (is_some k.fault) (stays k) (turn_in k.mode k t) (one_stays k) (one_in k.mode k t)
+one_turn k t = either (is_some k.fault) (goes_to k (mode_behind k.mode t)) (turn_in k.mode k t)
+    (record { at_most = omega arith }) (one_in k.mode k t)
 
 -- each event decides one sample at most
 event_most : (l : OpenLines) (e : BlockEvent) → (after_event l e).decided ≤ l.decided + 1

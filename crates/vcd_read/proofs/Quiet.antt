@@ -4,7 +4,7 @@ use Rattle.std.proofs.Common.{if◌then◌else◌, refl, sym, ap, ◌∙◌}
 use Rattle.vcd_grammar.specs.Tokens.{Token, is_long}
 use Rattle.vcd_grammar.specs.Words.{is_end, is_code_word}
 use Rattle.vcd_grammar.specs.Judging.{Known, TokenTurn, Draft, Mode, Variable, Closing, turn, turn_in, stays, goes_to}
-use Rattle.vcd_grammar.specs.Judging.{fails, declared, closed, missing_from, other_declared, line_declared, named}
+use Rattle.vcd_grammar.specs.Judging.{fails, declared, undeclared, mode_behind, closed, missing_from, other_declared, line_declared, named}
 use Rattle.vcd_grammar.specs.Judging.{with_width, is_declared, drafted, closed_with}
 use Rattle.fsb_signal.specs.Table.{table}
 use Rattle.fsb_signal.specs.DumpText.{width_of}
@@ -23,13 +23,13 @@ quiet_named : (s : Taken) (k : Known) (d : Draft) (width : ℕ) (line : Option �
 quiet_named s k d width None = refl
 quiet_named s k d width (Some number) =
     both s (not d.is_line || is_declared k.lines number) (other_declared k d.code)
-    (if width == width_of number then line_declared k d.code number else fails k d.place Width) refl
-    (both s (width == width_of number) (line_declared k d.code number) (fails k d.place Width) refl refl)
+    (if width == width_of number then line_declared k d.code number else undeclared k d Width) refl
+    (both s (width == width_of number) (line_declared k d.code number) (undeclared k d Width) refl refl)
 
 quiet_width : (s : Taken) (k : Known) (d : Draft) (width : Option ℕ) → decided_of s (with_width k d width) ≡ []
 quiet_width s k d None = refl
 quiet_width s k d (Some width) = both s ((d.count == 4) && is_code_word d.code) (named k d width d.line)
-    (fails k d.place Header) (quiet_named s k d width d.line) refl
+    (undeclared k d Header) (quiet_named s k d width d.line) refl
 
 -- a token of a declaration
 quiet_variable : (s : Taken) (k : Known) (d : Draft) (t : Token) → decided_of s (turn_in (Variable d) k t) ≡ []
@@ -56,7 +56,7 @@ silent : (s : Taken) (mode : Mode) (t : Token) (limit decided : ℕ) (to : List 
 unfolding turn
 silent s mode t limit decided to live at quiet =
     let open_turn : turn s.known t ≡ turn_in mode s.known t =
-    ap (λ b. if b then stays s.known else turn_in s.known.mode s.known t) live ∙ ap (λ m. turn_in m s.known t) at in
+    ap (λ b. if b then goes_to s.known (mode_behind s.known.mode t) else turn_in s.known.mode s.known t) live ∙ ap (λ m. turn_in m s.known t) at in
     sym (ap (pushed limit decided to) (ap (decided_of s) open_turn ∙ quiet))
 
 pub silent_variable : (s : Taken) (d : Draft) (t : Token) (limit decided : ℕ) (to : List Sample)

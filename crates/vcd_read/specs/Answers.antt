@@ -1,5 +1,5 @@
 -- What reading answers, and what it appends.
-use Rattle.std.specs.Prelude.{◌≡◌, ℕ, nat_lt, Bool, ◌&&◌, ◌||◌, ◌==◌, List, ◌++◌, length, take, Option, Some, None, Result, Ok, Err, if◌then◌else◌}
+use Rattle.std.specs.Prelude.{◌≡◌, ℕ, nat_lt, Bool, true, false, not, ◌&&◌, ◌||◌, ◌==◌, List, ◌++◌, length, take, Option, Some, None, Result, Ok, Err, if◌then◌else◌}
 use Rattle.fsb_signal.specs.declared.marks.Marks.{Marks}
 use Rattle.fsb_signal.specs.declared.sample.Sample.{Sample}
 use Rattle.vcd_grammar.specs.declared.fault.VcdFault.{VcdFault}
@@ -66,6 +66,18 @@ abbrev pub AppendsAtEnd : Result Unit VcdStop → ℕ → List Sample → List S
 AppendsAtEnd (Ok x) limit before decided all old new = AppendsUpTo before all old new
 AppendsAtEnd (Err stops.Memory) limit before decided all old new = AppendsSome before (take limit all) old new
 AppendsAtEnd (Err e) limit before decided all old new = AppendsUpTo before (take limit decided) old new
+
+-- memory was wanting
+abbrev pub is_memory : VcdStop → Bool
+is_memory stops.Memory = true
+is_memory (stops.Bad fault) = false
+is_memory stops.TooLong = false
+
+-- the marks go on behind a piece, and stay once memory was wanting
+abbrev pub still_followed : Option VcdStop → Bool → Result Unit VcdStop → Bool
+still_followed (Some stop) followed answer = followed
+still_followed None followed (Ok x) = true
+still_followed None followed (Err stop) = not (is_memory stop)
 
 -- what is told of the marks behind a piece: those of all that was fed; for want of memory those that were told before it
 abbrev pub TellsMarks : Result Unit VcdStop → Option Marks → Option Marks → Option Marks → Type 0

@@ -16,7 +16,7 @@ pub record Reading : Type 0 where
 
 -- what a scan has read
 abbrev pub reading : Scan → Reading
-reading s = record { taken = taken s.machine; at = s.at; run = s.run.items }
+reading s = record { taken = taken s.machine; at = s.at; run = s.run.bytes.items }
 
 -- before the first byte
 abbrev pub unread : Reading

@@ -22,6 +22,7 @@ mod machine;
 mod mode;
 mod open_block;
 mod reader;
+mod run;
 mod scan;
 mod stop;
 mod words;

@@ -4,7 +4,7 @@ ghost use Rattle.fsb_signal.specs.DumpText.{width_of};
 ghost use Rattle.vcd_grammar.specs.Digits.{time_in, extended};
 ghost use Rattle.vcd_grammar.specs.Levels.{level_of};
 ghost use Rattle.vcd_grammar.specs.Words.{header_word, value_word, stamp_word, scalar_word, vector_word, is_end};
-ghost use Rattle.vcd_grammar.specs.Judging.{turn, turn_in, stays, goes_to, fails, later, unless_long, drafted, declared, other_declared, line_declared, named, closed, is_declared, missing_from, header_turn, value_turn, scalar_turn, stamped, Variable as in_variable, Pending as in_pending, Beside as in_beside, marks_of_lines, known_marks};
+ghost use Rattle.vcd_grammar.specs.Judging.{turn, turn_in, stays, goes_to, fails, later, unless_long, drafted, declared, undeclared, mode_behind, other_declared, line_declared, named, closed, is_declared, missing_from, header_turn, value_turn, scalar_turn, stamped, Header as in_header, Variable as in_variable, Pending as in_pending, Beside as in_beside, marks_of_lines, known_marks};
 ghost use Rattle.vcd_grammar.specs.Reading.{or_cut};
 ghost use Rattle.vcd_read.specs.ReaderView.{known_of, lines_view, draft_of, is_declaring};
 ghost use Rattle.vcd_read.specs.Lines.{rises};
@@ -64,6 +64,15 @@ impl Machine {
         ensures { taken self.new ≡ turned (taken self.old) (fails (known_of self.old) place cause) }
     {
         self.fault = Some(VcdFault { place, cause });
+    }
+
+    /// A declaration that is a fault at its `$end`, behind which it is over.
+    fn refuse(&mut self, draft: Draft, cause: VcdCause)
+        ensures { (code : List ℕ) → taken self.new
+            ≡ turned (taken self.old) (undeclared (known_of self.old) (draft_of draft code) cause) }
+    {
+        self.mode = Mode::Header;
+        self.fail(draft.place, cause);
     }
 
     /// A token between the sections of the header.
@@ -134,11 +143,11 @@ impl Machine {
             (declared (known_of self.old) (draft_of draft self.old.code.items))) }
     {
         let Some(width) = draft.width else {
-            self.fail(draft.place, VcdCause::Header);
+            self.refuse(draft, VcdCause::Header);
             return Ok(());
         };
         if draft.count != 4 || !is_code_word(self.code.as_slice()) {
-            self.fail(draft.place, VcdCause::Header);
+            self.refuse(draft, VcdCause::Header);
             return Ok(());
         }
         match draft.line {
@@ -168,7 +177,7 @@ impl Machine {
         } else if width == width_of(number) {
             self.declare_line(number)
         } else {
-            self.fail(draft.place, VcdCause::Width);
+            self.refuse(draft, VcdCause::Width);
             Ok(())
         }
     }
@@ -196,9 +205,9 @@ impl Machine {
         if !is_end(word) {
             return;
         }
-        match missing(self.lines.as_slice()) {
-            None => self.mode = Mode::Values,
-            Some(number) => self.fail(place, VcdCause::Missing(number)),
+        self.mode = Mode::Values;
+        if let Some(number) = missing(self.lines.as_slice()) {
+            self.fail(place, VcdCause::Missing(number));
         }
     }
 
@@ -389,6 +398,7 @@ impl Machine {
     /// The block that stands open, where the text ends: its sample is appended while there are fewer than the limit, if
     /// there is no fault. Tells whether there is such a sample.
     pub(crate) fn close(&self, limit: u32, to: &mut Vec<Sample>) -> Result<bool, AllocError>
+        ensures behind { is_some self.now.fault ≡ true → IsOk result }
         ensures rises { IfOk result
             (λ more. more ≡ open_rises self.now.fault (lines_view self.now)) }
         ensures samples { OnOk result
@@ -515,8 +525,47 @@ impl Machine {
         }
     }
 
+    /// A token behind a fault, of which only the sections of the header matter.
+    fn pass(&mut self, place: u64, word: &[u8])
+        ensures { taken self.new ≡ turned (taken self.old)
+            (goes_to (known_of self.old)
+            (mode_behind (known_of self.old).mode (record { place = place; word = word.now }))) }
+    {
+        match self.mode {
+            Mode::Header => self.pass_word(place, word),
+            Mode::Variable(_) | Mode::Skipped => {
+                if is_end(word) {
+                    self.mode = Mode::Header;
+                }
+            }
+            Mode::Closing(_) => {
+                if is_end(word) {
+                    self.mode = Mode::Values;
+                }
+            }
+            Mode::Values | Mode::Pending(_) | Mode::Beside | Mode::Passed => {}
+        }
+    }
+
+    /// A token between the sections of a header with a fault.
+    #[tactic(auto, unfolding(vcd_grammar::specs::Words::header_word))]
+    fn pass_word(&mut self, place: u64, word: &[u8])
+        requires { self.old.mode ≡ Mode.Header }
+        ensures { taken self.new ≡ turned (taken self.old)
+            (goes_to (known_of self.old)
+            (mode_behind in_header (record { place = place; word = word.now }))) }
+    {
+        if is_long(word) {} else if b"$var".as_slice() == word {
+            self.mode = Mode::Skipped;
+        } else if b"$enddefinitions".as_slice() == word {
+            self.mode = Mode::Closing(place);
+        } else if is_end(word) {} else if is_dollar(word) {
+            self.mode = Mode::Skipped;
+        }
+    }
+
     /// A token at a place. A sample that it decides is appended while there are fewer than the limit. Behind a fault
-    /// nothing is kept, and memory is wanting for a sample or in a declaration alone.
+    /// nothing is kept but where the header stands, and memory is wanting for a sample or in a declaration alone.
     #[tactic(auto, unfolding(vcd_grammar::specs::Judging::turn))]
     pub(crate) fn take(
         &mut self,
@@ -539,6 +588,7 @@ impl Machine {
             OnErr result (vec_capacity to.old ≤ vec_len to.old) }
     {
         if self.fault.is_some() {
+            self.pass(place, word);
             return Ok(());
         }
         match self.mode {

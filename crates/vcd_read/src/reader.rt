@@ -1,9 +1,9 @@
-ghost use Rattle.std.specs.Prelude.{◌≡◌, ◌<◌, ◌+◌, ◌-◌, ◌^◌, ◌++◌, ℕ, List, [], length, take, nat_lt, None, Some, Err, IfOk, OnOk, OnErr, if◌then◌else◌};
-ghost use Rattle.vcd_grammar.specs.Reading.{marks_of, samples_of, samples_before_end, marks_so_far, samples_so_far};
+ghost use Rattle.std.specs.Prelude.{◌≡◌, ◌<◌, ◌+◌, ◌-◌, ◌^◌, ◌++◌, ℕ, List, [], length, take, nat_lt, None, Some, Err, true, false, ◌⊎◌, IsSome, IfOk, OnOk, OnErr, if◌then◌else◌};
+ghost use Rattle.vcd_grammar.specs.Reading.{marks_of, samples_of, samples_before_end, marks_so_far, marks_at_end, samples_so_far};
 ghost use Rattle.vcd_grammar.specs.Judging.{nothing, behind};
 ghost use Rattle.vcd_grammar.specs.Tokens.{tokens_of};
-ghost use Rattle.vcd_read.specs.Standing.{Works, Stands, refusal_of, limit_of, marks_told};
-ghost use Rattle.vcd_read.specs.Answers.{Answers, refusal_in, result_of, fault_or, end_stop, stop_so_far, stop_at_end, AppendsBy, AppendsAtEnd, TellsMarks};
+ghost use Rattle.vcd_read.specs.Standing.{Works, Stands, refusal_of, limit_of, marks_told, is_followed, GoesOn};
+ghost use Rattle.vcd_read.specs.Answers.{Answers, refusal_in, result_of, fault_or, end_stop, stop_so_far, stop_at_end, AppendsBy, AppendsAtEnd, TellsMarks, is_memory, still_followed};
 
 use crate::scan::Scan;
 use crate::stop::VcdStop;
@@ -19,6 +19,8 @@ pub struct Reader {
     refused: Option<VcdStop>,
     /// The marks behind the last piece that was read to its end.
     marks: Option<Marks>,
+    /// Whether these are the marks of all bytes that were fed.
+    followed: bool,
 }
 
 impl Reader {
@@ -43,11 +45,12 @@ impl Reader {
             limit,
             refused: None,
             marks: None,
+            followed: true,
         })
     }
 
     /// The next piece of the text. Appends the samples that it decides; after a refusal it appends nothing and refuses
-    /// in the same way for good.
+    /// in the same way for good, but goes on with the header for its marks.
     pub fn feed(&mut self, piece: &[u8], to: &mut Vec<Sample>) -> Result<(), VcdStop>
         // No `finish` has answered Ok, and the bytes fed are few enough to be counted.
         requires { (fed : List ℕ) × Stands self.old fed × (length fed + length piece.now < 2 ^ 64) }
@@ -63,20 +66,45 @@ impl Reader {
         ensures again { (stop : VcdStop) → refusal_of self.old ≡ Some stop → result ≡ Err stop }
         ensures silent { (stop : VcdStop) → refusal_of self.old ≡ Some stop →
             to.new.items ≡ to.old.items }
+        ensures followed { is_followed self.new
+            ≡ still_followed (refusal_of self.old) (is_followed self.old) result }
         ensures marks { (fed : List ℕ) → Stands self.old fed → refusal_of self.old ≡ None →
             TellsMarks result (marks_so_far (fed ++ piece.now)) (marks_told self.old)
             (marks_told self.new) }
-        ensures marks_stay { (stop : VcdStop) → refusal_of self.old ≡ Some stop →
+        ensures marks_behind { (fed : List ℕ) (stop : VcdStop) → Stands self.old fed →
+            refusal_of self.old ≡ Some stop → is_followed self.old ≡ true →
+            marks_told self.new ≡ marks_so_far (fed ++ piece.now) }
+        ensures marks_stay { is_followed self.old ≡ false → refusal_of self.old ≡ None ⊎
             marks_told self.new ≡ marks_told self.old }
     {
         if let Some(stop) = self.refused {
+            self.follow(piece, to);
             return Err(stop);
         }
         let answer = self.absorb(piece, to);
         if let Err(stop) = answer {
             self.refused = Some(stop);
+            self.followed = !is_memory(stop);
         }
         answer
+    }
+
+    /// The next piece behind a refusal, whose marks alone may still come.
+    fn follow(&mut self, piece: &[u8], to: &mut Vec<Sample>)
+        requires fed { (fed : List ℕ) × Stands self.old fed × (length fed + length piece.now < 2 ^ 64) }
+        requires refused { IsSome (refusal_of self.old) }
+        ensures stands { (fed : List ℕ) → Stands self.old fed → Stands self.new (fed ++ piece.now) }
+        ensures refusal { refusal_of self.new ≡ refusal_of self.old }
+        ensures limit { limit_of self.new ≡ limit_of self.old }
+        ensures followed { is_followed self.new ≡ is_followed self.old }
+        ensures silent { to.new.items ≡ to.old.items }
+        ensures marks_stay { is_followed self.old ≡ false →
+            marks_told self.new ≡ marks_told self.old }
+    {
+        if self.followed && self.marks.is_none() {
+            self.scan.absorb(piece, self.limit, to).unwrap();
+            self.marks = self.scan.machine.marks();
+        }
     }
 
     /// The next piece, where nothing was refused.
@@ -89,6 +117,9 @@ impl Reader {
             TellsMarks result (marks_so_far (fed ++ piece.now)) (marks_told self.old)
             (marks_told self.new) }
         ensures refusal { refusal_of self.new ≡ refusal_of self.old }
+        ensures followed { is_followed self.new ≡ is_followed self.old }
+        ensures behind { (fed : List ℕ) → Works self.old fed →
+            GoesOn result (marks_told self.new) self.new.scan (fed ++ piece.now) }
         ensures answer { (fed : List ℕ) → Works self.old fed →
             Answers result (stop_so_far (limit_of self.old) (fed ++ piece.now)) }
         ensures samples { (fed : List ℕ) → Works self.old fed →
@@ -116,11 +147,12 @@ impl Reader {
         }
     }
 
-    /// Which of the two parity lines the dump declares: none is told until its `$enddefinitions` has its `$end`, in a
-    /// token that counts. A piece that is refused has told them too, unless memory was wanting; later pieces tell nothing.
+    /// Which of the two parity lines the dump declares: none is told exactly until its `$enddefinitions` has its `$end`, in
+    /// a token that counts. A fault makes no difference, but lines that are declared behind it do not count. After want of
+    /// memory what is told stays as it was.
     pub fn marks(&self) -> Option<Marks>
         ensures told { result ≡ marks_told self.now }
-        ensures marks { (fed : List ℕ) → Stands self.now fed → refusal_of self.now ≡ None →
+        ensures marks { (fed : List ℕ) → Stands self.now fed → is_followed self.now ≡ true →
             result ≡ marks_so_far fed }
     {
         self.marks
@@ -144,14 +176,18 @@ impl Reader {
             to.new.items ≡ to.old.items }
         ensures marks { OnOk result
             ((fed : List ℕ) → Stands self.old fed → marks_told self.new ≡ Some (marks_of fed)) }
-        ensures marks_refused { (fed : List ℕ) → Stands self.old fed → refusal_of self.old ≡ None →
-            OnErr result (marks_told self.new ≡ marks_so_far fed) }
-        ensures marks_stay { OnErr result (marks_told self.new ≡ marks_told self.old) }
+        ensures followed { is_followed self.new ≡ false }
+        ensures marks_at_end { (fed : List ℕ) → Stands self.old fed → is_followed self.old ≡ true →
+            TellsMarks result (marks_at_end fed) (marks_told self.old) (marks_told self.new) }
+        ensures marks_stay { is_followed self.old ≡ false → refusal_of self.old ≡ None ⊎
+            marks_told self.new ≡ marks_told self.old }
     {
         if let Some(stop) = self.refused {
+            self.follow_end(to);
             return Err(stop);
         }
         let answer = self.end(to);
+        self.followed = false;
         match answer {
             Ok(()) => self.marks = Some(self.scan.machine.declared_marks()),
             Err(stop) => self.refused = Some(stop),
@@ -159,11 +195,33 @@ impl Reader {
         answer
     }
 
+    /// The end of the text behind a refusal, whose marks alone may still come.
+    fn follow_end(&mut self, to: &mut Vec<Sample>)
+        requires fed { (fed : List ℕ) × Stands self.old fed }
+        requires refused { IsSome (refusal_of self.old) }
+        ensures stands { (fed : List ℕ) → Stands self.old fed → Stands self.new fed }
+        ensures refusal { refusal_of self.new ≡ refusal_of self.old }
+        ensures limit { limit_of self.new ≡ limit_of self.old }
+        ensures followed { is_followed self.new ≡ false }
+        ensures silent { to.new.items ≡ to.old.items }
+        ensures marks { (fed : List ℕ) → Stands self.old fed → is_followed self.old ≡ true →
+            marks_told self.new ≡ marks_at_end fed }
+        ensures marks_stay { is_followed self.old ≡ false →
+            marks_told self.new ≡ marks_told self.old }
+    {
+        if self.followed && self.marks.is_none() {
+            let _more = self.scan.finish(self.limit, to).unwrap();
+            self.marks = self.scan.machine.marks();
+        }
+        self.followed = false;
+    }
+
     /// The end of the text, where nothing was refused.
     fn end(&mut self, to: &mut Vec<Sample>) -> Result<(), VcdStop>
         requires { (fed : List ℕ) × Works self.old fed }
         ensures limit { limit_of self.new ≡ limit_of self.old }
-        ensures marks { marks_told self.new ≡ marks_told self.old }
+        ensures marks { (fed : List ℕ) → Works self.old fed →
+            TellsMarks result (marks_at_end fed) (marks_told self.old) (marks_told self.new) }
         ensures refusal { refusal_of self.new ≡ refusal_of self.old }
         ensures declared { OnOk result ((fed : List ℕ) → Works self.old fed →
             self.new.scan.machine.lines.items ≡ (behind nothing (tokens_of fed)).lines) }
@@ -174,6 +232,7 @@ impl Reader {
             (samples_of fed) to.old.items to.new.items }
     {
         let more = self.scan.finish(self.limit, to)?;
+        self.marks = self.scan.machine.marks();
         self.end_answer(more)
     }
 
@@ -194,5 +253,15 @@ impl Reader {
             return Err(VcdStop::TooLong);
         }
         Ok(())
+    }
+}
+
+/// Whether memory was wanting.
+fn is_memory(stop: VcdStop) -> bool
+    ensures { result ≡ is_memory stop }
+{
+    match stop {
+        VcdStop::Memory => true,
+        VcdStop::Bad(_) | VcdStop::TooLong => false,
     }
 }

@@ -1,7 +1,8 @@
 ghost use Rattle.std.specs.Prelude.{◌≡◌, ℕ, ◌<◌, ◌≤◌, ◌+◌, ◌^◌, ◌++◌, [], ◌∷◌, take, length, true, false, is_some, slice_index, vec_len, vec_capacity, IsOk, IfOk, OnOk, OnErr};
 ghost use Rattle.std.specs.List.{list_all};
 ghost use Rattle.vcd_grammar.specs.Tokens.{is_white, ended_at};
-ghost use Rattle.vcd_read.specs.ReaderView.{is_declaring};
+ghost use Rattle.vcd_grammar.specs.Judging.{known_marks};
+ghost use Rattle.vcd_read.specs.ReaderView.{is_declaring, known_of};
 ghost use Rattle.vcd_read.specs.Taking.{taken, take_tokens, samples_in_tokens, pushed};
 ghost use Rattle.vcd_read.specs.Scanning.{reading, unread, after_bytes, samples_in_bytes, is_dark, ended_taken, ended_samples, end_fault, open_samples, open_rises, Fits, Part};
 
@@ -9,6 +10,7 @@ use crate::digits::{LONGEST, is_white};
 use crate::direct::stamp_in;
 use crate::lanes::{LANES, dark_run};
 use crate::machine::Machine;
+use crate::run::Run;
 use fsb_signal::Sample;
 use std::alloc::{AllocError, Global};
 
@@ -19,7 +21,7 @@ pub(crate) struct Scan {
     /// How many bytes there were.
     pub(crate) at: u64,
     /// The run of bytes that stands open; one byte more than a token may have, where it is too long.
-    pub(crate) run: Vec<u8>,
+    pub(crate) run: Run,
 }
 
 impl Scan {
@@ -30,7 +32,7 @@ impl Scan {
         Ok(Scan {
             machine: Machine::new(alloc),
             at: 0,
-            run: Vec::with_capacity(alloc, LONGEST + 1)?,
+            run: Run::new(alloc)?,
         })
     }
 
@@ -47,6 +49,7 @@ impl Scan {
         ensures samples { OnOk result
             (to.new.items ≡ pushed limit self.old.machine.decided to.old.items
             (samples_in_bytes (reading self.old) piece.now)) }
+        ensures behind { is_some self.old.machine.fault ≡ true → IsOk result }
         ensures part { OnErr result
             (Part limit self.old.machine.decided (samples_in_bytes (reading self.old) piece.now)
             to.old.items to.new.items) }
@@ -71,6 +74,7 @@ impl Scan {
         ensures samples { IfOk result
             (λ len. to.new.items ≡ pushed limit self.old.machine.decided to.old.items
             (samples_in_bytes (reading self.old) (take len bytes.now))) }
+        ensures behind { is_some self.old.machine.fault ≡ true → IsOk result }
         ensures part { OnErr result
             (Part limit self.old.machine.decided (samples_in_bytes (reading self.old) bytes.now)
             to.old.items to.new.items) }
@@ -109,6 +113,7 @@ impl Scan {
         ensures samples { IfOk result
             (λ len. to.new.items ≡ pushed limit self.old.machine.decided to.old.items
             (samples_in_bytes (reading self.old) (take len bytes.now))) }
+        ensures behind { is_some self.old.machine.fault ≡ true → IsOk result }
         ensures part { OnErr result
             (Part limit self.old.machine.decided (samples_in_bytes (reading self.old) bytes.now)
             to.old.items to.new.items) }
@@ -134,6 +139,7 @@ impl Scan {
             OnOk result (to.new.items
             ≡ pushed limit self.old.machine.decided to.old.items
             (samples_in_bytes (reading self.old) (bytes.now ++ w ∷ []))) }
+        ensures behind { is_some self.old.machine.fault ≡ true → IsOk result }
         ensures part { (w : ℕ) → is_white w ≡ true →
             OnErr result (Part limit self.old.machine.decided
             (samples_in_bytes (reading self.old) (bytes.now ++ w ∷ [])) to.old.items to.new.items) }
@@ -147,14 +153,14 @@ impl Scan {
 
     /// How many bytes of the run there are.
     pub(crate) fn run_len(&self) -> usize
-        ensures { result ≡ length self.now.run.items }
+        ensures { result ≡ length self.now.run.bytes.items }
     {
-        self.run.as_slice().len()
+        self.run.len()
     }
 
     /// A token that stands whole, and a byte of white space behind it.
     fn whole(&mut self, bytes: &[u8], limit: u32, to: &mut Vec<Sample>) -> Result<(), AllocError>
-        requires empty { length self.old.run.items ≡ 0 }
+        requires empty { length self.old.run.bytes.items ≡ 0 }
         requires short { length bytes.now ≤ 70000 }
         requires dark { list_all is_dark bytes.now ≡ true }
         requires room { self.old.at + length bytes.now + 1 < 2 ^ 64 }
@@ -205,12 +211,12 @@ impl Scan {
         ensures state { OnOk result
             (reading self.new ≡ record (reading self.old) {
               taken = take_tokens (taken self.old.machine)
-                  (ended_at self.old.at self.old.run.items);
+                  (ended_at self.old.at self.old.run.bytes.items);
             }) }
         ensures samples { OnOk result
             (to.new.items ≡ pushed limit self.old.machine.decided to.old.items
             (samples_in_tokens (taken self.old.machine)
-            (ended_at self.old.at self.old.run.items))) }
+            (ended_at self.old.at self.old.run.bytes.items))) }
         ensures silent { OnErr result (to.new.items ≡ to.old.items) }
         ensures behind { is_some self.old.machine.fault ≡ true → IsOk result }
         ensures full { is_declaring self.old.machine.mode ≡ false →
@@ -230,6 +236,10 @@ impl Scan {
     /// whether that block decides a sample.
     pub(crate) fn finish(&mut self, limit: u32, to: &mut Vec<Sample>) -> Result<bool, AllocError>
         requires { Fits (reading self.old) }
+        ensures marks { OnOk result
+            (known_marks (known_of self.new.machine)
+            ≡ known_marks (ended_taken (reading self.old)).known) }
+        ensures behind { is_some self.old.machine.fault ≡ true → IsOk result }
         ensures fault { OnOk result (self.new.machine.fault ≡ end_fault (reading self.old)) }
         ensures lines { OnOk result
             (self.new.machine.lines.items ≡ (ended_taken (reading self.old)).known.lines) }
@@ -264,13 +274,14 @@ impl Scan {
             (to.new.items ≡ pushed limit self.old.machine.decided to.old.items
             (samples_in_bytes (reading self.old) bytes.now)) }
         ensures silent { OnErr result (to.new.items ≡ to.old.items) }
+        ensures behind { is_some self.old.machine.fault ≡ true → IsOk result }
     {
         if LONGEST < self.run_len() {
             self.at += bytes.len() as u64;
             return Ok(());
         }
         if bytes.len() <= LONGEST - self.run_len() {
-            self.run.extend_from_slice(bytes)?;
+            self.run.append(bytes);
             self.at += bytes.len() as u64;
             return Ok(());
         }
@@ -282,17 +293,18 @@ impl Scan {
         requires dark { list_all is_dark bytes.now ≡ true }
         requires room { self.old.at + length bytes.now < 2 ^ 64 }
         requires fits { Fits (reading self.old) }
-        requires short { length self.old.run.items ≤ 70000 }
-        requires over { 70000 < length self.old.run.items + length bytes.now }
+        requires short { length self.old.run.bytes.items ≤ 70000 }
+        requires over { 70000 < length self.old.run.bytes.items + length bytes.now }
         ensures state { OnOk result (reading self.new ≡ after_bytes (reading self.old) bytes.now) }
         ensures samples { OnOk result
             (to.new.items ≡ pushed limit self.old.machine.decided to.old.items
             (samples_in_bytes (reading self.old) bytes.now)) }
         ensures silent { OnErr result (to.new.items ≡ to.old.items) }
+        ensures behind { is_some self.old.machine.fault ≡ true → IsOk result }
     {
         let place = self.at - self.run_len() as u64;
         let more = LONGEST + 1 - self.run_len();
-        self.run.extend_from_slice(&bytes[..more])?;
+        self.run.append(&bytes[..more]);
         self.at += bytes.len() as u64;
         self.machine.take(place, self.run.as_slice(), limit, to)
     }

@@ -20,7 +20,7 @@ returns-then-bytes-run_len-clause-state c =
     (λ i. record {
       taken = (reading s).taken;
       at = s.at + length c.args.bytes.now;
-      run = c.in_ok-extend_from_slice.ensures.items i;
+      run = c.append.ensures i;
     })
     ∙ sym (short_bytes (reading s) c.args.bytes.now c.requires.dark
     (omega (arith, c.run_len.ensures, c.run_len-2.ensures)))

@@ -6,9 +6,9 @@ use Rattle.vcd_read.proofs.Readings.{over_taken, over_sampled}
 use Rattle.vcd_read.proofs.scan.Scan.too_long.Goals as goal
 
 -- the run with the bytes that it takes
-grown : (c : goal.After-take) → c.extend_from_slice.new.self.items ≡ taken_by c.args.self.now.run.items c.args.bytes.now
-grown c = c.in_ok-extend_from_slice.ensures.items
-    ∙ ap (λ n. c.args.self.now.run.items ++ take (70001 - n) c.args.bytes.now) c.run_len-2.ensures
+grown : (c : goal.After-take) → c.append.new.self.bytes.items ≡ taken_by c.args.self.now.run.bytes.items c.args.bytes.now
+grown c = c.append.ensures
+    ∙ ap (λ n. c.args.self.now.run.bytes.items ++ take (70001 - n) c.args.bytes.now) c.run_len-2.ensures
 
 pub returns-clause-state : goal.returns-clause-state
 returns-clause-state c =
@@ -16,7 +16,7 @@ returns-clause-state c =
     on_ok_weaker c.take.result
     (λ h. over_taken (reading s) c.args.bytes.now _ _ c.as_slice.result.now _ c.requires.dark
     c.requires.short c.requires.over (omega arith) (ap (λ n. s.at - n) c.run_len.ensures)
-    c.as_slice.ensures.value (grown c) h) c.take.ensures.taken
+    c.as_slice.ensures (grown c) h) c.take.ensures.taken
 
 pub returns-clause-samples : goal.returns-clause-samples
 returns-clause-samples c =
@@ -24,4 +24,4 @@ returns-clause-samples c =
     on_ok_weaker c.take.result
     (λ h. over_sampled (reading s) c.args.bytes.now _ _ c.as_slice.result.now c.args.limit
     c.args.to.now.items c.requires.dark c.requires.short c.requires.over (omega arith)
-    (ap (λ n. s.at - n) c.run_len.ensures) (c.as_slice.ensures.value ∙ grown c) h) c.take.ensures.samples
+    (ap (λ n. s.at - n) c.run_len.ensures) (c.as_slice.ensures ∙ grown c) h) c.take.ensures.samples
