@@ -1,5 +1,5 @@
 -- Behind a fault: it stays, no sample is decided, and the marks may still come.
-use Rattle.std.proofs.Common.{◌≡◌, ℕ, ◌<◌, Bool, true, false, not, ◌&&◌, List, [], ◌∷◌, ◌++◌, length, nat_lt, Option, Some, None, is_some, is_none, Result, Ok, Err}
+use Rattle.std.proofs.Common.{◌≡◌, ℕ, ◌<◌, Bool, true, false, not, ◌&&◌, ◌==◌, List, [], ◌∷◌, ◌++◌, length, nat_lt, Option, Some, None, is_some, is_none, Result, Ok, Err}
 use Rattle.std.proofs.Common.{if◌then◌else◌, refl, sym, ap, ◌∙◌, arith, subst}
 use Rattle.std.proofs.lemmas.Bool.{ltb-true}
 use Rattle.fsb_signal.specs.declared.marks.Marks.{Marks}
@@ -7,7 +7,9 @@ use Rattle.fsb_signal.specs.declared.sample.Sample.{Sample}
 use Rattle.vcd_grammar.specs.declared.fault.VcdFault.{VcdFault}
 use Rattle.vcd_grammar.specs.Tokens.{Token, tokens_from, ended_at, tokens_of, tokens_so_far}
 use Rattle.vcd_grammar.specs.Judging.{Known, Mode, TokenTurn, goes_to, mode_behind, turn, behind, nothing, known_marks}
-use Rattle.vcd_grammar.specs.Reading.{samples_so_far, marks_so_far, marks_at_end, or_cut}
+use Rattle.vcd_grammar.specs.Reading.{samples_so_far, marks_so_far, marks_at_end, marks_of, or_cut, cut_in}
+use Rattle.vcd_grammar.specs.Reading.{first_fault, samples_before_end}
+use Rattle.vcd_grammar.specs.Judging.{Header, Variable, Skipped, Closing, Values, Pending, Beside, Passed, marks_of_lines}
 use Rattle.vcd_grammar.proofs.Interface.{marks-first, marks-longer, marks-ended}
 use Rattle.vcd_read.specs.declared.scan.Scan.{Scan}
 use Rattle.vcd_read.specs.declared.reader.Reader.{Reader}
@@ -19,7 +21,7 @@ use Rattle.vcd_read.specs.Scanning.{end_fault, open_samples}
 use Rattle.vcd_read.specs.Lines.{sample_of_end}
 use Rattle.std.specs.Result.{OnOk, IsOk}
 use Rattle.vcd_read.specs.Standing.{Scanned, Works, Stands, Behind, GoesOn, refusal_of, marks_told, is_followed}
-use Rattle.vcd_read.specs.Answers.{result_of, fault_or, TellsMarks, is_memory}
+use Rattle.vcd_read.specs.Answers.{result_of, fault_or, TellsMarks, is_memory, end_stop, stop_at_end}
 use Rattle.vcd_read.proofs.Standings.{scanned_decided, scanned_more}
 use Rattle.vcd_read.proofs.Law.{known_behind}
 use Rattle.vcd_read.proofs.Endings.{ended_is}
@@ -191,3 +193,54 @@ behind_more s t fed piece b state = record {
   scanned = scanned_more s t fed piece b.scanned state;
   faulty = faulty_bytes (reading s) (reading t) piece state b.faulty;
 }
+
+-- ---- the end of a text that was not refused before
+
+-- what the end answers tells the marks
+pub told_end : (limit decided : ℕ) (fault : Option VcdFault) (more : Bool) (text old new : Option Marks) → new ≡ text
+    → TellsMarks (result_of (end_stop limit decided fault more)) text old new
+unfolding end_stop
+told_end limit decided fault more text old new h = by (nat_lt limit decided) fault (more && (decided == limit))
+  where
+    by : (b : Bool) (f : Option VcdFault) (d : Bool)
+        → TellsMarks (result_of (if b then Some stops.TooLong else fault_or f (if d then Some stops.TooLong else None)))
+        text old new
+    by true f d = h
+    by false (Some f) d = h
+    by false None true = h
+    by false None false = h
+
+-- a text with no fault has its marks
+faultless_marks : (k : Known) (place : ℕ) → or_cut k.fault k.mode place ≡ None
+    → known_marks k ≡ Some (marks_of_lines k.lines)
+faultless_marks k place h = by k.fault k.mode refl refl
+  where
+    no : {P : Type 0} (f : VcdFault) → ◌≡◌ {A = Option VcdFault} (Some f) None → P
+    no f e = absurd (let n : ⊥ = cc in n)
+
+    cut : (m : Mode) → k.mode ≡ m → cut_in m place ≡ None → known_marks k ≡ Some (marks_of_lines k.lines)
+    cut Header e c = no _ c
+    cut (Variable d) e c = no _ c
+    cut Skipped e c = no _ c
+    cut (Closing p) e c = no _ c
+    cut Values e c = rw e refl
+    cut (Pending p digits) e c = no _ c
+    cut Beside e c = no _ c
+    cut Passed e c = no _ c
+
+    by : (f : Option VcdFault) (m : Mode) → k.fault ≡ f → k.mode ≡ m → known_marks k ≡ Some (marks_of_lines k.lines)
+    by (Some f) m is at = no f (rw (is) at h)
+    by None m is at = cut m at (rw (is, at) at h)
+
+pub read_marks : (text : List ℕ) (limit : ℕ) → stop_at_end limit text ≡ None → marks_at_end text ≡ Some (marks_of text)
+unfolding stop_at_end first_fault marks_at_end marks_of
+read_marks text limit h = by (nat_lt limit (length (samples_before_end text))) (first_fault text) refl refl
+  where
+    no : {P : Type 0} (s : VcdStop) → ◌≡◌ {A = Option VcdStop} (Some s) None → P
+    no s e = absurd (let n : ⊥ = cc in n)
+
+    by : (b : Bool) (f : Option VcdFault) → nat_lt limit (length (samples_before_end text)) ≡ b → first_fault text ≡ f
+        → marks_at_end text ≡ Some (marks_of text)
+    by true f t e = no stops.TooLong (rw t at h)
+    by false (Some f) t e = no (stops.Bad f) (rw (t, e) at h)
+    by false None t e = faultless_marks (behind nothing (tokens_of text)) (length text) e

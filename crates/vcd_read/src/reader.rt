@@ -191,8 +191,11 @@ impl Reader {
         ensures marks { OnOk result
             ((fed : List ℕ) → Stands self.old fed → marks_told self.new ≡ Some (marks_of fed)) }
         ensures followed { is_followed self.new ≡ false }
-        ensures marks_at_end { (fed : List ℕ) → Stands self.old fed → is_followed self.old ≡ true →
+        ensures marks_at_end { (fed : List ℕ) → Stands self.old fed → refusal_of self.old ≡ None →
             TellsMarks result (marks_at_end fed) (marks_told self.old) (marks_told self.new) }
+        ensures marks_behind { (fed : List ℕ) (stop : VcdStop) → Stands self.old fed →
+            refusal_of self.old ≡ Some stop → is_followed self.old ≡ true →
+            marks_told self.new ≡ marks_at_end fed }
         ensures marks_stay { is_followed self.old ≡ false → refusal_of self.old ≡ None ⊎
             marks_told self.new ≡ marks_told self.old }
     {
@@ -223,10 +226,25 @@ impl Reader {
         ensures marks_stay { is_followed self.old ≡ false →
             marks_told self.new ≡ marks_told self.old }
     {
+        self.last_marks(to);
+        self.followed = false;
+    }
+
+    /// The marks of the whole text, unless they were told or do not come any more.
+    fn last_marks(&mut self, to: &mut Vec<Sample>)
+        requires fed { (fed : List ℕ) × Stands self.old fed }
+        requires refused { (stop : VcdStop) × (refusal_of self.old ≡ Some stop) }
+        ensures refusal { refusal_of self.new ≡ refusal_of self.old }
+        ensures limit { limit_of self.new ≡ limit_of self.old }
+        ensures silent { to.new.items ≡ to.old.items }
+        ensures marks { (fed : List ℕ) → Stands self.old fed → is_followed self.old ≡ true →
+            marks_told self.new ≡ marks_at_end fed }
+        ensures marks_stay { is_followed self.old ≡ false →
+            marks_told self.new ≡ marks_told self.old }
+    {
         if self.followed && self.marks.is_none() {
             self.read_end(to);
         }
-        self.followed = false;
     }
 
     /// The end of the text behind a fault, for its marks.
