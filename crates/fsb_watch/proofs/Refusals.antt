@@ -59,7 +59,7 @@ more-refuse limit ts us stops.Memory h = h
 more-refuse limit ts us (stops.Bad f) h =
     let refused = some_fault (behind nothing ts).fault f h.1 in
     let same : length (decided (ts ++ us)) ≡ length (decided ts) = ap (λ ss. length ss) (no_more ts us refused) in
-    (omega (arith, h.0), ap (λ (k : Known). k.fault) (fault-stays ts us refused) ∙ h.1)
+    (omega (arith, h.0), fault-stays ts us refused ∙ h.1)
 
 -- a refusal stays, whatever else comes
 pub refusal-stays : (limit : ℕ) (fed more : List ℕ) (stop : VcdStop) → stop_so_far limit fed ≡ Some stop

@@ -1,13 +1,13 @@
 -- Behind a fault: it stays, no sample is decided, and the marks may still come.
-use Rattle.std.proofs.Common.{◌≡◌, ℕ, ◌<◌, Bool, true, false, not, ◌&&◌, ◌==◌, List, [], ◌∷◌, ◌++◌, length, nat_lt, Option, Some, None, is_some, is_none, Result, Ok, Err}
-use Rattle.std.proofs.Common.{if◌then◌else◌, refl, sym, ap, ◌∙◌, arith, subst}
+use Rattle.std.proofs.Common.{◌≡◌, ℕ, Bool, true, false, not, ◌&&◌, ◌==◌, List, [], ◌∷◌, ◌++◌, length, nat_lt, Option, Some, None, is_some, is_none, Result, Ok, Err}
+use Rattle.std.proofs.Common.{if◌then◌else◌, refl, sym, ap, ◌∙◌, arith}
 use Rattle.std.proofs.lemmas.Bool.{ltb-true}
 use Rattle.fsb_signal.specs.declared.marks.Marks.{Marks}
 use Rattle.fsb_signal.specs.declared.sample.Sample.{Sample}
 use Rattle.vcd_grammar.specs.declared.fault.VcdFault.{VcdFault}
-use Rattle.vcd_grammar.specs.Tokens.{Token, tokens_from, ended_at, tokens_of, tokens_so_far}
+use Rattle.vcd_grammar.specs.Tokens.{Token, tokens_from, ended_at, tokens_of}
 use Rattle.vcd_grammar.specs.Judging.{Known, Mode, TokenTurn, goes_to, mode_behind, turn, behind, nothing, known_marks}
-use Rattle.vcd_grammar.specs.Reading.{samples_so_far, marks_so_far, marks_at_end, marks_of, or_cut, cut_in}
+use Rattle.vcd_grammar.specs.Reading.{marks_so_far, marks_at_end, marks_of, or_cut, cut_in}
 use Rattle.vcd_grammar.specs.Reading.{first_fault, samples_before_end}
 use Rattle.vcd_grammar.specs.Judging.{Header, Variable, Skipped, Closing, Values, Pending, Beside, Passed, marks_of_lines}
 use Rattle.vcd_grammar.proofs.Interface.{marks-first, marks-longer, marks-ended}

@@ -8,7 +8,7 @@ returns-else-self-clause-stands c = λ fed stood.
     let r = c.args.self.now in
     let refused = c.requires.refused in
     elim c.else-self.branch [
-      else-self-via-then-self+else-is_none w ↦
+      | else-self-via-then-self+else-is_none w ↦
           still_stands r fed c.args.piece.now refused.0 refused.1 (ap not (w.is_none.ensures ∙ ap not w.if-is_none.false)) stood
       | else-self-via-else-self w ↦ over_stands r (fed ++ c.args.piece.now) refused.0 refused.1 w.if-self.false
     ]
