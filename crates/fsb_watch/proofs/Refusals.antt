@@ -5,7 +5,7 @@ use Rattle.std.proofs.lemmas.Bool.{cases_Bool, lt-ltb, ltb-true, ltb-false, le-l
 use Rattle.fsb_signal.specs.declared.sample.Sample.{Sample}
 use Rattle.vcd_grammar.specs.declared.fault.VcdFault.{VcdFault}
 use Rattle.vcd_grammar.specs.Tokens.{Token, tokens_so_far, tokens_of, ended_at, open_run}
-use Rattle.vcd_grammar.specs.Judging.{Mode, Known, nothing, behind}
+use Rattle.vcd_grammar.specs.Judging.{Mode, nothing, behind}
 use Rattle.vcd_grammar.specs.Reading.{first_fault, fault_so_far, samples_so_far, samples_before_end, samples_of, or_cut}
 use Rattle.vcd_read.specs.declared.stop.VcdStop.{VcdStop}
 use Rattle.vcd_read.specs.declared.stop.VcdStop.TheVariants as stops
