@@ -5,7 +5,7 @@ use Rattle.fsb_signal.specs.declared.sample.Sample.{Sample}
 use Rattle.vcd_grammar.proofs.Interface.{tokens-append, blocks_some, ended-cons, behind-append, events_in-append}
 use Rattle.vcd_grammar.specs.Tokens.{Token, tokens_from, tokens_so_far, open_run}
 use Rattle.vcd_grammar.specs.Blocks.{Block, BlockEvent, Later, Changed, blocks_from, blocks_of, ended}
-use Rattle.vcd_grammar.specs.Judging.{Known, nothing, TokenTurn, turn, behind, events_in}
+use Rattle.vcd_grammar.specs.Judging.{Known, nothing, TokenTurn, goes_to, mode_behind, turn, behind, events_in}
 use Rattle.vcd_grammar.specs.Values.{at_first, samples_in, values_behind, sample_of_block, Values}
 
 -- ---- tokens of appended bytes
@@ -22,19 +22,24 @@ tokens_so_far-append fed more = (tokens_from (length fed) (open_run fed) more, t
 
 -- ---- what is known behind appended tokens, and what happens in them
 
--- behind a fault nothing is known or happens any more
-turn-refused : (k : Known) (t : Token) → is_some k.fault ≡ true → turn k t ≡ record { known = k; events = [] }
+-- behind a fault only the header goes on, and nothing happens any more
+turn-refused : (k : Known) (t : Token) → is_some k.fault ≡ true → turn k t ≡ goes_to k (mode_behind k.mode t)
 unfolding turn
 turn-refused k t e = rw e refl
 
-behind-refused : (k : Known) (ts : List Token) → is_some k.fault ≡ true → behind k ts ≡ k
+still-refused : (k : Known) (t : Token) → is_some k.fault ≡ true → is_some (turn k t).known.fault ≡ true
+still-refused k t e = ap (λ (x : TokenTurn). is_some x.known.fault) (turn-refused k t e) ∙ e
+
+behind-refused : (k : Known) (ts : List Token) → is_some k.fault ≡ true → (behind k ts).fault ≡ k.fault
 behind-refused k [] e = refl
-behind-refused k (t ∷ ts) e = ap (λ (x : TokenTurn). behind x.known ts) (turn-refused k t e) ∙ behind-refused k ts e
+behind-refused k (t ∷ ts) e = behind-refused (turn k t).known ts (still-refused k t e)
+    ∙ ap (λ (x : TokenTurn). x.known.fault) (turn-refused k t e)
 
 events_in-refused : (k : Known) (ts : List Token) → is_some k.fault ≡ true → events_in k ts ≡ []
 events_in-refused k [] e = refl
 events_in-refused k (t ∷ ts) e =
-    ap (λ (x : TokenTurn). x.events ++ events_in x.known ts) (turn-refused k t e) ∙ events_in-refused k ts e
+    ap (λ (x : TokenTurn). x.events ++ events_in (turn k t).known ts) (turn-refused k t e)
+    ∙ events_in-refused (turn k t).known ts (still-refused k t e)
 
 -- ---- samples of appended events
 
@@ -109,5 +114,5 @@ no_more ts us e =
 
 -- the fault stays
 pub fault-stays : (ts us : List Token) → is_some (behind nothing ts).fault ≡ true
-    → behind nothing (ts ++ us) ≡ behind nothing ts
-fault-stays ts us e = behind-append nothing ts us ∙ behind-refused (behind nothing ts) us e
+    → (behind nothing (ts ++ us)).fault ≡ (behind nothing ts).fault
+fault-stays ts us e = ap (λ (k : Known). k.fault) (behind-append nothing ts us) ∙ behind-refused (behind nothing ts) us e

@@ -5,7 +5,7 @@ use Rattle.std.proofs.lemmas.Bool.{cases_Bool, lt-ltb, ltb-true, ltb-false, le-l
 use Rattle.fsb_signal.specs.declared.sample.Sample.{Sample}
 use Rattle.vcd_grammar.specs.declared.fault.VcdFault.{VcdFault}
 use Rattle.vcd_grammar.specs.Tokens.{Token, tokens_so_far, tokens_of, ended_at, open_run}
-use Rattle.vcd_grammar.specs.Judging.{Mode, Known, nothing, behind}
+use Rattle.vcd_grammar.specs.Judging.{Mode, nothing, behind}
 use Rattle.vcd_grammar.specs.Reading.{first_fault, fault_so_far, samples_so_far, samples_before_end, samples_of, or_cut}
 use Rattle.vcd_read.specs.declared.stop.VcdStop.{VcdStop}
 use Rattle.vcd_read.specs.declared.stop.VcdStop.TheVariants as stops
@@ -59,7 +59,7 @@ more-refuse limit ts us stops.Memory h = h
 more-refuse limit ts us (stops.Bad f) h =
     let refused = some_fault (behind nothing ts).fault f h.1 in
     let same : length (decided (ts ++ us)) ≡ length (decided ts) = ap (λ ss. length ss) (no_more ts us refused) in
-    (omega (arith, h.0), ap (λ (k : Known). k.fault) (fault-stays ts us refused) ∙ h.1)
+    (omega (arith, h.0), fault-stays ts us refused ∙ h.1)
 
 -- a refusal stays, whatever else comes
 pub refusal-stays : (limit : ℕ) (fed more : List ℕ) (stop : VcdStop) → stop_so_far limit fed ≡ Some stop

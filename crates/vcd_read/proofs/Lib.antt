@@ -20,3 +20,4 @@ pub mod Law
 pub mod Standings
 pub mod Endings
 pub mod Marking
+pub mod Behind

@@ -4,7 +4,7 @@ ghost use Rattle.fsb_signal.specs.DumpText.{width_of};
 ghost use Rattle.vcd_grammar.specs.Digits.{time_in, extended};
 ghost use Rattle.vcd_grammar.specs.Levels.{level_of};
 ghost use Rattle.vcd_grammar.specs.Words.{header_word, value_word, stamp_word, scalar_word, vector_word, is_end};
-ghost use Rattle.vcd_grammar.specs.Judging.{turn, turn_in, stays, goes_to, fails, later, unless_long, drafted, declared, undeclared, mode_behind, other_declared, line_declared, named, closed, is_declared, missing_from, header_turn, value_turn, scalar_turn, stamped, Header as in_header, Variable as in_variable, Pending as in_pending, Beside as in_beside, marks_of_lines, known_marks};
+ghost use Rattle.vcd_grammar.specs.Judging.{turn, turn_in, stays, goes_to, fails, later, unless_long, drafted, declared, mode_behind, other_declared, line_declared, named, closed, is_declared, missing_from, header_turn, value_turn, scalar_turn, stamped, Header as in_header, Variable as in_variable, Pending as in_pending, Beside as in_beside, marks_of_lines, known_marks};
 ghost use Rattle.vcd_grammar.specs.Reading.{or_cut};
 ghost use Rattle.vcd_read.specs.ReaderView.{known_of, lines_view, draft_of, is_declaring};
 ghost use Rattle.vcd_read.specs.Lines.{rises};
@@ -68,8 +68,8 @@ impl Machine {
 
     /// A declaration that is a fault at its `$end`, behind which it is over.
     fn refuse(&mut self, draft: Draft, cause: VcdCause)
-        ensures { (code : List ℕ) → taken self.new
-            ≡ turned (taken self.old) (undeclared (known_of self.old) (draft_of draft code) cause) }
+        ensures { taken self.new ≡ turned (taken self.old)
+            (fails (record (known_of self.old) { mode = in_header }) draft.place cause) }
     {
         self.mode = Mode::Header;
         self.fail(draft.place, cause);

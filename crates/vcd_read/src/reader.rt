@@ -1,8 +1,8 @@
-ghost use Rattle.std.specs.Prelude.{◌≡◌, ◌<◌, ◌+◌, ◌-◌, ◌^◌, ◌++◌, ℕ, List, [], length, take, nat_lt, None, Some, Err, true, false, ◌⊎◌, IsSome, IfOk, OnOk, OnErr, if◌then◌else◌};
+ghost use Rattle.std.specs.Prelude.{◌≡◌, ◌<◌, ◌+◌, ◌-◌, ◌^◌, ◌++◌, ℕ, List, [], length, take, nat_lt, None, Some, Err, true, false, ◌⊎◌, IfOk, OnOk, OnErr, if◌then◌else◌};
 ghost use Rattle.vcd_grammar.specs.Reading.{marks_of, samples_of, samples_before_end, marks_so_far, marks_at_end, samples_so_far};
 ghost use Rattle.vcd_grammar.specs.Judging.{nothing, behind};
 ghost use Rattle.vcd_grammar.specs.Tokens.{tokens_of};
-ghost use Rattle.vcd_read.specs.Standing.{Works, Stands, refusal_of, limit_of, marks_told, is_followed, GoesOn};
+ghost use Rattle.vcd_read.specs.Standing.{Works, Stands, refusal_of, limit_of, marks_told, is_followed, Behind, GoesOn};
 ghost use Rattle.vcd_read.specs.Answers.{Answers, refusal_in, result_of, fault_or, end_stop, stop_so_far, stop_at_end, AppendsBy, AppendsAtEnd, TellsMarks, is_memory, still_followed};
 
 use crate::scan::Scan;
@@ -92,7 +92,7 @@ impl Reader {
     /// The next piece behind a refusal, whose marks alone may still come.
     fn follow(&mut self, piece: &[u8], to: &mut Vec<Sample>)
         requires fed { (fed : List ℕ) × Stands self.old fed × (length fed + length piece.now < 2 ^ 64) }
-        requires refused { IsSome (refusal_of self.old) }
+        requires refused { (stop : VcdStop) × (refusal_of self.old ≡ Some stop) }
         ensures stands { (fed : List ℕ) → Stands self.old fed → Stands self.new (fed ++ piece.now) }
         ensures refusal { refusal_of self.new ≡ refusal_of self.old }
         ensures limit { limit_of self.new ≡ limit_of self.old }
@@ -102,9 +102,23 @@ impl Reader {
             marks_told self.new ≡ marks_told self.old }
     {
         if self.followed && self.marks.is_none() {
-            self.scan.absorb(piece, self.limit, to).unwrap();
-            self.marks = self.scan.machine.marks();
+            self.read_on(piece, to);
         }
+    }
+
+    /// The next piece behind a fault, for its marks.
+    fn read_on(&mut self, piece: &[u8], to: &mut Vec<Sample>)
+        requires { (fed : List ℕ) × Behind self.old.scan fed × (length fed + length piece.now < 2 ^ 64) }
+        ensures behind { (fed : List ℕ) → Behind self.old.scan fed → Behind self.new.scan (fed ++ piece.now) }
+        ensures marks { (fed : List ℕ) → Behind self.old.scan fed →
+            marks_told self.new ≡ marks_so_far (fed ++ piece.now) }
+        ensures refusal { refusal_of self.new ≡ refusal_of self.old }
+        ensures limit { limit_of self.new ≡ limit_of self.old }
+        ensures followed { is_followed self.new ≡ is_followed self.old }
+        ensures silent { to.new.items ≡ to.old.items }
+    {
+        self.scan.absorb(piece, self.limit, to).unwrap();
+        self.marks = self.scan.machine.marks();
     }
 
     /// The next piece, where nothing was refused.
@@ -177,8 +191,11 @@ impl Reader {
         ensures marks { OnOk result
             ((fed : List ℕ) → Stands self.old fed → marks_told self.new ≡ Some (marks_of fed)) }
         ensures followed { is_followed self.new ≡ false }
-        ensures marks_at_end { (fed : List ℕ) → Stands self.old fed → is_followed self.old ≡ true →
+        ensures marks_at_end { (fed : List ℕ) → Stands self.old fed → refusal_of self.old ≡ None →
             TellsMarks result (marks_at_end fed) (marks_told self.old) (marks_told self.new) }
+        ensures marks_behind { (fed : List ℕ) (stop : VcdStop) → Stands self.old fed →
+            refusal_of self.old ≡ Some stop → is_followed self.old ≡ true →
+            marks_told self.new ≡ marks_at_end fed }
         ensures marks_stay { is_followed self.old ≡ false → refusal_of self.old ≡ None ⊎
             marks_told self.new ≡ marks_told self.old }
     {
@@ -198,7 +215,7 @@ impl Reader {
     /// The end of the text behind a refusal, whose marks alone may still come.
     fn follow_end(&mut self, to: &mut Vec<Sample>)
         requires fed { (fed : List ℕ) × Stands self.old fed }
-        requires refused { IsSome (refusal_of self.old) }
+        requires refused { (stop : VcdStop) × (refusal_of self.old ≡ Some stop) }
         ensures stands { (fed : List ℕ) → Stands self.old fed → Stands self.new fed }
         ensures refusal { refusal_of self.new ≡ refusal_of self.old }
         ensures limit { limit_of self.new ≡ limit_of self.old }
@@ -209,11 +226,38 @@ impl Reader {
         ensures marks_stay { is_followed self.old ≡ false →
             marks_told self.new ≡ marks_told self.old }
     {
-        if self.followed && self.marks.is_none() {
-            let _more = self.scan.finish(self.limit, to).unwrap();
-            self.marks = self.scan.machine.marks();
-        }
+        self.last_marks(to);
         self.followed = false;
+    }
+
+    /// The marks of the whole text, unless they were told or do not come any more.
+    fn last_marks(&mut self, to: &mut Vec<Sample>)
+        requires fed { (fed : List ℕ) × Stands self.old fed }
+        requires refused { (stop : VcdStop) × (refusal_of self.old ≡ Some stop) }
+        ensures refusal { refusal_of self.new ≡ refusal_of self.old }
+        ensures limit { limit_of self.new ≡ limit_of self.old }
+        ensures silent { to.new.items ≡ to.old.items }
+        ensures marks { (fed : List ℕ) → Stands self.old fed → is_followed self.old ≡ true →
+            marks_told self.new ≡ marks_at_end fed }
+        ensures marks_stay { is_followed self.old ≡ false →
+            marks_told self.new ≡ marks_told self.old }
+    {
+        if self.followed && self.marks.is_none() {
+            self.read_end(to);
+        }
+    }
+
+    /// The end of the text behind a fault, for its marks.
+    fn read_end(&mut self, to: &mut Vec<Sample>)
+        requires { (fed : List ℕ) × Behind self.old.scan fed }
+        ensures marks { (fed : List ℕ) → Behind self.old.scan fed →
+            marks_told self.new ≡ marks_at_end fed }
+        ensures refusal { refusal_of self.new ≡ refusal_of self.old }
+        ensures limit { limit_of self.new ≡ limit_of self.old }
+        ensures silent { to.new.items ≡ to.old.items }
+    {
+        let _more = self.scan.finish(self.limit, to).unwrap();
+        self.marks = self.scan.machine.marks();
     }
 
     /// The end of the text, where nothing was refused.

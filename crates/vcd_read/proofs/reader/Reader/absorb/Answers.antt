@@ -5,7 +5,9 @@ use Rattle.vcd_read.specs.Standing.{Scanned, marks_told}
 use Rattle.vcd_read.specs.Answers.{Answers, AppendsBy, result_of, stop_so_far, TellsMarks}
 use Rattle.vcd_read.proofs.Standings.{scanned_fits, scanned_more, answers_of, appends_of, stop_is, few_where_none}
 use Rattle.vcd_read.proofs.Standings.{faultless_where_none, fed_appends, fed_part, ok_of}
+use Rattle.vcd_read.specs.Standing.{GoesOn}
 use Rattle.vcd_read.proofs.Marking.{scanned_marks, told_by}
+use Rattle.vcd_read.proofs.Behind.{goes_on}
 use Rattle.vcd_read.proofs.reader.Reader.absorb.Goals as goal
 
 pub absorb-requires-clause-fits : goal.absorb-requires-clause-fits
@@ -60,3 +62,17 @@ returns-clause-marks c = λ fed w.
     subst (λ a. TellsMarks a told (marks_told c.args.self.now) c.marks-self.result) (sym c.answer.ensures)
     (told_by _ s.machine.fault told (marks_told c.args.self.now) c.marks-self.result (c.marks-self.ensures
     ∙ scanned_marks s (fed ++ c.args.piece.now) more))
+
+pub returns-clause-behind : goal.returns-clause-behind
+returns-clause-behind c = λ fed w.
+    let r = c.args.self.now in
+    let s = c.absorb.new.self in
+    let all = fed ++ c.args.piece.now in
+    let more : Scanned s all = scanned_more r.scan s fed c.args.piece.now w.scanned c.in_ok-absorb.ensures.state in
+    subst (λ a. GoesOn a c.marks-self.result s all) (sym c.answer.ensures)
+    (goes_on s all r.limit c.marks-self.result more (c.marks-self.ensures ∙ scanned_marks s all more))
+
+pub returns-in_err-absorb-clause-behind : goal.returns-in_err-absorb-clause-behind
+returns-in_err-absorb-clause-behind c = λ fed w.
+    let stop = err_from_is_err_and c.from_residual.result c.from_residual.ensures.1 in
+    rw (stop.1, stop.2) tt

@@ -6,6 +6,10 @@ use Rattle.vcd_read.proofs.Standings.{scanned_fits, answers_of}
 use Rattle.vcd_read.proofs.Absorbing.{ok_anyway}
 use Rattle.vcd_read.proofs.Marking.{ended_lines}
 use Rattle.vcd_read.proofs.Endings.{scan_stop_is, scan_appends, scan_part}
+use Rattle.vcd_grammar.specs.Reading.{marks_at_end}
+use Rattle.vcd_read.specs.Standing.{marks_told}
+use Rattle.vcd_read.specs.Answers.{TellsMarks}
+use Rattle.vcd_read.proofs.Behind.{told_end, ended_marks}
 use Rattle.vcd_read.proofs.reader.Reader.end.Goals as goal
 
 pub finish-requires : goal.finish-requires
@@ -37,3 +41,10 @@ returns-in_err-more-clause-samples c = λ fed w.
 pub returns-clause-declared : goal.returns-clause-declared
 returns-clause-declared c = ok_anyway c.end_answer.result (λ fed w. c.in_ok-more.ensures.lines
     ∙ ended_lines c.args.self.now.scan fed w.scanned)
+
+pub returns-clause-marks : goal.returns-clause-marks
+returns-clause-marks c = λ fed w.
+    let r = c.args.self.now in
+    subst (λ a. TellsMarks a (marks_at_end fed) (marks_told r) c.marks-self.result) (sym c.end_answer.ensures)
+    (told_end _ _ _ _ (marks_at_end fed) (marks_told r) c.marks-self.result (c.marks-self.ensures
+    ∙ c.in_ok-more.ensures.marks ∙ ended_marks r.scan fed w.scanned))

@@ -12,5 +12,7 @@ returns-clause-stands c =
         faultless = refl;
         few = omega arith;
       };
+      followed = λ _. refl;
       marked = λ _. refl;
+      behind = λ stop is f none. absurd (let no : ⊥ = cc in no);
     }
