@@ -3,7 +3,7 @@
 
 Usage: bench/pages.py [PROGRAM [PAGE..]]      the pages are README.md and all of docs/, unless some are named
 
-A command is a line `$ ...` of a fenced block that begins with one; a `\\` at its end goes on in the next line. The lines up to
+A command is a line `$ ...` of a fenced block that begins with one; lines `> ...` right behind it go on with it. The lines up to
 the next command are its standard output. The commands of a page run one after the other, each by a bash of its own, in one
 fresh copy of examples/ with p6bench on the path; bench/ and crates/ lie beside it. Blocks of another form are read past.
 """
@@ -27,8 +27,9 @@ def commands(page):
     with open(page) as file:
         text = file.read()
     for block in re.finditer(r"^```\w*\n(\$ .*?)^```$", text, re.S | re.M):
-        for part in re.finditer(r"^\$ ((?:.*\\\n)*.*\n)((?:(?!\$ ).*\n)*)", block[1], re.M):
-            yield text.count("\n", 0, block.start(1) + part.start()) + 1, part[1].rstrip("\n"), part[2].rstrip()
+        for part in re.finditer(r"^\$ (.*\n(?:> .*\n)*)((?:(?!\$ ).*\n)*)", block[1], re.M):
+            line = text.count("\n", 0, block.start(1) + part.start()) + 1
+            yield line, re.sub(r"^> ", "", part[1].rstrip("\n"), flags=re.M), part[2].rstrip()
 
 
 def folder_of(top, program):
