@@ -36,7 +36,7 @@ def folder_of(top, program):
     """The examples that the commands of one page use up, and what lies beside them."""
     os.mkdir(os.path.join(top, "bin"))
     os.symlink(program, os.path.join(top, "bin/p6bench"))
-    for name in ("bench", "crates"):
+    for name in ("lab", "crates"):
         os.symlink(os.path.join(TOP, name), os.path.join(top, name))
     return shutil.copytree(os.path.join(TOP, "examples"), os.path.join(top, "examples"))
 
