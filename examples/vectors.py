@@ -33,6 +33,8 @@ def samples(words):
             before = dict(levels)
         elif word[0] in "bB":
             levels[next(words)] = word[1:]
+        elif word[0] in "rRsS":
+            next(words)
         elif word[0] in "01xXzZ":
             levels[word[1:]] = word[0]
     if before.get(clock) == "0" and levels[clock] == "1":

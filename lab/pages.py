@@ -19,7 +19,7 @@ import tempfile
 sys.dont_write_bytecode = True
 from common import TOP, built_program
 
-SECONDS = 300
+SECONDS = 600
 
 
 def commands(page):
