@@ -156,7 +156,12 @@ fn each_read_and_each_write_of_a_run_fails(rt: HostRuntime) -> Result<(), Fail> 
         dump: &dump,
     };
     expect_faults(&rt, rt.alloc(), &run)?;
-    // A plan that is made from a seed reads nothing.
+    Ok(())
+}
+
+/// A plan that is made from a seed reads nothing.
+#[test]
+fn each_write_of_a_made_run_fails(rt: HostRuntime) -> Result<(), Fail> {
     let made = Whole {
         call: call_of(&LEAST, b""),
         reads: 0,

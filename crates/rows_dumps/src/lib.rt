@@ -3,7 +3,7 @@
 //!
 //! `audits` and `tables` go over the waveforms of rows_store, `audited_dumps` and `shown` over their dumps, `checked_dumps` over
 //! dumps of other tools too. `written` is the one way in which tests, here and above, write the dump of a waveform. Nothing is
-//! promised. The tests of fsb_top have one such dump for each way in which a command ends.
+//! promised. rows_calls has one such dump for each way in which a command ends.
 #![tactic(auto)]
 
 pub use dumps::written;

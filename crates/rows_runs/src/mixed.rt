@@ -1,5 +1,5 @@
 //! Ten mixed runs, and what their caches have as they end: of each line that an agent holds, and that has come, its state and one of
-//! its bytes. They are those of the simulator in Python, bench/second_bench.py.
+//! its bytes. They are those of the simulator in Python, lab/second_bench.py.
 
 use crate::lent::{Lent, Run};
 use fsb_cache::Mesi;

@@ -34,7 +34,8 @@ fn first_run(rt: HostRuntime) -> Result<(), Fail> {
         b"11 0 0 ld 1 40 = 7\n12 0 1 st 1 41 = 5\nend clocks=60 done=2 of=2\n".as_slice()
     );
     assert_eq!(rt; dump.begun_as(), Some(b"x".as_slice()));
-    assert_eq!(rt; dump.holds(), wanted_dump(rt.alloc())?.holds());
+    let wanted = wanted_dump(rt.alloc())?;
+    assert_eq!(rt; dump.holds(), wanted.holds());
     assert_eq!(rt; dump.holds().len(), 2_070);
     Ok(())
 }

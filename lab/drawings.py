@@ -1,7 +1,7 @@
 #!/usr/bin/env python3
 """Judges the drawings of the pages: each waveform under which a verdict stands is made a dump and given to `check`.
 
-Usage: bench/drawings.py [PROGRAM]      prints each drawing whose verdict is another, and how many there are; status 1 where one is
+Usage: lab/drawings.py [PROGRAM]      prints each drawing whose verdict is another, and how many there are; status 1 where one is
 
 A drawing is a fenced block. Its rows are lines of the bus, four characters a clock behind nine of the name, low where asserted; RS# has the code
 RS2 RS1 RS0, and REQ, A and D are hexadecimal. `xxxx` is unknown. Rows of `snoop` and `log` are read past. Rows that are too long go on below.

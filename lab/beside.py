@@ -2,7 +2,7 @@
 """Judges one dump by several programs in turn, and prints for each the least processor time, which other work on the machine disturbs less
 than the time on the clock, and its ratio to the first program's.
 
-Usage: bench/beside.py PROGRAM.. [--dump FILE] [--turns N]; with no FILE a dump of 200 MB is made as check_dump.sh does, by the first program.
+Usage: lab/beside.py PROGRAM.. [--dump FILE] [--turns N]; with no FILE a dump of 200 MB is made as check_dump.sh does, by the first program.
 """
 
 import argparse
@@ -25,7 +25,7 @@ def processor_time(program, dump):
 
 
 def main():
-    words = argparse.ArgumentParser(usage="bench/beside.py PROGRAM.. [--dump FILE] [--turns N]")
+    words = argparse.ArgumentParser(usage="lab/beside.py PROGRAM.. [--dump FILE] [--turns N]")
     words.add_argument("programs", nargs="+")
     words.add_argument("--dump")
     words.add_argument("--turns", type=int, default=7)

@@ -3,12 +3,12 @@
 # (crates/p6bench/out/p6bench, made by `rt run` or `rt ci`). One trigger matches at no clock, so the hunt goes on to the end;
 # the other matches at the first request, so of all the samples behind it nothing is looked for any more.
 # The nearest to the reader alone is a wave of clocks that the dump does not reach: nothing is kept of its samples.
-# Usage: bench/look_at_dump.sh [PROGRAM [MEGABYTES]]
+# Usage: lab/look_at_dump.sh [PROGRAM [MEGABYTES]]
 set -eu
 . "$(dirname "$0")/program.sh"
 python3 - "$program" "$folder" "${2:-200}" <<'PY'
 import os, subprocess, sys, time
-sys.path.insert(0, "bench")
+sys.path.insert(0, "lab")
 from common import large_dump, most_memory, row
 program, folder, size = sys.argv[1], sys.argv[2], int(sys.argv[3]) * 1_000_000
 large, small, clock = large_dump(program, folder, size)

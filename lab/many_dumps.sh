@@ -1,12 +1,12 @@
 #!/bin/sh
 # Measures how fast many dumps are judged on all processors, by verdicts.sh: 200 dumps, of which every tenth breaks a rule and every
 # fiftieth is cut off, one at a time and then as many at a time as there are processors. Both must give the same lines.
-# Usage: bench/many_dumps.sh [PROGRAM [DUMPS [MEGABYTES OF EACH]]]
+# Usage: lab/many_dumps.sh [PROGRAM [DUMPS [MEGABYTES OF EACH]]]
 set -eu
 . "$(dirname "$0")/program.sh"
 python3 - "$program" "$folder" "${2:-200}" "${3:-4}" <<'PY'
 import collections, os, subprocess, sys, time
-sys.path.insert(0, "bench")
+sys.path.insert(0, "lab")
 from common import large_dump, row
 program, folder, count, size = sys.argv[1], sys.argv[2], int(sys.argv[3]), int(sys.argv[4]) * 1_000_000
 text = open(large_dump(program, folder, size)[0]).read()
@@ -30,7 +30,7 @@ for number in range(count):
 
 def judged(jobs):
     begin = time.perf_counter()
-    done = subprocess.run(["sh", "bench/verdicts.sh", program, str(jobs)], input="\n".join(names) + "\n", stdout=subprocess.PIPE, text=True, check=True)
+    done = subprocess.run(["sh", "lab/verdicts.sh", program, str(jobs)], input="\n".join(names) + "\n", stdout=subprocess.PIPE, text=True, check=True)
     return time.perf_counter() - begin, sorted(done.stdout.splitlines())
 
 

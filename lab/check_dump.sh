@@ -1,13 +1,13 @@
 #!/bin/sh
 # Measures how fast a dump is read and judged: 200 MB in the form that the program writes, the clocks of a real run over and
 # over with rising time stamps, through the built program (crates/p6bench/out/p6bench, made by `rt run` or `rt ci`).
-# Usage: bench/check_dump.sh [PROGRAM [MEGABYTES]]
+# Usage: lab/check_dump.sh [PROGRAM [MEGABYTES]]
 set -eu
 . "$(dirname "$0")/program.sh"
 megabytes=${2:-200}
 python3 - "$program" "$folder" "$megabytes" <<'PY'
 import os, subprocess, sys, time
-sys.path.insert(0, "bench")
+sys.path.insert(0, "lab")
 from common import large_dump, most_memory, row
 program, folder, size = sys.argv[1], sys.argv[2], int(sys.argv[3]) * 1_000_000
 large, small, clock = large_dump(program, folder, size)

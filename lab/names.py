@@ -1,7 +1,7 @@
 #!/usr/bin/env python3
 """Names of files: the dump under the names of standard output, of the bench file and of others, through the built program.
 
-Usage: bench/names.py [PROGRAM]
+Usage: lab/names.py [PROGRAM]
 
 A run that ends with status 0 must have lost nothing: neither its log, nor its dump, nor what a file held that was not to be
 replaced. One that ends with another status must say why, and have left the whole log. Prints each case, and what was wrong.

@@ -3,7 +3,7 @@
 `check` it takes of a processor: a program of an earlier landing, `wc -l`, and `vcd2fst` and `fst2vcd` of Debian's gtkwave, which turn the
 dump into an FST file and back. What is not there has a dash. The least of several turns, by processor time, as in beside.py.
 
-Usage: bench/others.py [PROGRAM] [--first PROGRAM] [--megabytes N] [--turns N]
+Usage: lab/others.py [PROGRAM] [--first PROGRAM] [--megabytes N] [--turns N]
 """
 
 import argparse
@@ -28,7 +28,7 @@ def processor_time(call):
 
 
 def main():
-    words = argparse.ArgumentParser(usage="bench/others.py [PROGRAM] [--first PROGRAM] [--megabytes N] [--turns N]")
+    words = argparse.ArgumentParser(usage="lab/others.py [PROGRAM] [--first PROGRAM] [--megabytes N] [--turns N]")
     words.add_argument("program", nargs="?")
     words.add_argument("--first")
     words.add_argument("--megabytes", type=int, default=200)

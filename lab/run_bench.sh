@@ -1,12 +1,12 @@
 #!/bin/sh
 # Measures runs of four busy agents over 200,000 clocks, without and with a dump, over all clocks, half of them and a quarter, and a
 # run of a bench file of 3.9 MB of memory settings, through the built program (crates/p6bench/out/p6bench, made by `rt run` or `rt ci`).
-# Usage: bench/run_bench.sh [PROGRAM]
+# Usage: lab/run_bench.sh [PROGRAM]
 set -eu
 . "$(dirname "$0")/program.sh"
 python3 - "$program" "$folder" <<'PY'
 import os, subprocess, sys, time
-sys.path.insert(0, "bench")
+sys.path.insert(0, "lab")
 from common import busy_bench, most_memory, row
 program, folder = sys.argv[1:]
 bench = os.path.join(folder, "busy.bench")

@@ -1,11 +1,11 @@
 #!/bin/sh
 # Measures how long it takes to judge a dump whose header declares a million variables, twenty of which are the lines of the bus.
-# Usage: bench/many_codes.sh [PROGRAM [VARIABLES]]
+# Usage: lab/many_codes.sh [PROGRAM [VARIABLES]]
 set -eu
 . "$(dirname "$0")/program.sh"
 python3 - "$program" "$folder" "${2:-1000000}" <<'PY'
 import os, subprocess, sys, time
-sys.path.insert(0, "bench")
+sys.path.insert(0, "lab")
 from common import large_dump, most_memory, row
 program, folder, count = sys.argv[1], sys.argv[2], int(sys.argv[3])
 run = open(large_dump(program, folder, 0)[0].replace("large.vcd", "run.vcd")).read()

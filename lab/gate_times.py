@@ -1,8 +1,8 @@
 #!/usr/bin/env python3
 """Runs the gate once, and tells what it takes of each crate.
 
-Usage: bench/gate_times.py TIMES             runs .ci/run, writes what it took into the file TIMES, and the table into docs/proof/times.md
-       bench/gate_times.py --table TIMES     writes the table from an earlier run, and runs nothing
+Usage: lab/gate_times.py TIMES             runs .ci/run, writes what it took into the file TIMES, and the table into docs/proof/times.md
+       lab/gate_times.py --table TIMES     writes the table from an earlier run, and runs nothing
 
 While the gate runs, /proc is looked at every two seconds: each process of it counts for the crate that it works on, as proof, as tests (the crate is proved
 once more with them) or as edits, and a compiler for the one that called it. A process that ends between two looks loses its last two seconds at most. The

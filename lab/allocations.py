@@ -1,7 +1,7 @@
 #!/usr/bin/env python3
 """Each allocation refused in turn, in the built program: every command on files of every form, on good ones and on refused ones.
 
-Usage: bench/allocations.py [PROGRAM]      (by default crates/p6bench/out/p6bench, made by `rt run` there or by `rt ci`)
+Usage: lab/allocations.py [PROGRAM]      (by default crates/p6bench/out/p6bench, made by `rt run` there or by `rt ci`)
 
 A small library that is loaded before the C library counts the calls that ask for memory, and refuses the N-th, for N = 1, 2, ..
 to the last one and two numbers past it; and again the N-th and all behind it. A refused allocation must end the call with status 8

@@ -1,12 +1,12 @@
 #!/bin/sh
 # Measures how long it takes to show a dump as a table: the dump of check_dump.sh, cut to nearly the 200,000 samples that a table
 # may have, through the built program (crates/p6bench/out/p6bench, made by `rt run` or `rt ci`).
-# Usage: bench/show_dump.sh [PROGRAM]
+# Usage: lab/show_dump.sh [PROGRAM]
 set -eu
 . "$(dirname "$0")/program.sh"
 python3 - "$program" "$folder" <<'PY'
 import os, subprocess, sys, time
-sys.path.insert(0, "bench")
+sys.path.insert(0, "lab")
 from common import large_dump, most_memory, row
 program, folder = sys.argv[1], sys.argv[2]
 clock = 198_400

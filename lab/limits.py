@@ -1,7 +1,7 @@
 #!/usr/bin/env python3
 """Files at and over each limit, and an outside that fails: full devices, closed pipes, folders, files that grow.
 
-Usage: bench/limits.py [PROGRAM [MINUTES [GROUP]]]      (GROUP: bench_files, dumps, outside, growing)
+Usage: lab/limits.py [PROGRAM [MINUTES [GROUP]]]      (GROUP: bench_files, dumps, outside, growing)
 
 Each case has the one answer that the pages of docs/reference/ give: a status, its line, and what stands on standard output. With MINUTES, a
 dump of 2^32 samples is checked at last, which is `too long`, and one of 2^32 - 1, where the time suffices. Needs a C compiler for that, as cc.

@@ -1,7 +1,7 @@
 #!/bin/sh
 # Judges many dumps, several at a time. Reads their names from standard input, one a line, and prints a line for each as it is done: the
 # exit status, the name, and the verdict or why there is none, divided by tabs. The status of this script is 0 where each name got a line.
-# Usage: bench/verdicts.sh [PROGRAM [JOBS]] < NAMES      (a PROGRAM without a slash is looked for on the path)
+# Usage: lab/verdicts.sh [PROGRAM [JOBS]] < NAMES      (a PROGRAM without a slash is looked for on the path)
 set -eu
 program=${1:-$(dirname "$0")/../crates/p6bench/out/p6bench}
 command -v -- "$program" > /dev/null || { echo "no program $program: build it by 'rt run' in crates/p6bench" >&2; exit 2; }

@@ -1,7 +1,7 @@
 #!/usr/bin/env python3
 """Each call of the system in turn, failing or doing less than was asked, in the built program.
 
-Usage: bench/calls.py [PROGRAM]      (by default crates/p6bench/out/p6bench, made by `rt run` there or by `rt ci`)
+Usage: lab/calls.py [PROGRAM]      (by default crates/p6bench/out/p6bench, made by `rt run` there or by `rt ci`)
 
 A small library that is loaded before the C library counts the calls of each kind, and has the N-th fail (as a broken disk, as a full one, as one
 that was interrupted) or, of reading and writing, move one byte alone; or every one of them. What must hold: a status that the documents have, with its

@@ -1,7 +1,7 @@
 #!/bin/sh
 # Judges waveforms twice, by the checker and by the plain judge of whole traces: of ten seeds 20,000 random ones each, and the worked
 # runs' dumps with every one that differs from them in one line at one clock, through the built program
-# crates/rows_trials/out/rows_trials (made by `rt run` there or by `rt ci`). Usage: bench/trials.sh [PROGRAM [SEEDS]]
+# crates/rows_trials/out/rows_trials (made by `rt run` there or by `rt ci`). Usage: lab/trials.sh [PROGRAM [SEEDS]]
 set -eu
 program=$(realpath -- "${1:-$(dirname "$0")/../crates/rows_trials/out/rows_trials}")
 cd "$(dirname "$0")/.."

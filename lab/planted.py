@@ -1,7 +1,7 @@
 #!/usr/bin/env python3
 """Plants bugs in the code of a crate, by hand-written lists, and has the prover judge each.
 
-Usage: bench/planted.py [CRATE..]     judges the lists bench/planted/CRATE.json, by default all
+Usage: lab/planted.py [CRATE..]     judges the lists lab/planted/CRATE.json, by default all
 
 A list has objects with fn (the function, with its type where the name alone is not clear), file, what (what goes wrong), old and new. The text
 old stands once in the file, in the body of that function. Bugs are planted in a copy of the repository, one a function and several functions at a
@@ -51,7 +51,7 @@ class Judge:
     def __init__(self, copy, crate):
         self.crate = crate
         self.folder = os.path.join(copy, "crates", crate)
-        with open(os.path.join(TOP, "bench/planted", crate + ".json")) as file:
+        with open(os.path.join(TOP, "lab/planted", crate + ".json")) as file:
             self.bugs = json.load(file)
         self.whole = {}
         for bug in self.bugs:
@@ -174,7 +174,7 @@ class Judge:
 
 
 def main():
-    lists = sorted(name[:-5] for name in os.listdir(os.path.join(TOP, "bench/planted")) if name.endswith(".json"))
+    lists = sorted(name[:-5] for name in os.listdir(os.path.join(TOP, "lab/planted")) if name.endswith(".json"))
     with tempfile.TemporaryDirectory() as folder:
         copy = os.path.join(folder, "repo")
         subprocess.run(["git", "clone", "-q", TOP, copy], check=True)

@@ -2,7 +2,7 @@
 # Measures how fast a bench file is read: 3.9 MB of memory settings and 4,095 loads, through the built program
 # (crates/p6bench/out/p6bench, made by `rt run` or `rt ci`). The last line is a fault, so the file is read whole and
 # nothing is run.
-# Usage: bench/read_bench.sh [PROGRAM]
+# Usage: lab/read_bench.sh [PROGRAM]
 set -eu
 . "$(dirname "$0")/program.sh"
 python3 - "$folder/large.bench" "$folder/small.bench" <<'PY'
@@ -19,7 +19,7 @@ open(sys.argv[2], "w").write(head + "agent 0\nend\nbad\n")
 PY
 python3 - "$program" "$folder/large.bench" "$folder/small.bench" <<'PY'
 import os, subprocess, sys, time
-sys.path.insert(0, "bench")
+sys.path.insert(0, "lab")
 from common import most_memory, row
 program, large, small = sys.argv[1:]
 def best(path):

@@ -1,7 +1,7 @@
 #!/usr/bin/env python3
 """Tries the wrong bodies that the gate does not try: has the prover judge each of them.
 
-Usage: bench/edits.py [CRATE..]     judges the edits bench/planted/edits/CRATE/*.edit, by default all
+Usage: lab/edits.py [CRATE..]     judges the edits lab/planted/edits/CRATE/*.edit, by default all
 
 An edit has the form of those in crates/CRATE/must-fail/, which the gate tries. Here they take the place of those there, in a copy of the repository's
 last commit, and one `rt must-fail CRATE` judges them. What is kept in the crates' out/ is copied too: without it all crates below are proved first.
@@ -24,7 +24,7 @@ import sys
 import tempfile
 
 TOP = os.path.dirname(os.path.dirname(os.path.abspath(__file__)))
-EDITS = os.path.join(TOP, "bench/planted/edits")
+EDITS = os.path.join(TOP, "lab/planted/edits")
 TOLD = re.compile(r"must-fail (\w+)/(\S+)\.edit: (.*)")
 
 

@@ -1,7 +1,7 @@
 #!/usr/bin/env python3
 """Hostile input: every prefix of dumps and bench files of every form, random edits of them, and random words, through the built program.
 
-Usage: bench/hostile.py [PROGRAM [EDITS [SEED [JOBS [PART]]]]]      (20,000 edits of dumps and as many of bench files, on all processors; PART
+Usage: lab/hostile.py [PROGRAM [EDITS [SEED [JOBS [PART]]]]]      (20,000 edits of dumps and as many of bench files, on all processors; PART
 is dumps, benches or words)
 
 Each dump is given to `check`, `audit`, `find`, `wave` and `show`, each bench file to `run` without and with a dump. What is answered must be exactly
