@@ -146,21 +146,24 @@ const PARITIES: [(Clock, u32, bool, bool); 10] = [
     ((0, 1, 1), Lines::RP.0, true, false),
 ];
 
+/// Whether the parity of the address and that of the request fail at a clock of which this is unknown.
+fn parities(clock: Clock, unknown: u32) -> (bool, bool) {
+    let blur = Blur {
+        lines: unknown,
+        ..CLEAR
+    };
+    let sample = blurred(clock, blur);
+    (sample.is_address_odd(), sample.is_request_odd())
+}
+
 #[test]
 fn parity_of_a_load(rt: HostRuntime) {
-    for (clock, unknown, address, request) in PARITIES {
-        let blur = Blur {
-            lines: unknown,
-            ..CLEAR
-        };
-        let sample = blurred(clock, blur);
-        assert_eq!(rt; sample.is_address_odd(), address, "{clock:?}");
-        assert_eq!(rt; sample.is_request_odd(), request, "{clock:?}");
+    for row in PARITIES.iter() {
+        let (clock, unknown, address, request) = *row;
+        assert!(rt; parities(clock, unknown) == (address, request));
     }
     let asserted = sample((Lines::ADS.0 + PARITY, 6, 8));
-    assert_eq!(rt; asserted.value(20), 1);
-    assert_eq!(rt; asserted.value(21), 1);
+    assert!(rt; asserted.value(20) == 1 && asserted.value(21) == 1);
     let both = Marks { ap: true, rp: true };
-    assert_eq!(rt; Marks::of_profile(2), both);
-    assert!(rt; Marks::of_profile(1) != both);
+    assert!(rt; Marks::of_profile(2) == both && Marks::of_profile(1) != both);
 }
