@@ -9,9 +9,13 @@ use std::alloc::Global;
 pub(crate) const LOAD_THEN_STORE: &str =
     "p6bench 1\nagents 1\nclocks 60\ncache 64\nahead 1\nmem 40 07\nagent 0\nld 1 40\nst 1 41 5\nend\n";
 
-/// The bench of a text with these objects; None where the text is none, or memory lacks.
+/// The bench of a short text with these objects; None where the text is none, or memory lacks.
 pub(crate) fn bench_of(alloc: Global, text: &str, hazards: Vec<Box<dyn Hazard>>) -> Option<Bench> {
-    let plan = read_bench(alloc, text.as_bytes()).ok()?;
+    let text = text.as_bytes();
+    if text.len() > 4_096 {
+        return None;
+    }
+    let plan = read_bench(alloc, text).ok()?;
     Bench::make(alloc, plan, hazards).ok()
 }
 

@@ -481,7 +481,7 @@ fn told_in_pieces(alloc: Global, bytes: &[u8], limit: u32, size: usize) -> Resul
     Ok((refusal, reader.marks()))
 }
 
-/// Where a text is refused, its marks are told as far as it was read, in whatever pieces it comes.
+/// A text that is refused has its marks too, from the `$end` of its `$enddefinitions` on, in whatever pieces it comes.
 #[test]
 fn marks_of_refused_texts(rt: HostRuntime) -> Result<(), Fail> {
     let neither = Some(UNMARKED);
@@ -508,15 +508,21 @@ fn marks_of_refused_texts(rt: HostRuntime) -> Result<(), Fail> {
         (Start::Parity, "#1 1! #2 hello ", 0, (too_long, both)),
         (
             Start::Lines,
-            "hello $enddefinitions $end ",
+            "hello $enddefinitions ",
             u32::MAX,
             (header, None),
+        ),
+        (
+            Start::Lines,
+            "hello $enddefinitions $end ",
+            u32::MAX,
+            (header, neither),
         ),
         (
             Start::Whole,
             "$enddefinitions $end #0 ",
             u32::MAX,
-            (missing, None),
+            (missing, neither),
         ),
     ];
     for (start, text, limit, told) in rows.iter() {
