@@ -8,7 +8,8 @@ pub use Rattle.fsb_timely.proofs.GoingOn.{latest_grant-same, rival-same}
 -- The moments of a run, and what the whole trace says.
 pub use Rattle.fsb_timely.proofs.Moments.{moment-at, moment-snooped, moment_of, number-found, number-says}
 pub use Rattle.fsb_timely.proofs.Moments.{run_to-agrees, snoop_of, snooped-there}
-pub use Rattle.fsb_timely.proofs.Next.{each_clock-more, length-moments, past-goes_on, past-same, timely-more}
+pub use Rattle.fsb_timely.proofs.Beginnings.{length-moments}
+pub use Rattle.fsb_timely.proofs.Next.{each_clock-more, past-goes_on, past-same, timely-more}
 -- The snoop ends of a run, in its moments and in its whole trace.
 pub use Rattle.fsb_timely.proofs.TiedMoments.{snoop-tied, tied-snoop}
 -- What an agent wants at a clock rests on the past up to that clock, and stays where it owes no more.

@@ -11,7 +11,8 @@ use Rattle.fsb_timely.specs.Growth.{IsNext, IsWhole, GrowsTo, past_at_growth, mo
 use Rattle.fsb_timely.specs.Moments.{moment_at}
 use Rattle.fsb_timely.specs.Runs.{Run, requests_below, entries_to, run_to, moments_below, past_of, past_to}
 use Rattle.fsb_timely.specs.Timely.{Timely}
-use Rattle.fsb_timely.proofs.Next.{length-moments, moments-same, run_to-same, past-same, in_time-next}
+use Rattle.fsb_timely.proofs.Beginnings.{length-moments}
+use Rattle.fsb_timely.proofs.Next.{moments-same, run_to-same, past-same, in_time-next}
 
 -- a log that ends below a clock has no entry above it
 whole_log : (first n : ℕ) (log : List Done) → is_in_time first (n + 1) log ≡ true → entries_to n log ≡ log

@@ -1,4 +1,5 @@
 pub mod EachClock
+pub mod Beginnings
 pub mod Next
 pub mod Since
 pub mod KeptAnswers
@@ -23,6 +24,7 @@ pub mod MomentFields
 pub mod WantedRequests
 pub mod MemoryStays
 pub mod WholePast
+pub mod RunsUpTo
 pub mod StayingWants
 pub mod WindowSteps
 pub mod LoggedItems

@@ -18,7 +18,7 @@ use Rattle.fsb_timely.specs.Moments.{number_snooped_at, turns_in, effective_choi
 use Rattle.fsb_timely.specs.Past.{SnoopEnd, Moment}
 use Rattle.fsb_timely.specs.Runs.{past_with, next_moment, Run, run_to, moments_below, past_of}
 use Rattle.fsb_timely.specs.Grants.{snooped_at}
-use Rattle.fsb_timely.proofs.Next.{length-moments}
+use Rattle.fsb_timely.proofs.Beginnings.{length-moments}
 use Rattle.fsb_timely.proofs.OneEnd.{one_end}
 
 -- the moment of clock t of a run

@@ -19,7 +19,7 @@ use Rattle.fsb_timely.specs.Grants.{snooped_at}
 use Rattle.fsb_timely.specs.Tied.{IsSnoopOf}
 use Rattle.fsb_timely.proofs.TurnOrder.{turns_in-append, turns-snooped, turns-quiet}
 use Rattle.std.proofs.lemmas.Option.{slice_get_past}
-use Rattle.fsb_timely.proofs.Next.{length-moments}
+use Rattle.fsb_timely.proofs.Beginnings.{length-moments}
 use Rattle.fsb_timely.proofs.TiedGrants.{grant_of-same}
 use Rattle.fsb_timely.proofs.GoingOn.{Alike}
 use Rattle.fsb_timely.proofs.Settled.{settled_by-agree, claim_at-agree}

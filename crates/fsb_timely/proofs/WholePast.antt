@@ -18,7 +18,7 @@ use Rattle.fsb_timely.specs.Past.{Past}
 use Rattle.fsb_timely.specs.Runs.{Run, entries_to, moments_below, past_of, past_to}
 use Rattle.fsb_timely.specs.Scripts.{Need, is_idling, next_item, needs_of}
 use Rattle.fsb_timely.specs.Timely.{Timely}
-use Rattle.fsb_timely.proofs.Next.{length-moments}
+use Rattle.fsb_timely.proofs.Beginnings.{length-moments}
 use Rattle.fsb_timely.proofs.GoingOn.{going-alike, grant-same, ends-same, ended-same, latest_grant-same}
 use Rattle.fsb_timely.proofs.GoingScripts.{next_item-alike, is_idling-alike, is_met-alike, is_hit-alike}
 
@@ -35,7 +35,7 @@ later-than c first end (done ∷ log) l e =
     (rw (lt-leb done.clock c (omega arith)) more.0, rw (le-leb (c + 1) done.clock (omega arith)) more.1)
 
 -- a log in time is its entries up to a clock, and then later ones
-split_at : (c first end : ℕ) (log : List Done) → is_in_time first end log ≡ true
+pub split_at : (c first end : ℕ) (log : List Done) → is_in_time first end log ≡ true
     → (later : List Done) × (log ≡ entries_to c log ++ later)
     × (list_all (λ done. nat_le (c + 1) done.clock) later ≡ true)
 unfolding is_in_time entries_to

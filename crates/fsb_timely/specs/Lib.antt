@@ -13,6 +13,7 @@ pub mod BusLock
 pub mod ParityLines
 pub mod Timely
 pub mod Growth
+pub mod RunsGoOn
 pub mod Staying
 pub mod Tied
 pub mod Carried

@@ -1,16 +1,38 @@
 //! Laws over a run that grows by a clock: no code.
 
-ghost use Rattle.std.specs.Prelude.{◌≡◌, ◌+◌, ◌++◌, ℕ, List, [], ◌∷◌, nat_eq, length, IsTrue};
+ghost use Rattle.std.specs.Prelude.{◌≡◌, ◌↔◌, ◌<◌, ◌+◌, ◌++◌, ℕ, List, [], ◌∷◌, nat_eq, length, IsTrue};
 ghost use Rattle.std.specs.List.{filter};
 ghost use Rattle.fsb_access.specs.Replay.{Served};
 ghost use Rattle.fsb_access.specs.ScriptOrder.{InOrder};
 ghost use Rattle.fsb_script.specs.Plans.{PlanView};
 ghost use Rattle.fsb_signal.specs.Samples.{is_known_trace};
 ghost use Rattle.fsb_timely.specs.Carried.{carries_data};
-ghost use Rattle.fsb_timely.specs.Growth.{GrowsTo, moment_at_growth};
+ghost use Rattle.fsb_timely.specs.Growth.{GrowsTo, IsWhole, moment_at_growth};
 ghost use Rattle.fsb_timely.specs.Runs.{Run, run_to, past_of, past_to};
+ghost use Rattle.fsb_timely.specs.RunsGoOn.{IsBeginning};
 ghost use Rattle.fsb_timely.specs.Simulated.{Simulated};
-ghost use Rattle.fsb_timely.specs.Timely.{holds_at, IsTimelyAt};
+ghost use Rattle.fsb_timely.specs.Timely.{holds_at, IsTimelyAt, Part, Timely};
+
+/// What is said of a clock that a run has passed stays, by however many clocks the run goes on: each of the eight parts
+/// holds at that clock of the run exactly where it holds there of each run of which it is a beginning. A timely run has
+/// such a beginning up to each of its clocks.
+pub fn passed_clocks_stay()
+    ensures part { (part : Part) (r s : Run) (c : ℕ) → IsBeginning r s → IsWhole r →
+        c < length r.trace →
+        holds_at part s c ≡ holds_at part r c }
+    ensures timely { (r s : Run) (c : ℕ) → IsBeginning r s → IsWhole r → c < length r.trace →
+        IsTimelyAt r c ↔ IsTimelyAt s c }
+    ensures beginning { (r : Run) (c : ℕ) → Timely r → c < length r.trace →
+        IsBeginning (run_to r c) r }
+    ensures whole { (r : Run) (c : ℕ) → Timely r → c < length r.trace → IsWhole (run_to r c) }
+{}
+
+/// So with the data: at a clock that a run has passed they are those that are due exactly where they are so in each run
+/// of which it is a beginning.
+pub fn carried_data_stay()
+    ensures { (r s : Run) (c : ℕ) → IsBeginning r s → IsWhole r → c < length r.trace →
+        IsTrue (holds_at carries_data r c) ↔ IsTrue (holds_at carries_data s c) }
+{}
 
 /// A run that grows by a clock is, up to that clock, itself, and up to the clock before it the run from which it grew. Its
 /// moments are those of that run and the one of the new clock, and its entries of that clock are the new ones.

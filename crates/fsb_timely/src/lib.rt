@@ -7,7 +7,10 @@
 #![tactic(auto)]
 
 pub use asked::{answers_are_kept, asked_in_steps};
-pub use growth::{empty_runs_are_simulated, runs_end_at_their_clock, simulations_grow};
+pub use growth::{
+    carried_data_stay, empty_runs_are_simulated, passed_clocks_stay, runs_end_at_their_clock,
+    simulations_grow,
+};
 pub use laws::{
     each_part_stays, hazard_lines_go_by_number, held_lines_step, held_lines_were_granted,
     moments_have_the_beginnings, moments_have_the_snoop_ends, one_snoop_end_at_a_clock,
