@@ -7,4 +7,5 @@ pub mod Oldest
 pub mod Driven
 pub mod Responses
 pub mod Course
+mod CloseRequests
 pub mod Interface
