@@ -1,6 +1,6 @@
 -- A clock that a run has passed stays as it is, by however many clocks the run goes on.
-use Rattle.std.proofs.Common.{ℕ, zero, suc, ◌+◌, ◌<◌, ◌≤◌, ◌≡◌, true, nat_le, nat_eq, ◌&&◌, List, [], ◌∷◌, ◌++◌}
-use Rattle.std.proofs.Common.{length, take, IsTrue, ◌↔◌, sym, ap, subst, refl, ◌∙◌, arith, add-one, append-nil}
+use Rattle.std.proofs.Common.{ℕ, zero, suc, ◌+◌, ◌<◌, ◌≤◌, ◌≡◌, true, nat_le, nat_eq, List, [], ◌∷◌, ◌++◌}
+use Rattle.std.proofs.Common.{length, take, IsTrue, ◌↔◌, sym, ap, refl, ◌∙◌, arith, add-one, append-nil}
 use Rattle.std.specs.List.{list_all}
 use Rattle.std.proofs.lemmas.Bool.{and_parts, eqb-true, le-leb, lt-leb, leb-true}
 use Rattle.std.proofs.lemmas.List.{take-append-le, length-append}
@@ -9,7 +9,6 @@ use Rattle.std.proofs.lemmas.List.Elements.{filter-append}
 use Rattle.fsb_access.specs.declared.log.Done.{Done}
 use Rattle.fsb_count.proofs.Interface.{count_where-same, count_where-mono}
 use Rattle.fsb_signal.specs.declared.lines.TheConstants.Lines.{ADS}
-use Rattle.fsb_signal.specs.declared.sample.Sample.{Sample}
 use Rattle.fsb_signal.specs.Samples.{line_at}
 use Rattle.fsb_trace.specs.At.{Trace}
 use Rattle.fsb_trace.specs.Agree.{AgreeTo}

@@ -1,5 +1,5 @@
 -- The last clock of a run: up to it the run is itself.
-use Rattle.std.proofs.Common.{ℕ, zero, suc, ◌+◌, ◌<◌, ◌≤◌, ◌≡◌, true, false, nat_le, nat_lt, nat_eq, ◌&&◌, List, []}
+use Rattle.std.proofs.Common.{ℕ, suc, ◌+◌, ◌<◌, ◌≡◌, true, false, nat_le, nat_lt, nat_eq, ◌&&◌, List, []}
 use Rattle.std.proofs.Common.{◌∷◌, ◌++◌, length, take, sym, ap, refl, ◌∙◌, inl, inr, arith, add-one}
 use Rattle.std.specs.List.{filter, list_all}
 use Rattle.std.proofs.lemmas.Bool.{cases_Bool, and_parts, eqb-true, le-leb, ltb-true}
@@ -7,10 +7,9 @@ use Rattle.std.proofs.lemmas.List.{length-append, take_all}
 use Rattle.std.proofs.lemmas.List.Elements.{filter-append}
 use Rattle.fsb_access.specs.declared.log.Done.{Done}
 use Rattle.fsb_timely.specs.Completions.{is_in_time}
-use Rattle.fsb_timely.specs.Growth.{IsNext, IsWhole, GrowsTo, past_at_growth, moment_at_growth}
+use Rattle.fsb_timely.specs.Growth.{IsWhole, GrowsTo, past_at_growth, moment_at_growth}
 use Rattle.fsb_timely.specs.Moments.{moment_at}
 use Rattle.fsb_timely.specs.Runs.{Run, requests_below, entries_to, run_to, moments_below, past_of, past_to}
-use Rattle.fsb_timely.specs.Timely.{Timely}
 use Rattle.fsb_timely.proofs.Beginnings.{length-moments}
 use Rattle.fsb_timely.proofs.Next.{moments-same, run_to-same, past-same, in_time-next}
 

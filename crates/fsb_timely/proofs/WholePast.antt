@@ -1,22 +1,20 @@
 -- The past of a timely run goes on from its past up to each clock, so what is said of a clock is said of the whole
 -- past.
-use Rattle.std.proofs.Common.{ℕ, suc, ◌+◌, ◌<◌, ◌≤◌, ◌≡◌, Bool, true, false, not, ◌&&◌, ◌||◌, nat_le, nat_lt, nat_eq}
+use Rattle.std.proofs.Common.{ℕ, ◌+◌, ◌<◌, ◌≤◌, ◌≡◌, true, not, ◌&&◌, ◌||◌, nat_le, nat_lt, nat_eq}
 use Rattle.std.proofs.Common.{List, [], ◌∷◌, ◌++◌, length, take, drop, slice_get, refl, sym, ap, ◌∙◌, inl, inr, arith}
-use Rattle.std.specs.List.{filter, list_all, list_any}
+use Rattle.std.specs.List.{list_all, list_any}
 use Rattle.std.proofs.lemmas.Bool.{cases_lt, and_parts, le-leb, lt-leb, leb-true}
 use Rattle.std.proofs.lemmas.List.{length-take-le, take-append-drop}
 use Rattle.fsb_count.specs.Options.{is_some_and}
-use Rattle.fsb_count.specs.Clocks.{any_where}
 use Rattle.fsb_count.proofs.Interface.{any_where-same}
 use Rattle.fsb_signal.proofs.Interface.{slice_get-before}
 use Rattle.fsb_access.specs.declared.log.Done.{Done}
 use Rattle.fsb_timely.specs.Completions.{is_in_time, brings_at, is_brought, is_there, completes_by, is_arrival}
-use Rattle.fsb_timely.specs.Grants.{is_granted, grant_at, is_end_at, is_ended, latest_grant, has_arrived}
+use Rattle.fsb_timely.specs.Grants.{is_granted, is_end_at, is_ended, has_arrived}
 use Rattle.fsb_timely.specs.Growth.{GoesOn}
-use Rattle.fsb_timely.specs.Hits.{is_met, is_hit}
 use Rattle.fsb_timely.specs.Past.{Past}
 use Rattle.fsb_timely.specs.Runs.{Run, entries_to, moments_below, past_of, past_to}
-use Rattle.fsb_timely.specs.Scripts.{Need, is_idling, next_item, needs_of}
+use Rattle.fsb_timely.specs.Scripts.{Need, needs_of}
 use Rattle.fsb_timely.specs.Timely.{Timely}
 use Rattle.fsb_timely.proofs.Beginnings.{length-moments}
 use Rattle.fsb_timely.proofs.GoingOn.{going-alike, grant-same, ends-same, ended-same, latest_grant-same}
