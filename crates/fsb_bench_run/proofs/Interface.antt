@@ -9,6 +9,8 @@ pub use Rattle.fsb_bench_run.proofs.StandsNext.{bench-goes-on}
 pub use Rattle.fsb_bench_run.proofs.NextRun.{AreOfClock, entries-now, grows-to}
 pub use Rattle.fsb_bench_run.proofs.LogsNow.{reaches-step, timely-now}
 pub use Rattle.fsb_bench_run.proofs.StepEntries.{step-with}
+-- The sample of a clock has ADS# exactly where a request begins there.
+pub use Rattle.fsb_bench_run.proofs.DrivenLines.{ads-driven}
 -- A request that has begun stays as a run grows, and what it is.
 pub use Rattle.fsb_bench_run.proofs.BegunEvents.{AgentsAre, begun-claim, told-each, views-cancelled}
 pub use Rattle.fsb_bench_run.proofs.BegunRequests.{begun-is, begun-request}

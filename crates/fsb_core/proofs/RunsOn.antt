@@ -1,6 +1,6 @@
 -- What a clock of a bench keeps: the bench stands for its run, which grows as objects answer.
 use Rattle.std.proofs.Common.{◌≡◌, Bool, List, [], ◌∷◌, length, Option, Some, None, refl, sym, subst, ap, ◌∙◌}
-use Rattle.std.proofs.Common.{slice_get}
+use Rattle.std.proofs.Common.{if◌then◌else◌, is_some, slice_get}
 use Rattle.std.proofs.Math.Logic.{∥∥₁_elim, ∥∥₁_map}
 use Rattle.std.proofs.Props.{props}
 use Rattle.std.proofs.lemmas.Option.{none-some, same_Some}
@@ -9,6 +9,8 @@ use Rattle.fsb_hazard.specs.Told.{Told}
 use Rattle.fsb_hazard.specs.Choice.{quiet_choice}
 use Rattle.fsb_hazard.specs.declared.choice.Choice.{Choice}
 use Rattle.fsb_lawful.specs.Beginning.{KeepsBounds}
+use Rattle.fsb_signal.specs.Samples.{has_line}
+use Rattle.fsb_signal.specs.declared.lines.TheConstants.Lines.{ADS}
 use Rattle.fsb_script.specs.Plans.{PlanView}
 use Rattle.fsb_script.specs.View.{plan_view}
 use Rattle.fsb_script.specs.declared.plan.Plan.{Plan}
@@ -23,8 +25,9 @@ use Rattle.fsb_timely.specs.Runs.{Run}
 use Rattle.fsb_timely.specs.Simulated.{Simulated}
 use Rattle.fsb_timely.specs.Timely.{Timely}
 use Rattle.fsb_trace.specs.Verdict.{verdict}
-use Rattle.fsb_bench_view.specs.BenchSteps.{bench_stepped, step_decided, step_entries, step_run, step_sample}
-use Rattle.fsb_bench_view.specs.BusViews.{BenchView}
+use Rattle.fsb_bench_view.specs.BenchSteps.{bench_stepped, step_decided, step_entries, step_performed}
+use Rattle.fsb_bench_view.specs.BenchSteps.{step_run, step_sample}
+use Rattle.fsb_bench_view.specs.BusViews.{BenchView, next_clock_of}
 use Rattle.fsb_bench_view.specs.FirstBench.{first_bench}
 use Rattle.fsb_bench_view.specs.declared.beginning.Starting.{Starting}
 use Rattle.fsb_bench_run.specs.BenchOf.{IsBenchOf}
@@ -32,7 +35,7 @@ use Rattle.fsb_bench_values.specs.BytesOf.{HasBytesOf}
 use Rattle.fsb_bench_values.specs.Lent.{bytes_lent, state_lent}
 use Rattle.fsb_bench_values.proofs.Interface.{bytes-next, carried-next, first-bytes, first-carried, lines-kept}
 use Rattle.fsb_bench_values.proofs.Interface.{log-in-order}
-use Rattle.fsb_bench_run.proofs.Interface.{bench-goes-on, entries-now, first-stands, may-go, plan-keeps}
+use Rattle.fsb_bench_run.proofs.Interface.{ads-driven, bench-goes-on, entries-now, first-stands, may-go, plan-keeps}
 use Rattle.fsb_core.specs.Stepping.{IsAskedNext, IsStepped, MayGoOn}
 
 -- the run with one more clock of a bench is its next one
@@ -60,11 +63,28 @@ chosen-of told v choice added None chosen e = absurd (none-some added e)
 chosen-of told v choice added (Some starting) chosen e =
     subst (IsChosen told (length v.run.choices)) (same_Some _ _ e) (chosen starting refl)
 
+-- one choice is added where a request begins, and none where none does
+count-of : (choice : Choice) (o : Option Starting)
+    → length (option_map_or (λ (starting : Starting). choice ∷ []) o []) ≡ (if is_some o then 1 else 0)
+count-of choice None = refl
+count-of choice (Some starting) = refl
+
+-- the new sample has ADS# exactly where a request begins
+one-choice : (v : BenchView) (hold : Bool) (choice : Choice)
+    → length (option_map_or (λ (starting : Starting). choice ∷ []) (step_decided v hold).starting [])
+    ≡ (if has_line (step_sample v hold) ADS then 1 else 0)
+one-choice v hold choice =
+    let decided = step_decided v hold in
+    count-of choice decided.starting
+    ∙ ap (λ (begins : Bool). if begins then 1 else 0)
+    (sym (ads-driven (step_performed v) (next_clock_of v) v.run.plan.profile decided))
+
 asked-of : (told : List (Option Told)) (v : BenchView) (new : BenchView) (s : IsStepped told v new)
     → IsAskedNext told v.run (step_run v s.hold s.choice)
 unfolding next-of
 asked-of told v new s = record {
   next = next-of v s.hold s.choice;
+  one_choice = one-choice v s.hold s.choice;
   asked = record {
     chosen = λ added e. chosen-of told v s.choice added (step_decided v s.hold).starting s.chosen e;
     held = s.held;

@@ -1,7 +1,9 @@
 -- One clock of a bench.
-use Rattle.std.specs.Prelude.{◌≡◌, ◌<◌, Bool, List, Option, Some, length}
+use Rattle.std.specs.Prelude.{◌≡◌, ◌<◌, Bool, List, Option, Some, if◌then◌else◌, length}
 use Rattle.fsb_hazard.specs.Told.{Told}
 use Rattle.fsb_hazard.specs.declared.choice.Choice.{Choice}
+use Rattle.fsb_signal.specs.declared.lines.TheConstants.Lines.{ADS}
+use Rattle.fsb_signal.specs.Samples.{has_line}
 use Rattle.fsb_timely.specs.Asked.{IsChosen, IsHold}
 use Rattle.fsb_timely.specs.AskedSteps.{IsAskedStep}
 use Rattle.fsb_timely.specs.Growth.{IsNext}
@@ -31,8 +33,10 @@ pub record IsStepped (told : List (Option Told)) (old new : BenchView) : Type 0 
       → IsChosen told (length old.run.choices) choice
   pub stepped : new ≡ bench_stepped old hold choice
 
--- the run becomes this one by a clock, at which it is asked for as objects answer that tell this: it has one sample and
--- one hold more, one choice where a request begins, and entries of that clock
+-- the run becomes this one by a clock, at which it is asked for as objects answer that tell this:
+-- it has one sample and one hold more, one choice more exactly where the new sample has ADS#, and
+-- entries of that clock
 pub record IsAskedNext (told : List (Option Told)) (old new : Run) : Type 0 where
   pub next : IsNext old new
+  pub one_choice : length next.choices ≡ (if has_line next.sample ADS then 1 else 0)
   pub asked : IsAskedStep told old new next
