@@ -1,5 +1,5 @@
--- Why requests are to keep their distance: of two that begin closer, the number of the second among the live ones changes
--- when the first is cancelled.
+-- Why requests are to keep their distance: of two that begin closer, the number of the second among the live ones
+-- changes when the first is cancelled.
 use Rattle.std.proofs.Common.{◌≡◌, Some, None, [], ◌∷◌, refl}
 use Rattle.fsb_count.specs.Clocks.{all_where, count_where, nth_where}
 use Rattle.fsb_signal.specs.declared.lines.TheConstants.Lines.{ADS, AERR}

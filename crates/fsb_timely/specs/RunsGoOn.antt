@@ -7,8 +7,8 @@ use Rattle.fsb_signal.specs.declared.sample.Sample.{Sample}
 use Rattle.fsb_timely.specs.Runs.{Run}
 
 -- the first run is a beginning of the second: they have one plan, and the second has the samples,
--- holds, choices and entries of the first and maybe more; no entry that comes is of a clock that the
--- first one has
+-- holds, choices and entries of the first and maybe more; no entry that comes is of a clock that
+-- the first one has
 pub record IsBeginning (r s : Run) : Type 0 where
   pub samples : List Sample
   pub holds : List Bool
