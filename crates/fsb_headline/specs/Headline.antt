@@ -1,0 +1,96 @@
+-- What the README promises of a run, part by part.
+use Rattle.std.specs.Prelude.{◌≡◌, ℕ, ◌++◌, Bool, IsTrue, List, Option, None, Some, length}
+use Rattle.fsb_access.specs.Replay.{Served}
+use Rattle.fsb_access.specs.ScriptOrder.{AreOfItems, are_items_together, script_of, steps_of}
+use Rattle.fsb_access.specs.declared.log.Done.{Done}
+use Rattle.fsb_hazard.specs.Told.{Told}
+use Rattle.fsb_plan_size.specs.AccessCount.{access_count}
+use Rattle.fsb_play.specs.Printed.{run_dump, run_log}
+use Rattle.fsb_report.specs.LogText.{log_text}
+use Rattle.fsb_script.specs.Drafts.{BenchText}
+use Rattle.fsb_script.specs.Plans.{PlanView}
+use Rattle.fsb_signal.specs.DumpText.{dump_text}
+use Rattle.fsb_signal.specs.Parity.{marks_in}
+use Rattle.fsb_signal.specs.declared.sample.Sample.{Sample}
+use Rattle.fsb_trace.specs.Verdict.{verdict}
+use Rattle.vcd_grammar.specs.Reading.{Reads}
+use Rattle.fsb_top.specs.BenchEnds.{HasRunFrom, IsDumped, IsLogged, IsPlanOf}
+use Rattle.fsb_top.specs.declared.status.Status.TheVariants.{Done as Ended}
+
+-- the text that is printed of these accesses, behind which the plan's clocks and accesses are counted
+abbrev pub printed_of : PlanView → List Done → List ℕ
+printed_of plan log = log_text plan.clocks (access_count plan.scripts) log
+
+-- the accesses of each agent are a prefix of its script: those of its first items
+abbrev pub ArePrefixes : PlanView → List Done → Type 0
+ArePrefixes plan log = (agent : ℕ) → AreOfItems (script_of plan.scripts agent) (steps_of agent log)
+
+-- no phase rule is broken at any clock of the trace
+abbrev pub BreaksNoRule : PlanView → List Sample → Type 0
+BreaksNoRule plan trace = verdict (marks_in plan.profile) trace ≡ None
+
+-- the file is a bench file, and of what was printed and dumped of it every part of the headline holds
+pub record Headline (file printed dumped : List ℕ) : Type 0 where
+  -- the plan that the bench file says
+  pub plan : PlanView
+  pub says : BenchText file plan
+  -- the trace of the run, which has the file's number of clocks
+  pub trace : List Sample
+  pub clocks : length trace ≡ plan.clocks
+  -- the accesses printed
+  pub log : List Done
+  pub prints : printed ≡ printed_of plan log
+  -- are, for each agent, a prefix of its script
+  pub prefixes : ArePrefixes plan log
+  -- one byte memory that serves them singly in printed order gives exactly the printed values
+  pub values : Served plan.mem log
+  -- each locked sequence stands together
+  pub together : IsTrue (are_items_together log)
+  -- and the dump written
+  pub dumps : dumped ≡ dump_text plan.profile trace
+  -- reads back to the trace
+  pub reads_back : Reads dumped (marks_in plan.profile) trace
+  -- that breaks no phase rule
+  pub accepted : BreaksNoRule plan trace
+
+-- a call of `run`, from outside: what its source and its sinks tell, what they held and what they hold
+pub record RunCall : Type 0 where
+  -- whether the source and the sinks tell what they hold
+  pub source_tells : Bool
+  pub out_tells : Bool
+  pub dump_tells : Bool
+  -- the source: the words' name, what it holds, what is left of it and the name that it was begun under
+  pub name : List ℕ
+  pub file : List ℕ
+  pub left : List ℕ
+  pub begun_as : Option (List ℕ)
+  -- the sink of the log before the call and after it
+  pub before : List ℕ
+  pub after : List ℕ
+  -- the sink of the dump: the words' name, and what it held and was begun as before the call and after it
+  pub dump_name : List ℕ
+  pub dump_before : List ℕ
+  pub dump_was_begun_as : Option (List ℕ)
+  pub dump_after : List ℕ
+  pub dump_begun_as : Option (List ℕ)
+
+-- the source and both sinks tell what they hold
+pub record TellAll (call : RunCall) : Type 0 where
+  pub source : IsTrue call.source_tells
+  pub out : IsTrue call.out_tells
+  pub dump : IsTrue call.dump_tells
+
+-- what `bench` answers by its clause `ran` of such a call that ends with Done, where objects stand that tell this
+abbrev pub HasAnswered : RunCall → (PlanView → List (Option Told)) → Type 0
+HasAnswered call told =
+    HasRunFrom (λ plan. IsTrue call.source_tells → IsPlanOf call.name call.file call.left call.begun_as plan) told
+    (λ r. (IsTrue call.out_tells → IsLogged Ended (run_log r) call.before call.after)
+    × (IsTrue call.dump_tells
+    → IsDumped Ended (run_dump r) (Some call.dump_name) call.dump_before call.dump_was_begun_as call.dump_after
+    call.dump_begun_as))
+
+-- the call appended to the log's sink what is the headline's of its file and its dump
+pub record KeepsHeadline (call : RunCall) : Type 0 where
+  pub printed : List ℕ
+  pub appended : call.after ≡ call.before ++ printed
+  pub headline : Headline call.file printed call.dump_after
