@@ -1,7 +1,6 @@
 -- The headline out of what `bench` answers of a run.
-use Rattle.std.proofs.Common.{◌≡◌, ◌++◌, ◌∙◌, ℕ, IsTrue, List, Option, None, ap, map, subst, sym}
+use Rattle.std.proofs.Common.{ℕ, List, Option, ap, subst, sym}
 use Rattle.fsb_access.specs.Replay.{Served}
-use Rattle.fsb_access.specs.ScriptOrder.{AreOfItems, script_of, steps_of}
 use Rattle.fsb_hazard.specs.Told.{Told}
 use Rattle.fsb_play.specs.Printed.{run_dump, run_log}
 use Rattle.fsb_play.specs.RunOf.{IsRunOf}
@@ -9,9 +8,8 @@ use Rattle.fsb_script.specs.Drafts.{BenchText}
 use Rattle.fsb_script.specs.Plans.{PlanView}
 use Rattle.fsb_signal.specs.DumpText.{dump_text}
 use Rattle.fsb_signal.specs.Parity.{marks_in}
-use Rattle.fsb_signal.specs.declared.marks.Marks.{Marks}
-use Rattle.fsb_signal.specs.declared.sample.Sample.{Sample}
 use Rattle.fsb_timely.specs.Runs.{Run}
+use Rattle.fsb_trace.proofs.Interface.{verdict-none}
 use Rattle.vcd_grammar.specs.Reading.{Reads}
 use Rattle.fsb_headline.specs.Headline.{ArePrefixes, HasAnswered, Headline, KeepsHeadline, RunCall, TellAll}
 use Rattle.fsb_headline.specs.Headline.{printed_of}
@@ -32,7 +30,7 @@ of_run told file plan r says h = record {
   dumps = ap (λ (p : PlanView). dump_text p.profile r.trace) h.of_plan;
   reads_back = subst (λ (text : List ℕ). Reads text (marks_in plan.profile) r.trace)
       (ap (λ (p : PlanView). dump_text p.profile r.trace) (sym h.of_plan)) h.reads_back;
-  accepted = h.accepted;
+  accepted = record { none = verdict-none (marks_in plan.profile) r.trace h.accepted };
 }
 
 -- the headline of a call

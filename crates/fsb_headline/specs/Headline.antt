@@ -1,5 +1,5 @@
 -- What the README promises of a run, part by part.
-use Rattle.std.specs.Prelude.{◌≡◌, ℕ, ◌++◌, Bool, IsTrue, List, Option, None, Some, length}
+use Rattle.std.specs.Prelude.{◌≡◌, ℕ, ◌++◌, Bool, IsTrue, List, Option, Some, length}
 use Rattle.fsb_access.specs.Replay.{Served}
 use Rattle.fsb_access.specs.ScriptOrder.{AreOfItems, are_items_together, script_of, steps_of}
 use Rattle.fsb_access.specs.declared.log.Done.{Done}
@@ -12,10 +12,10 @@ use Rattle.fsb_script.specs.Plans.{PlanView}
 use Rattle.fsb_signal.specs.DumpText.{dump_text}
 use Rattle.fsb_signal.specs.Parity.{marks_in}
 use Rattle.fsb_signal.specs.declared.sample.Sample.{Sample}
-use Rattle.fsb_trace.specs.Verdict.{verdict}
 use Rattle.vcd_grammar.specs.Reading.{Reads}
 use Rattle.fsb_top.specs.BenchEnds.{HasRunFrom, IsDumped, IsLogged, IsPlanOf}
 use Rattle.fsb_top.specs.declared.status.Status.TheVariants.{Done as Ended}
+use Rattle.fsb_headline.specs.PhaseRules.{BreaksNoRule}
 
 -- the text that is printed of these accesses, behind which the plan's clocks and accesses are counted
 abbrev pub printed_of : PlanView → List Done → List ℕ
@@ -24,10 +24,6 @@ printed_of plan log = log_text plan.clocks (access_count plan.scripts) log
 -- the accesses of each agent are a prefix of its script: those of its first items
 abbrev pub ArePrefixes : PlanView → List Done → Type 0
 ArePrefixes plan log = (agent : ℕ) → AreOfItems (script_of plan.scripts agent) (steps_of agent log)
-
--- no phase rule is broken at any clock of the trace
-abbrev pub BreaksNoRule : PlanView → List Sample → Type 0
-BreaksNoRule plan trace = verdict (marks_in plan.profile) trace ≡ None
 
 -- the file is a bench file, and of what was printed and dumped of it every part of the headline holds
 pub record Headline (file printed dumped : List ℕ) : Type 0 where
@@ -51,7 +47,7 @@ pub record Headline (file printed dumped : List ℕ) : Type 0 where
   -- reads back to the trace
   pub reads_back : Reads dumped (marks_in plan.profile) trace
   -- that breaks no phase rule
-  pub accepted : BreaksNoRule plan trace
+  pub accepted : BreaksNoRule (marks_in plan.profile) trace
 
 -- a call of `run`, from outside: what its source and its sinks tell, what they held and what they hold
 pub record RunCall : Type 0 where
