@@ -1,8 +1,13 @@
 mod Decided
 mod FromRuns
+mod HowNoneEnds
+mod Limits
 mod LogLines
 mod NumberSplit
+mod ObjectsChoose
 mod OrderedLogs
 mod PrintedLogs
 mod Refused
+mod SinksHold
 mod Verdicts
+mod WholeDumps

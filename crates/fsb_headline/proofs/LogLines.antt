@@ -1,5 +1,5 @@
 -- What the printed lines of a log tell of it: of each entry its clock, its agent and its value, and how many there are.
-use Rattle.std.proofs.Common.{◌≡◌, ◌++◌, ◌∙◌, ◌^◌, ◌<◌, ℕ, zero, suc, List, [], ◌∷◌, arith, append_assoc, refl, sym}
+use Rattle.std.proofs.Common.{◌≡◌, ◌++◌, ◌∙◌, ◌^◌, ◌<◌, ℕ, suc, List, [], ◌∷◌, arith, append_assoc, sym}
 use Rattle.std.specs.Fmt.{decimal}
 use Rattle.std.specs.List.{All, flat_map}
 use Rattle.fsb_access.specs.Access.{addr_of, size_of}

@@ -1,5 +1,6 @@
 -- A number that is printed in front of what is no digit is known from the text, and so is what comes behind it.
-use Rattle.std.proofs.Common.{◌≡◌, ◌++◌, ◌∙◌, ◌^◌, ◌≤◌, ◌<◌, ℕ, List, [], ◌∷◌, ap, arith, false, length, refl, subst, sym}
+use Rattle.std.proofs.Common.{◌≡◌, ◌++◌, ◌∙◌, ◌^◌, ◌≤◌, ◌<◌, ℕ, List, [], ◌∷◌, ap, arith, false, length}
+use Rattle.std.proofs.Common.{refl, subst, sym}
 use Rattle.std.specs.Char.{digit_value}
 use Rattle.std.specs.Fmt.{decimal, digits}
 use Rattle.std.specs.Str.Parse.{AllDigits, digits_value}
@@ -32,7 +33,8 @@ number-split : (base : ℕ) → 2 ≤ base → base ≤ 16 → (m n : ℕ) (c : 
 number-split base low high m n c s d t p q stop_c stop_d e =
     let of_m = digits_is_IsNumeral base false low high m p in
     let of_n = digits_is_IsNumeral base false low high n q in
-    let parts = digits-split base (digits base false m) (digits base false n) c s d t of_m.0.1 of_n.0.1 stop_c stop_d e in
+    let parts = digits-split base (digits base false m) (digits base false n) c s d t of_m.0.1 of_n.0.1 stop_c stop_d
+        e in
     (sym of_m.1 ∙ ap (digits_value base) parts.0 ∙ of_n.1, parts.1)
 
 -- a decimal in front of a blank

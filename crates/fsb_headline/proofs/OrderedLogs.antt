@@ -1,5 +1,6 @@
 -- Two logs of the same scripts whose entries have the same clocks, agents and values are one.
-use Rattle.std.proofs.Common.{◌≡◌, ◌++◌, ◌∙◌, ◌+◌, ℕ, zero, suc, Bool, true, false, List, [], ◌∷◌, ap, arith, length, refl}
+use Rattle.std.proofs.Common.{◌≡◌, ◌++◌, ◌∙◌, ◌+◌, ℕ, zero, suc, Bool, true, false, List, [], ◌∷◌, ap}
+use Rattle.std.proofs.Common.{arith, length, refl}
 use Rattle.std.proofs.Common.{length-append, sym, take}
 use Rattle.std.specs.Prelude.{◌==◌}
 use Rattle.std.proofs.lemmas.Bool.{eq-eqb}
@@ -7,7 +8,7 @@ use Rattle.fsb_access.specs.ScriptOrder.{InOrder, Step, accesses_from, accesses_
 use Rattle.fsb_access.specs.ScriptOrder.{steps_of_item}
 use Rattle.fsb_access.specs.declared.item.Item.{Item}
 use Rattle.fsb_access.specs.declared.log.Done.{Done}
-use Rattle.fsb_headline.proofs.LogLines.{AllAlike, AreAlike}
+use Rattle.fsb_headline.proofs.LogLines.{AllAlike}
 
 no-length : (xs : List Step) → length xs ≡ 0 → xs ≡ []
 no-length [] e = refl
@@ -22,7 +23,8 @@ firsts-same number [] zero (suc j) e = refl
 firsts-same number [] (suc i) zero e = refl
 firsts-same number [] (suc i) (suc j) e = refl
 firsts-same number (item ∷ items) zero zero e = refl
-firsts-same number (item ∷ items) zero (suc j) e = sym (no-length (accesses_from number (take (suc j) (item ∷ items))) (sym e))
+firsts-same number (item ∷ items) zero (suc j) e =
+    sym (no-length (accesses_from number (take (suc j) (item ∷ items))) (sym e))
 firsts-same number (item ∷ items) (suc i) zero e = no-length (accesses_from number (take (suc i) (item ∷ items))) e
 firsts-same number (item ∷ items) (suc i) (suc j) e =
     let own = steps_of_item number item in

@@ -1,5 +1,5 @@
 -- What a verdict says, out of what `bench` says of a check.
-use Rattle.std.proofs.Common.{◌≡◌, ◌+◌, ◌<◌, ◌≤◌, ◌∙◌, ℕ, zero, suc, Bool, false, true, List, Option, None, Some, ap, arith}
+use Rattle.std.proofs.Common.{◌≡◌, ◌+◌, ◌<◌, ◌≤◌, ◌∙◌, ℕ, zero, suc, false, true, List, Option, None, Some, ap, arith}
 use Rattle.std.proofs.Common.{inl, inr, length, nat_lt, refl, subst, sym, take}
 use Rattle.std.specs.Prelude.{slice_get}
 use Rattle.std.proofs.lemmas.Bool.{and_parts, cases_lt}
@@ -13,7 +13,6 @@ use Rattle.fsb_trace.specs.Rules.{breaks, phase_rules}
 use Rattle.fsb_trace.specs.Verdict.{is_broken, verdict}
 use Rattle.fsb_top.specs.BenchEnds.{HasTable, HasVerdict}
 use Rattle.fsb_top.specs.declared.status.Status.TheVariants.{Done, Rejected}
-use Rattle.vcd_grammar.specs.Reading.{Reads}
 use Rattle.fsb_headline.specs.PhaseRules.{BreaksNoRule, IsAccepted, IsFirstBroken, IsRejected}
 
 pub none-broken : (m : Marks) (w : List Sample) → verdict m w ≡ None → BreaksNoRule m w

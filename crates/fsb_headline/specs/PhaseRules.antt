@@ -10,7 +10,8 @@ use Rattle.vcd_grammar.specs.Reading.{Reads}
 pub record BreaksNoRule (marks : Marks) (trace : List Sample) : Type 0 where
   pub none : (c j : ℕ) → j < 21 → is_broken marks trace c j ≡ false
 
--- this rule is broken at this clock of the trace, while no rule is at a clock before, and no lesser rule at this one
+-- this rule is broken at this clock of the trace, while no rule is broken at a clock before, and
+-- no lesser rule at this one
 pub record IsFirstBroken (marks : Marks) (trace : List Sample) (first : Broken) : Type 0 where
   pub within : first.clock < length trace
   pub of_twenty : first.rule < 21

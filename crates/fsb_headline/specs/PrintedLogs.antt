@@ -5,7 +5,7 @@ use Rattle.fsb_access.specs.ScriptOrder.{InOrder}
 use Rattle.fsb_access.specs.declared.item.Item.{Item}
 use Rattle.fsb_access.specs.declared.log.Done.{Done}
 
--- the numbers that are printed of an entry have at most 64 bits, as those of an entry that a program keeps
+-- the numbers that are printed of an entry have at most 64 bits, as those that a program keeps
 pub record FitsInWords (done : Done) : Type 0 where
   pub clock : done.clock < 2 ^ 64
   pub agent : done.agent < 2 ^ 64
@@ -14,7 +14,8 @@ pub record FitsInWords (done : Done) : Type 0 where
   pub addr : addr_of done.access < 2 ^ 64
   pub value : done.value < 2 ^ 64
 
--- the log has the accesses of these scripts in order, and no number that is printed of it has more than 64 bits
+-- the log has the accesses of these scripts in order, and what is printed of it has at most 64 bits
+-- a number
 pub record IsLogOf (scripts : List (List Item)) (log : List Done) : Type 0 where
   pub in_order : InOrder scripts log
   pub fits : All FitsInWords log

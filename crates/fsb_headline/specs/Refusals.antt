@@ -9,7 +9,8 @@ use Rattle.vcd_grammar.specs.Reading.{FirstFault, Reads}
 use Rattle.vcd_grammar.specs.declared.fault.VcdFault.{VcdFault}
 
 -- the source was begun under the name, and all of what it holds, which has at most so many bytes, was read
-pub record WasReadWhole (limit : ℕ) (name held left : List ℕ) (begun_as : Option (List ℕ)) : Type 0 where
+pub record WasReadWhole (limit : ℕ) (name held left : List ℕ) (begun_as : Option (List ℕ))
+    : Type 0 where
   pub named : begun_as ≡ Some name
   pub all : left ≡ []
   pub short : length held ≤ limit
