@@ -8,6 +8,7 @@ mod ObjectsChoose
 mod OrderedLogs
 mod PrintedLogs
 mod Refused
+mod RunLogs
 mod SinksHold
 mod Verdicts
 mod WholeDumps

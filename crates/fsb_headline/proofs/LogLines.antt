@@ -2,13 +2,12 @@
 use Rattle.std.proofs.Common.{◌≡◌, ◌++◌, ◌∙◌, ◌^◌, ◌<◌, ℕ, suc, List, [], ◌∷◌, arith, append_assoc, sym}
 use Rattle.std.specs.Fmt.{decimal}
 use Rattle.std.specs.List.{All, flat_map}
-use Rattle.fsb_access.specs.Access.{addr_of, size_of}
+use Rattle.std.proofs.lemmas.Fmt.{decimal_injective}
 use Rattle.fsb_access.specs.declared.access.Access.{Access}
 use Rattle.fsb_access.specs.declared.access.Access.TheVariants.{Load, Store}
 use Rattle.fsb_access.specs.declared.log.Done.{Done}
 use Rattle.fsb_io.specs.NumberText.{hexadecimal}
 use Rattle.fsb_report.specs.LogText.{log_line_text, logged_access_text}
-use Rattle.fsb_headline.specs.PrintedLogs.{FitsInWords}
 use Rattle.fsb_headline.proofs.NumberSplit.{decimal-no_e, decimal-split, hex_blank-split, hex_line-split}
 
 -- what is printed behind the number of an item, up to the blank in front of `=`
@@ -38,45 +37,53 @@ heads : (a b : ℕ) (s t : List ℕ) → a ∷ s ≡ b ∷ t → a ≡ b
 heads a b s t e = cc
 
 -- behind an access, what follows is known, and behind an item's number too
-access-split : (x y : Access) (m n : ℕ) (s t : List ℕ) → m < 2 ^ 64 → n < 2 ^ 64 → size_of x < 2 ^ 64
-    → size_of y < 2 ^ 64 → addr_of x < 2 ^ 64 → addr_of y < 2 ^ 64
+access-split : (x y : Access) (m n : ℕ) (s t : List ℕ)
     → decimal m ++ access_behind x s ≡ decimal n ++ access_behind y t → s ≡ t
 unfolding access_behind
-access-split (Load size addr) (Load size' addr') m n s t p q u v a b e =
-    let same = (decimal-split m n _ _ p q e).1 in
+access-split (Load size addr) (Load size' addr') m n s t e =
+    let same = (decimal-split m n _ _ e).1 in
     let behind : decimal size ++ 32 ∷ (hexadecimal addr ++ 32 ∷ s) ≡ decimal size' ++ 32 ∷ (hexadecimal addr' ++ 32 ∷ t)
         = cc in
-    (hex_blank-split addr addr' s t a b (decimal-split size size' _ _ u v behind).1).1
-access-split (Load size addr) (Store size' addr' value') m n s t p q u v a b e =
-    let same = (decimal-split m n _ _ p q e).1 in
+    (hex_blank-split addr addr' s t (decimal-split size size' _ _ behind).1).1
+access-split (Load size addr) (Store size' addr' value') m n s t e =
+    let same = (decimal-split m n _ _ e).1 in
     absurd (omega (arith, heads 108 115 _ _ same))
-access-split (Store size addr value) (Load size' addr') m n s t p q u v a b e =
-    let same = (decimal-split m n _ _ p q e).1 in
+access-split (Store size addr value) (Load size' addr') m n s t e =
+    let same = (decimal-split m n _ _ e).1 in
     absurd (omega (arith, heads 115 108 _ _ same))
-access-split (Store size addr value) (Store size' addr' value') m n s t p q u v a b e =
-    let same = (decimal-split m n _ _ p q e).1 in
+access-split (Store size addr value) (Store size' addr' value') m n s t e =
+    let same = (decimal-split m n _ _ e).1 in
     let behind : decimal size ++ 32 ∷ (hexadecimal addr ++ 32 ∷ s) ≡ decimal size' ++ 32 ∷ (hexadecimal addr' ++ 32 ∷ t)
         = cc in
-    (hex_blank-split addr addr' s t a b (decimal-split size size' _ _ u v behind).1).1
+    (hex_blank-split addr addr' s t (decimal-split size size' _ _ behind).1).1
 
--- two entries have one clock, one agent and one value
+-- two entries have one clock, one agent and one text of their values
 pub record AreAlike (x y : Done) : Type 0 where
   pub clock : x.clock ≡ y.clock
   pub agent : x.agent ≡ y.agent
-  pub value : x.value ≡ y.value
+  pub value : hexadecimal x.value ≡ hexadecimal y.value
 
-then-split : (x y : Done) (s t : List ℕ) → FitsInWords x → FitsInWords y → line_then x s ≡ line_then y t
+-- the clock and the agent of an entry have at most 64 bits
+pub record IsStamped (done : Done) : Type 0 where
+  pub clock : done.clock < 2 ^ 64
+  pub agent : done.agent < 2 ^ 64
+
+then-split : (x y : Done) (s t : List ℕ) → IsStamped x → IsStamped y → line_then x s ≡ line_then y t
     → AreAlike x y × (s ≡ t)
 unfolding line_then
 then-split x y s t p q e =
-    let clocks = decimal-split x.clock y.clock _ _ p.clock q.clock e in
-    let agents = decimal-split x.agent y.agent _ _ p.agent q.agent clocks.1 in
-    let same = access-split x.access y.access x.item y.item _ _ p.item q.item p.size q.size p.addr q.addr agents.1 in
+    let clocks = decimal-split x.clock y.clock _ _ e in
+    let agents = decimal-split x.agent y.agent _ _ clocks.1 in
+    let same = access-split x.access y.access x.item y.item _ _ agents.1 in
     let behind : hexadecimal x.value ++ 10 ∷ s ≡ hexadecimal y.value ++ 10 ∷ t = cc in
-    let values = hex_line-split x.value y.value s t p.value q.value behind in
-    (record { clock = clocks.0; agent = agents.0; value = values.0 }, values.1)
+    let values = hex_line-split x.value y.value s t behind in
+    (record {
+      clock = decimal_injective x.clock y.clock p.clock q.clock clocks.0;
+      agent = decimal_injective x.agent y.agent p.agent q.agent agents.0;
+      value = values.0;
+    }, values.1)
 
-line-split : (x y : Done) (s t : List ℕ) → FitsInWords x → FitsInWords y
+line-split : (x y : Done) (s t : List ℕ) → IsStamped x → IsStamped y
     → log_line_text x ++ s ≡ log_line_text y ++ t → AreAlike x y × (s ≡ t)
 line-split x y s t p q e = then-split x y s t p q (sym (line-spelled x s) ∙ e ∙ line-spelled y t)
 
@@ -87,12 +94,12 @@ AllAlike [] (y ∷ ys) = ⊥
 AllAlike (x ∷ xs) [] = ⊥
 AllAlike (x ∷ xs) (y ∷ ys) = AreAlike x y × AllAlike xs ys
 
-no-line : (y : Done) (s r : List ℕ) → FitsInWords y → 101 ∷ s ≡ log_line_text y ++ r → ⊥
+no-line : (y : Done) (s r : List ℕ) → IsStamped y → 101 ∷ s ≡ log_line_text y ++ r → ⊥
 unfolding line_then
 no-line y s r q e = decimal-no_e y.clock s _ q.clock (e ∙ line-spelled y r)
 
 -- what the lines tell, in front of a line that begins with an `e`
-pub lines-alike : (xs ys : List Done) (s t : List ℕ) → All FitsInWords xs → All FitsInWords ys
+pub lines-alike : (xs ys : List Done) (s t : List ℕ) → All IsStamped xs → All IsStamped ys
     → flat_map log_line_text xs ++ 101 ∷ s ≡ flat_map log_line_text ys ++ 101 ∷ t → AllAlike xs ys
 unfolding AllAlike
 lines-alike [] [] s t p q e = tt

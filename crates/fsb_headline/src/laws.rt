@@ -14,6 +14,7 @@ ghost use Rattle.fsb_hazard.specs.Told.{Told};
 ghost use Rattle.fsb_hazard.specs.declared.choice.Ask.TheVariants.{Begun, Clock};
 ghost use Rattle.fsb_hazard.specs.declared.choice.Choice.{Choice};
 ghost use Rattle.fsb_io.specs.Appends.{AppendsPart};
+ghost use Rattle.fsb_play.specs.Printed.{run_log};
 ghost use Rattle.fsb_play.specs.RunOf.{IsRunOf};
 ghost use Rattle.fsb_play.specs.Writing.{HasPart, IsAsBefore};
 ghost use Rattle.fsb_report.specs.VerdictText.{trace_text};
@@ -49,6 +50,9 @@ ghost use Rattle.fsb_headline.specs.PhaseRules.{IsAccepted, IsRejected};
 ghost use Rattle.fsb_headline.specs.PrintedLogs.{IsLogOf};
 ghost use Rattle.fsb_headline.specs.Refusals.{IsNoBench, IsNoDump, WasReadWhole};
 
+use fsb_script::one_answer;
+use fsb_script_laws::plans_that_were_read_are_lawful;
+
 /// For every bench file within the limits and every hazard object handed in, after the file's
 /// number of clocks, the accesses printed are, for each agent, a prefix of its script; one byte
 /// memory that serves them singly in printed order gives exactly the printed values; each locked
@@ -59,11 +63,17 @@ pub fn runs_are_as_promised()
         HasAnswered call told → KeepsHeadline call }
 {}
 
-/// The accesses printed are known from the text: two logs of one plan that print alike are one.
+/// The accesses printed are known from the text: two logs of one plan that print alike are one. So
+/// two runs of one bench file that print alike have one log, whatever hazard objects stand there.
 pub fn printed_text_determines_the_log()
-    ensures { (plan : PlanView) (a b : List Entry) → IsLogOf plan.scripts a →
+    ensures logs { (plan : PlanView) (a b : List Entry) → IsLogOf plan.scripts a →
         IsLogOf plan.scripts b → printed_of plan a ≡ printed_of plan b → a ≡ b }
-{}
+    ensures runs { (text : List ℕ) (plan : PlanView) (told also_told : List (Option Told))
+        (r s : Run) → BenchText text plan → IsRunOf told plan r → IsRunOf also_told plan s →
+        run_log r ≡ run_log s → r.log ≡ s.log }
+{
+    plans_that_were_read_are_lawful();
+}
 
 /// A check, or a table, that ends with `Done` was of a dump that breaks no phase rule, and one
 /// that ends with `Rejected` of a dump that breaks this rule at this clock, no rule before, and
@@ -95,7 +105,7 @@ pub fn refusals_name_the_first_fault()
         IsBadTable name held left begun_as fault →
         WasReadWhole 268435456 name held left begun_as × IsNoDump held fault }
 {
-    fsb_script::one_answer();
+    one_answer();
 }
 
 /// What a file is decides how a command ends that looks at it, unless its sink fails: a check, or
