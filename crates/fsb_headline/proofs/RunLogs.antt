@@ -7,7 +7,7 @@ use Rattle.std.proofs.lemmas.Bool.{and_parts, cases_lt, eq-eqb, ltb-true}
 use Rattle.std.proofs.lemmas.List.Elements.{All-cons}
 use Rattle.std.proofs.lemmas.Option.{slice_get_past}
 use Rattle.fsb_access.specs.Replay.{Served}
-use Rattle.fsb_access.specs.ScriptOrder.{InOrder, accesses_of, script_of, step_of, steps_of}
+use Rattle.fsb_access.specs.ScriptOrder.{InOrder, accesses_of, script_of, steps_of}
 use Rattle.fsb_access.specs.declared.item.Item.{Item}
 use Rattle.fsb_access.specs.declared.log.Done.{Done}
 use Rattle.fsb_hazard.specs.Told.{Told}
