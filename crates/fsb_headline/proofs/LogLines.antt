@@ -43,7 +43,7 @@ unfolding access_behind
 access-split (Load size addr) (Load size' addr') m n s t e =
     let same = (decimal-split m n _ _ e).1 in
     let behind : decimal size ++ 32 ∷ (hexadecimal addr ++ 32 ∷ s) ≡ decimal size' ++ 32 ∷ (hexadecimal addr' ++ 32 ∷ t)
-        = cc in
+    = cc in
     (hex_blank-split addr addr' s t (decimal-split size size' _ _ behind).1).1
 access-split (Load size addr) (Store size' addr' value') m n s t e =
     let same = (decimal-split m n _ _ e).1 in
@@ -54,7 +54,7 @@ access-split (Store size addr value) (Load size' addr') m n s t e =
 access-split (Store size addr value) (Store size' addr' value') m n s t e =
     let same = (decimal-split m n _ _ e).1 in
     let behind : decimal size ++ 32 ∷ (hexadecimal addr ++ 32 ∷ s) ≡ decimal size' ++ 32 ∷ (hexadecimal addr' ++ 32 ∷ t)
-        = cc in
+    = cc in
     (hex_blank-split addr addr' s t (decimal-split size size' _ _ behind).1).1
 
 -- two entries have one clock, one agent and one text of their values
@@ -76,12 +76,14 @@ then-split x y s t p q e =
     let agents = decimal-split x.agent y.agent _ _ clocks.1 in
     let same = access-split x.access y.access x.item y.item _ _ agents.1 in
     let behind : hexadecimal x.value ++ 10 ∷ s ≡ hexadecimal y.value ++ 10 ∷ t = cc in
-    let values = hex_line-split x.value y.value s t behind in
-    (record {
-      clock = decimal_injective x.clock y.clock p.clock q.clock clocks.0;
-      agent = decimal_injective x.agent y.agent p.agent q.agent agents.0;
-      value = values.0;
-    }, values.1)
+    let values = hex_line-split x.value y.value s t behind in (
+      record {
+        clock = decimal_injective x.clock y.clock p.clock q.clock clocks.0;
+        agent = decimal_injective x.agent y.agent p.agent q.agent agents.0;
+        value = values.0;
+      },
+      values.1,
+    )
 
 line-split : (x y : Done) (s t : List ℕ) → IsStamped x → IsStamped y
     → log_line_text x ++ s ≡ log_line_text y ++ t → AreAlike x y × (s ≡ t)
@@ -111,7 +113,7 @@ lines-alike (x ∷ xs) [] s t p q e =
     (sym e ∙ append_assoc (log_line_text x) (flat_map log_line_text xs) (101 ∷ s))
 lines-alike (x ∷ xs) (y ∷ ys) s t p q e =
     let parts = line-split x y (flat_map log_line_text xs ++ 101 ∷ s) (flat_map log_line_text ys ++ 101 ∷ t)
-        (p 0 x (omega arith)) (q 0 y (omega arith))
-        (sym (append_assoc (log_line_text x) (flat_map log_line_text xs) (101 ∷ s)) ∙ e
-        ∙ append_assoc (log_line_text y) (flat_map log_line_text ys) (101 ∷ t)) in
+    (p 0 x (omega arith)) (q 0 y (omega arith))
+    (sym (append_assoc (log_line_text x) (flat_map log_line_text xs) (101 ∷ s)) ∙ e
+    ∙ append_assoc (log_line_text y) (flat_map log_line_text ys) (101 ∷ t)) in
     (parts.0, lines-alike xs ys s t (λ k d h. p (suc k) d (omega arith)) (λ k d h. q (suc k) d (omega arith)) parts.1)

@@ -37,8 +37,8 @@ one-digit base d low high wide small =
     let none : d / base ≡ 0 = div-eq_of_lt small in
     let same : d % base ≡ d = mod-eq_of_lt small in
     let one : digits base false d ≡ digit_glyph false d ∷ [] =
-        sym (digits_onto-nil base false d) ∙ digits_onto_last base false d [] 64 (omega arith) none
-        ∙ ap (λ (e : ℕ). digit_glyph false e ∷ []) same in
+    sym (digits_onto-nil base false d) ∙ digits_onto_last base false d [] 64 (omega arith) none
+    ∙ ap (λ (e : ℕ). digit_glyph false e ∷ []) same in
     let few : d < base ^ 64 = omega arith in
     let is_numeral = digits_is_IsNumeral base false low high d few in
     (subst (AllDigits base) one is_numeral.0.1).0

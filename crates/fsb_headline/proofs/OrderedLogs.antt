@@ -114,11 +114,11 @@ values-served state (x ∷ xs) [] alike same = absurd alike
 values-served state (x ∷ xs) (y ∷ ys) alike same =
     let step = step-same x y xs ys alike.0.agent same in
     let rest = values-served (served_state state y.agent y.access) xs ys alike.1
-        (rest-same x y xs ys alike.0.agent same) in
+    (rest-same x y xs ys alike.0.agent same) in
     let replayed : ℕ → Access → List ℕ = λ agent access.
-        served_value state agent access ∷ replayed_values (served_state state agent access) xs in
+    served_value state agent access ∷ replayed_values (served_state state agent access) xs in
     let first : replayed x.agent x.access ≡ replayed y.agent y.access =
-        λ i. replayed (alike.0.agent i) (step i).access in
+    λ i. replayed (alike.0.agent i) (step i).access in
     first ∙ ap (λ (values : List ℕ). served_value state y.agent y.access ∷ values) rest
 
 values-read : (xs ys : List Done) → AllAlike xs ys → All (λ (done : Done). done.value < 2 ^ 64) xs
@@ -139,7 +139,7 @@ steps-same scripts xs ys p q alike agent =
     let g = q.follows agent in
     let script = script_of scripts agent in
     let many : length (accesses_of (take f.items script)) ≡ length (accesses_of (take g.items script)) =
-        sym (ap length f.same) ∙ as-many agent xs ys alike ∙ ap length g.same in
+    sym (ap length f.same) ∙ as-many agent xs ys alike ∙ ap length g.same in
     f.same ∙ firsts-same 0 script f.items g.items many ∙ sym g.same
 
 -- of the same scripts, logs in order whose entries are alike are one, where their values have at most 64 bits

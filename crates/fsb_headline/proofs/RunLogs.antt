@@ -87,9 +87,9 @@ runs-same told also_told plan r s lawful p q e =
     let served_r = subst (λ (t : PlanView). Served t.mem r.log) p.of_plan p.simulated.served in
     let served_s = subst (λ (t : PlanView). Served t.mem s.log) q.of_plan q.simulated.served in
     let text : log_text plan.clocks (access_count plan.scripts) r.log
-        ≡ log_text plan.clocks (access_count plan.scripts) s.log =
-        ap (λ (t : PlanView). log_text t.clocks (access_count t.scripts) r.log) (sym p.of_plan) ∙ e
-        ∙ ap (λ (t : PlanView). log_text t.clocks (access_count t.scripts) s.log) q.of_plan in
+    ≡ log_text plan.clocks (access_count plan.scripts) s.log =
+    ap (λ (t : PlanView). log_text t.clocks (access_count t.scripts) r.log) (sym p.of_plan) ∙ e
+    ∙ ap (λ (t : PlanView). log_text t.clocks (access_count t.scripts) s.log) q.of_plan in
     served-same plan.scripts plan.mem r.log s.log in_r in_s
     (lines-alike r.log s.log _ _ (stamped told plan r lawful p) (stamped also_told plan s lawful q) text)
     served_r served_s

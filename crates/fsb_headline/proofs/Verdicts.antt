@@ -81,6 +81,6 @@ not-both held first a r =
     let marks : r.marks ≡ a.marks = r.reads.1 ∙ sym a.reads.1 in
     let trace : r.trace ≡ a.trace = r.reads.2 ∙ sym a.reads.2 in
     let breaks : is_broken a.marks a.trace first.clock first.rule ≡ true =
-        subst (λ (w : List Sample). is_broken a.marks w first.clock first.rule ≡ true) trace
-        (subst (λ (m : Marks). is_broken m r.trace first.clock first.rule ≡ true) marks r.rejected.breaks) in
+    subst (λ (w : List Sample). is_broken a.marks w first.clock first.rule ≡ true) trace
+    (subst (λ (m : Marks). is_broken m r.trace first.clock first.rule ≡ true) marks r.rejected.breaks) in
     let no : true ≡ false = sym breaks ∙ a.accepted.none first.clock first.rule r.rejected.of_twenty in cc

@@ -10,9 +10,11 @@
 //! the end of the program.
 #![tactic(auto)]
 
-pub use laws::{commands_end_in_their_own_statuses, files_decide_the_status};
-pub use laws::{limits_are_all_that_is_asked, looks_are_of_whole_dumps, objects_choose_the_hazards};
-pub use laws::{printed_text_determines_the_log, refusals_name_the_first_fault};
-pub use laws::{runs_are_as_promised, sinks_hold_what_the_status_tells, verdicts_are_first_and_least};
+pub use laws::{
+    commands_end_in_their_own_statuses, files_decide_the_status, limits_are_all_that_is_asked,
+    looks_are_of_whole_dumps, objects_choose_the_hazards, printed_text_determines_the_log,
+    refusals_name_the_first_fault, runs_are_as_promised, sinks_hold_what_the_status_tells,
+    verdicts_are_first_and_least,
+};
 
 mod laws;
