@@ -5,7 +5,7 @@
 //! runs, `runs` over bench files, `looks` over dumps, `words` over words without a form, `made` over generated plans and objects
 //! that tell nothing; in `faults` each call of an object fails once; `statuses` has the exit codes and lines.
 //!
-//! Read rows_headline next, which spells out what the contract of `bench` says of a call.
+//! Read fsb_headline next, whose laws say in a reader's words what the contract of `bench` says of a call.
 #![tactic(auto)]
 
 #[cfg(test)]

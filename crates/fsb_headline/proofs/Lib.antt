@@ -1,0 +1,14 @@
+mod Decided
+mod FromRuns
+mod HowNoneEnds
+mod Limits
+mod LogLines
+mod NumberSplit
+mod ObjectsChoose
+mod OrderedLogs
+mod PrintedLogs
+mod Refused
+mod RunLogs
+mod SinksHold
+mod Verdicts
+mod WholeDumps

@@ -1,0 +1,5 @@
+pub mod Headline
+pub mod PhaseRules
+pub mod PrintedLogs
+pub mod Refusals
+pub mod FileStatuses

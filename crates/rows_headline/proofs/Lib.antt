@@ -1,4 +1,0 @@
-mod HeadlineSpelled
-mod StatusesSpelled
-mod LooksSpelled
-mod RefusedSpelled
