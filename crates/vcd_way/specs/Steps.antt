@@ -142,15 +142,16 @@ section_step way s section t =
 abbrev pub is_digit_by : Manner → ℕ → Bool
 is_digit_by m b = is_some (m.digit b)
 
+-- a digit before others, where all are
+abbrev pub one_more : Option ℕ → Option (List ℕ) → Option (List ℕ)
+one_more None rest = None
+one_more (Some digit) None = None
+one_more (Some digit) (Some rest) = Some (digit ∷ rest)
+
 -- the digits that bytes mean, where each of them is one
 abbrev pub digits_by : Manner → List ℕ → Option (List ℕ)
 digits_by m [] = Some []
-digits_by m (b ∷ bs) = together (m.digit b) (digits_by m bs)
-  where
-    together : Option ℕ → Option (List ℕ) → Option (List ℕ)
-    together None rest = None
-    together (Some digit) None = None
-    together (Some digit) (Some rest) = Some (digit ∷ rest)
+digits_by m (b ∷ bs) = one_more (m.digit b) (digits_by m bs)
 
 -- one digit or more
 abbrev pub vector_by : Manner → List ℕ → ValueWord

@@ -1,0 +1,5 @@
+mod Blocks
+mod Digits
+mod Header
+mod Values
+mod Same
