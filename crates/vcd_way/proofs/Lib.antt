@@ -3,3 +3,4 @@ mod Digits
 mod Header
 mod Values
 mod Same
+mod Headings

@@ -24,7 +24,7 @@ use Rattle.vcd_way.specs.Steps.{first_state, Step, reads_past, breaks, if_short,
 use Rattle.vcd_way.specs.Steps.{vector_step, other_step, step_at, step, state_behind, happenings_in}
 use Rattle.vcd_way.specs.Answers.{cut_at, fault_at_end, first_fault_by, events_by, events_so_far_by, events_before_end_by}
 use Rattle.vcd_way.specs.Answers.{fault_so_far_by, header_by, header_so_far_by, header_at_end_by}
-use Rattle.vcd_way.specs.Strict.{StrictHeader, strict_manner, strict}
+use Rattle.vcd_way.specs.Strict.{StrictHeader, strict_manner, strict, marks_by}
 use Rattle.vcd_way.proofs.Blocks.{Alike, alike-append, alike-samples, alike-ended}
 use Rattle.vcd_way.proofs.Header.{mode_of_section, mode_of_spot, known_of, is_sound, Follows, follows-if, at, header-same}
 use Rattle.vcd_way.proofs.Header.{section-same}
@@ -213,10 +213,6 @@ unfolding samples_so_far events_so_far_by
 same-so_far fed =
     alike-ended [] [] None course_at_first (events_in nothing (tokens_so_far fed))
     (happenings_in strict begun (tokens_so_far fed)) (λ e. refl) refl (same-tokens (tokens_so_far fed)).alike
-
--- the marks of a header
-abbrev pub marks_by : StrictHeader → Marks
-marks_by h = marks_of_lines h.lines
 
 pub same-marks : (text : List ℕ) → marks_of text ≡ marks_by (header_by strict text)
 unfolding marks_of header_by

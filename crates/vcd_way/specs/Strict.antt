@@ -2,11 +2,12 @@
 use Rattle.std.specs.Prelude.{ℕ, Bool, true, false, ◌||◌, ◌==◌, if◌then◌else◌, List, [], ◌∷◌, ◌++◌, map, Option, Some, None, option_map}
 use Rattle.fsb_signal.specs.Table.{table, signal_number}
 use Rattle.fsb_signal.specs.DumpText.{width_of}
+use Rattle.fsb_signal.specs.declared.marks.Marks.{Marks}
 use Rattle.vcd_grammar.specs.declared.fault.VcdCause.TheVariants as causes
 use Rattle.vcd_grammar.specs.Digits.{is_value_digit}
 use Rattle.vcd_grammar.specs.Words.{is_foreign_type, name_in}
 use Rattle.vcd_grammar.specs.Codes.{Code, with_code, lines_of}
-use Rattle.vcd_grammar.specs.Judging.{is_declared, missing_from}
+use Rattle.vcd_grammar.specs.Judging.{is_declared, missing_from, marks_of_lines}
 use Rattle.vcd_way.specs.Declarations.{Declaration}
 use Rattle.vcd_way.specs.Ways.{Tap, Kept, Keeps, Refuses, Rising, Manner, Way}
 use Rattle.vcd_way.specs.Events.{whole}
@@ -76,3 +77,7 @@ strict = record {
   taps = strict_taps;
   manner = strict_manner;
 }
+
+-- the marks of a header: which of the two parity lines it declares
+abbrev pub marks_by : StrictHeader → Marks
+marks_by h = marks_of_lines h.lines
