@@ -24,6 +24,7 @@ use Rattle.vcd_way.specs.Steps.{digits_by, value_word_by, comes, stamp_step, giv
 use Rattle.vcd_way.specs.Steps.{other_step, mark_step, value_step, remark_step, step_at, step, state_behind, happenings_in}
 use Rattle.vcd_way.specs.Steps.{is_past_header_at}
 use Rattle.vcd_way.specs.Answers.{state_of, header_in, header_by, header_so_far_by, header_at_end_by, events_so_far_by}
+use Rattle.vcd_way.specs.Events.{course_at_first, events_from}
 
 -- the state at a spot
 abbrev placed : {W : Type 0} → DumpState W → Spot → DumpState W
@@ -162,7 +163,7 @@ done-behind way s (t ∷ ts) d =
 
 -- ---- where a spot stands in the header
 
-section_heading : HeaderWord → Heading
+abbrev section_heading : HeaderWord → Heading
 section_heading Declares = Inside
 section_heading Finishes = Ending
 section_heading Ends = Inside
@@ -222,14 +223,14 @@ unfolding header_word
 bare [] h = refl
 bare (b ∷ bs) h = let e = bare_byte b h in rw (e, h) refl
 
-over : (spot : Spot) → is_past_header_at spot ≡ true → heading_at spot ≡ Over
-over AtPreface h = cc h
-over AtHeader h = cc h
-over (InSection section) h = cc h
-over AtValues h = refl
-over (AtCode place digits) h = refl
-over AtOtherCode h = refl
-over (InRemark section) h = refl
+over_at : (spot : Spot) → is_past_header_at spot ≡ true → heading_at spot ≡ Over
+over_at AtPreface h = cc h
+over_at AtHeader h = cc h
+over_at (InSection section) h = cc h
+over_at AtValues h = refl
+over_at (AtCode place digits) h = refl
+over_at AtOtherCode h = refl
+over_at (InRemark section) h = refl
 
 -- the `$end` of a section is not too long
 end_short : (word : List ℕ) → is_end word ≡ true → is_long word ≡ false
@@ -299,7 +300,7 @@ section-over Bare t = refl
 
 past-heading : {W : Type 0} (way : Way W) (spot : Spot) (s : DumpState W) (t : Token) → is_past_header_at spot ≡ true
     → heading (step_at way spot (placed s spot) t) ≡ Over
-past-heading way spot s t h = over (step_at way spot (placed s spot) t).state.spot (stays-at way spot s t h).past
+past-heading way spot s t h = over_at (step_at way spot (placed s spot) t).state.spot (stays-at way spot s t h).past
 
 heading-at : {W : Type 0} (way : Way W) (spot : Spot) (s : DumpState W) (t : Token)
     → heading (step_at way spot (placed s spot) t) ≡ behind_token (heading_at spot) t
@@ -371,3 +372,224 @@ done-of : {W : Type 0} (way : Way W) (ts : List Token) → is_header_over ts ≡
 done-of way ts o =
     done_where (state_of way ts) (heading_behind Between ts) (state_of way ts).fault refl
     (heads-behind way (first_state way) ts Between (first-heads way)) o
+
+-- ---- before the end of the header
+
+-- it is a change
+abbrev is_change : Happening → Bool
+is_change (Comes stamp) = false
+is_change (Gets change) = true
+is_change (Stops lines) = false
+
+-- no time comes, and there is no hole
+abbrev Calm : List Happening → Type 0
+Calm hs = list_all is_change hs ≡ true
+
+calm-if : {W : Type 0} (b : Bool) (x y : Step W) → Calm x.happenings → Calm y.happenings
+    → Calm (if b then x else y).happenings
+calm-if true x y p q = p
+calm-if false x y p q = q
+
+calm-unknown : (lines : List ℕ) → Calm (unknown_from_here lines)
+calm-unknown [] = refl
+calm-unknown (number ∷ lines) = refl
+
+calm-kept : {W : Type 0} (s : DumpState W) (place : ℕ) (kept : Kept W) → Calm (kept_step s place kept).happenings
+calm-kept s place (Keeps header lines) = calm-unknown lines
+calm-kept s place (Refuses cause) = refl
+
+calm-declared : {W : Type 0} (way : Way W) (s : DumpState W) (place : ℕ) (d : Option Declaration)
+    → Calm (declared_step way s place d).happenings
+calm-declared way s place None = refl
+calm-declared way s place (Some d) = calm-kept s place (way.declares s.header d)
+
+calm-header : {W : Type 0} (s : DumpState W) (t : Token) (w : HeaderWord) → Calm (header_step s t w).happenings
+calm-header s t Declares = refl
+calm-header s t Finishes = refl
+calm-header s t Ends = refl
+calm-header s t Opens = refl
+calm-header s t Bare = refl
+
+calm-short : {W : Type 0} (s : DumpState W) (t : Token) (y : Step W) → Calm y.happenings → Calm (if_short s t y).happenings
+calm-short s t y p = calm-if (is_long t.word) (breaks s t.place causes.Token) y refl p
+
+calm-end : {W : Type 0} (way : Way W) (s : DumpState W) (section : DumpSection) (w : HeaderWord)
+    → Calm (section_end way s section w).happenings
+calm-end way s section Declares =
+    calm-declared way (placed s AtHeader) section.place (declaration_of s.path section)
+calm-end way s section Finishes = calm-kept (placed s AtValues) section.place (way.closes s.header)
+calm-end way s section Ends = refl
+calm-end way s section Opens = refl
+calm-end way s section Bare = refl
+
+calm-at : {W : Type 0} (way : Way W) (spot : Spot) (s : DumpState W) (t : Token) → is_past_header_at spot ≡ false
+    → Calm (step_at way spot (placed s spot) t).happenings
+calm-at way AtPreface s t h =
+    let p = placed s AtPreface in
+    calm-if (is_dollar t.word) (if_short p t (header_step p t (header_word t.word))) (reads_past p)
+    (calm-short p t (header_step p t (header_word t.word)) (calm-header p t (header_word t.word))) refl
+calm-at way AtHeader s t h =
+    let p = placed s AtHeader in
+    calm-short p t (header_step p t (header_word t.word)) (calm-header p t (header_word t.word))
+calm-at way (InSection section) s t h =
+    let p = placed s (InSection section) in
+    let w = header_word section.keyword in
+    calm-if (is_long t.word && is_declaring w) (breaks p t.place causes.Token)
+    (if is_end t.word then section_end way p section w else moves_to p (InSection (with_word section t.word))) refl
+    (calm-if (is_end t.word) (section_end way p section w) (moves_to p (InSection (with_word section t.word)))
+    (calm-end way p section w) refl)
+calm-at way AtValues s t h = cc h
+calm-at way (AtCode from digits) s t h = cc h
+calm-at way AtOtherCode s t h = cc h
+calm-at way (InRemark section) s t h = cc h
+
+before_at : (spot : Spot) (h : Heading) → heading_at spot ≡ h → is_over h ≡ false → is_past_header_at spot ≡ false
+before_at AtPreface h e o = refl
+before_at AtHeader h e o = refl
+before_at (InSection section) h e o = refl
+before_at AtValues h e o = let wrong = ap is_over e ∙ o in cc wrong
+before_at (AtCode place digits) h e o = let wrong = ap is_over e ∙ o in cc wrong
+before_at AtOtherCode h e o = let wrong = ap is_over e ∙ o in cc wrong
+before_at (InRemark section) h e o = let wrong = ap is_over e ∙ o in cc wrong
+
+calm-fault : {W : Type 0} (s : DumpState W) (y : Step W) (f : Option VcdFault) → (f ≡ None → Calm y.happenings)
+    → Calm (if is_some f then reads_past s else y).happenings
+calm-fault s y None p = p refl
+calm-fault s y (Some fault) p = refl
+
+calm-step : {W : Type 0} (way : Way W) (s : DumpState W) (t : Token) (h : Heading) → Heads s h → is_over h ≡ false
+    → Calm (step way s t).happenings
+unfolding step
+calm-step way s t h p o =
+    calm-fault s (step_at way s.spot s t) s.fault (λ n. calm-at way s.spot s t (before_at s.spot h (p n) o))
+
+calm-append : (a b : List Happening) → Calm a → Calm b → Calm (a ++ b)
+calm-append [] b p q = q
+calm-append (Comes stamp ∷ a) b p q = cc p
+calm-append (Gets change ∷ a) b p q = calm-append a b p q
+calm-append (Stops lines ∷ a) b p q = cc p
+
+-- the header stays over
+over-behind : (ts : List Token) → is_over (heading_behind Over ts) ≡ true
+over-behind [] = refl
+over-behind (t ∷ ts) = over-behind ts
+
+over-stays : (h : Heading) (ts : List Token) → is_over h ≡ true → is_over (heading_behind h ts) ≡ true
+over-stays Between ts o = cc o
+over-stays Inside ts o = cc o
+over-stays Ending ts o = cc o
+over-stays Over ts o = over-behind ts
+
+not_before : (h : Heading) (ts : List Token) → is_over (heading_behind h ts) ≡ false → is_over h ≡ false
+not_before h ts o = by (is_over h) refl
+  where
+    by : (b : Bool) → is_over h ≡ b → b ≡ false
+    by true e = let wrong = sym (over-stays h ts e) ∙ o in cc wrong
+    by false e = refl
+
+calm-behind : {W : Type 0} (way : Way W) (s : DumpState W) (ts : List Token) (h : Heading) → Heads s h
+    → is_over (heading_behind h ts) ≡ false → Calm (happenings_in way s ts)
+calm-behind way s [] h p o = refl
+calm-behind way s (t ∷ ts) h p o =
+    calm-append (step way s t).happenings (happenings_in way (step way s t).state ts)
+    (calm-step way s t h p (not_before h (t ∷ ts) o))
+    (calm-behind way (step way s t).state ts (behind_token h t) (heads-step way s t h p) o)
+
+-- no piece is over
+none_over : (stamp : Option TimeStamp) (block : List TapChange) (hs : List Happening) → Calm hs
+    → over (pieces_from stamp block hs) ≡ []
+none_over stamp block [] h = refl
+none_over stamp block (Comes next ∷ hs) h = cc h
+none_over stamp block (Gets change ∷ hs) h = none_over stamp (block ++ change ∷ []) hs h
+none_over stamp block (Stops lines ∷ hs) h = cc h
+
+-- ---- what first bytes show
+
+no_header : {A : Type 0} (b : Bool) (a : A) → (if b then Some a else None) ≡ None → b ≡ false
+no_header true a e = cc e
+no_header false a e = refl
+
+a_header : {A : Type 0} (b : Bool) (a x : A) → (if b then Some a else None) ≡ Some x → (b ≡ true) × (a ≡ x)
+a_header true a x e = (refl, cc e)
+a_header false a x e = cc e
+
+pub header-first : {W : Type 0} (way : Way W) (fed : List ℕ) → header_so_far_by way fed ≡ None
+    → events_so_far_by way fed ≡ []
+unfolding header_so_far_by events_so_far_by
+header-first way fed e =
+    let tokens = tokens_so_far fed in
+    let before = no_header (is_header_over tokens) (state_of way tokens).header e in
+    ap (λ ps. events_from way.manner course_at_first ps)
+    (none_over None [] (happenings_in way (first_state way) tokens)
+    (calm-behind way (first_state way) tokens Between (first-heads way) before))
+
+state-append : {W : Type 0} (way : Way W) (s : DumpState W) (ts us : List Token)
+    → state_behind way s (ts ++ us) ≡ state_behind way (state_behind way s ts) us
+state-append way s [] us = refl
+state-append way s (t ∷ ts) us = state-append way (step way s t).state ts us
+
+heading-append : (h : Heading) (ts us : List Token) → heading_behind h (ts ++ us) ≡ heading_behind (heading_behind h ts) us
+heading-append h [] us = refl
+heading-append h (t ∷ ts) us = heading-append (behind_token h t) ts us
+
+-- further tokens change nothing that is kept of the header
+record MoreTokens {W : Type 0} (way : Way W) (ts us : List Token) : Type 0 where
+  over : is_header_over (ts ++ us) ≡ true
+  header : (state_of way (ts ++ us)).header ≡ (state_of way ts).header
+
+more_tokens : {W : Type 0} (way : Way W) (ts us : List Token) → is_header_over ts ≡ true → MoreTokens way ts us
+more_tokens {W = W} way ts us o = record {
+  over = ap is_over (heading-append Between ts us) ∙ over-stays (heading_behind Between ts) us o;
+  header = ap (λ (s : DumpState W). s.header) (state-append way (first_state way) ts us)
+      ∙ (done-behind way (state_of way ts) us (done-of way ts o)).header;
+}
+
+header-in-more : {W : Type 0} (way : Way W) (ts us : List Token) (h : W) → header_in way ts ≡ Some h
+    → (header_in way (ts ++ us) ≡ Some h) × ((state_of way (ts ++ us)).header ≡ h)
+header-in-more way ts us h e =
+    let here = a_header (is_header_over ts) (state_of way ts).header h e in
+    let more = more_tokens way ts us here.0 in
+    let same = more.header ∙ here.1 in
+    (ap (λ b. if b then Some (state_of way (ts ++ us)).header else None) more.over ∙ ap Some same, same)
+
+-- the tokens of a longer text
+tokens_longer : (fed more : List ℕ)
+    → tokens_so_far (fed ++ more) ≡ tokens_so_far fed ++ tokens_from (length fed) (open_run fed) more
+tokens_longer fed more = tokens-append 0 [] fed more
+    ∙ ap (λ n. tokens_so_far fed ++ tokens_from n (open_run fed) more) (omega arith)
+
+pub header-longer : {W : Type 0} (way : Way W) (fed more : List ℕ) (h : W) → header_so_far_by way fed ≡ Some h
+    → header_so_far_by way (fed ++ more) ≡ Some h
+unfolding header_so_far_by
+header-longer way fed more h e =
+    ap (header_in way) (tokens_longer fed more)
+    ∙ (header-in-more way (tokens_so_far fed) (tokens_from (length fed) (open_run fed) more) h e).0
+
+pub header-ended : {W : Type 0} (way : Way W) (text : List ℕ) (h : W) → header_so_far_by way text ≡ Some h
+    → header_at_end_by way text ≡ Some h
+unfolding header_so_far_by header_at_end_by
+header-ended way text h e =
+    (header-in-more way (tokens_so_far text) (ended_at (length text) (open_run text)) h e).0
+
+pub header-whole : {W : Type 0} (way : Way W) (fed more : List ℕ) (h : W) → header_so_far_by way fed ≡ Some h
+    → header_by way (fed ++ more) ≡ h
+unfolding header_so_far_by header_by
+header-whole way fed more h e =
+    let text = fed ++ more in
+    (header-in-more way (tokens_so_far text) (ended_at (length text) (open_run text)) h
+    (ap (header_in way) (tokens_longer fed more)
+    ∙ (header-in-more way (tokens_so_far fed) (tokens_from (length fed) (open_run fed) more) h e).0)).1
+
+known-over : {A : Type 0} (b : Bool) (a : A) → is_some (if b then Some a else None) ≡ b
+known-over true a = refl
+known-over false a = refl
+
+pub header-known : {W : Type 0} (way : Way W) (fed : List ℕ)
+    → is_some (header_so_far_by way fed) ≡ is_header_over (tokens_so_far fed)
+unfolding header_so_far_by
+header-known way fed = known-over (is_header_over (tokens_so_far fed)) (state_of way (tokens_so_far fed)).header
+
+pub header-known-at-end : {W : Type 0} (way : Way W) (text : List ℕ)
+    → is_some (header_at_end_by way text) ≡ is_header_over (tokens_of text)
+unfolding header_at_end_by
+header-known-at-end way text = known-over (is_header_over (tokens_of text)) (state_of way (tokens_of text)).header

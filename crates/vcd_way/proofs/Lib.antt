@@ -4,3 +4,4 @@ mod Header
 mod Values
 mod Same
 mod Headings
+mod Rows

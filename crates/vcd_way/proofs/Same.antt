@@ -13,7 +13,7 @@ use Rattle.vcd_grammar.specs.Values.{Values, at_first}
 use Rattle.vcd_grammar.specs.Heading.{is_header_over}
 use Rattle.vcd_grammar.specs.Judging.{Mode, Known, nothing, TokenTurn, stays, goes_to, fails, unless_long, header_turn}
 use Rattle.vcd_grammar.specs.Judging.{value_turn, vector_turn, beside_turn, turn_in, mode_behind, turn, behind, events_in}
-use Rattle.vcd_grammar.specs.Judging.{marks_of_lines, known_marks}
+use Rattle.vcd_grammar.specs.Judging.{marks_of_lines, known_marks, is_past_header}
 use Rattle.vcd_grammar.specs.Reading.{cut_in, or_cut, first_fault, samples_of, samples_before_end, marks_of, fault_so_far}
 use Rattle.vcd_grammar.specs.Reading.{samples_so_far, marks_so_far, marks_at_end}
 use Rattle.vcd_way.specs.Declarations.{DumpSection}
@@ -23,7 +23,7 @@ use Rattle.vcd_way.specs.Steps.{Spot, AtPreface, AtHeader, InSection, AtValues, 
 use Rattle.vcd_way.specs.Steps.{first_state, Step, reads_past, breaks, if_short, header_step, value_word_by, value_step}
 use Rattle.vcd_way.specs.Steps.{vector_step, other_step, step_at, step, state_behind, happenings_in}
 use Rattle.vcd_way.specs.Answers.{cut_at, fault_at_end, first_fault_by, events_by, events_so_far_by, events_before_end_by}
-use Rattle.vcd_way.specs.Answers.{fault_so_far_by, header_by, header_so_far_by, header_at_end_by}
+use Rattle.vcd_way.specs.Answers.{fault_so_far_by, header_in, header_by, header_so_far_by, header_at_end_by}
 use Rattle.vcd_way.specs.Strict.{StrictHeader, strict_manner, strict, marks_by}
 use Rattle.vcd_way.proofs.Blocks.{Alike, alike-append, alike-samples, alike-ended}
 use Rattle.vcd_way.proofs.Header.{mode_of_section, mode_of_spot, known_of, is_sound, Follows, follows-if, at, header-same}
@@ -217,3 +217,33 @@ same-so_far fed =
 pub same-marks : (text : List ℕ) → marks_of text ≡ marks_by (header_by strict text)
 unfolding marks_of header_by
 same-marks text = ap marks_of_lines (same-tokens (tokens_of text)).lines
+
+-- ---- the marks, once the header is over
+
+tell : (p b : Bool) (m : Marks) → is_some (if p then Some m else None) ≡ b
+    → (if p then Some m else None) ≡ (if b then Some m else None)
+tell true true m e = refl
+tell true false m e = cc e
+tell false true m e = cc e
+tell false false m e = refl
+
+told_by : (b : Bool) (h : StrictHeader) → (if b then Some (marks_by h) else None) ≡ option_map marks_by (if b then Some h else None)
+told_by true h = refl
+told_by false h = refl
+
+same-known : (ts : List Token) → is_some (known_marks (behind nothing ts)) ≡ is_header_over ts
+    → known_marks (behind nothing ts) ≡ option_map marks_by (header_in strict ts)
+same-known ts e =
+    tell (is_past_header (behind nothing ts).mode) (is_header_over ts) (marks_of_lines (behind nothing ts).lines) e
+    ∙ ap (λ lines. if is_header_over ts then Some (marks_of_lines lines) else None) (same-tokens ts).lines
+    ∙ told_by (is_header_over ts) (state_behind strict begun ts).header
+
+pub same-marks_so_far : (fed : List ℕ) → is_some (marks_so_far fed) ≡ is_header_over (tokens_so_far fed)
+    → marks_so_far fed ≡ option_map marks_by (header_so_far_by strict fed)
+unfolding marks_so_far header_so_far_by
+same-marks_so_far fed e = same-known (tokens_so_far fed) e
+
+pub same-marks_at_end : (text : List ℕ) → is_some (marks_at_end text) ≡ is_header_over (tokens_of text)
+    → marks_at_end text ≡ option_map marks_by (header_at_end_by strict text)
+unfolding marks_at_end header_at_end_by
+same-marks_at_end text e = same-known (tokens_of text) e

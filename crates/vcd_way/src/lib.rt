@@ -4,6 +4,6 @@
 //! The strict way, `strict`, is the grammar of `vcd_grammar`.
 #![tactic(auto)]
 
-pub use laws::{one_answer, strict_is_the_grammar};
+pub use laws::{header_comes_first, one_answer, strict_is_the_grammar};
 
 mod laws;
