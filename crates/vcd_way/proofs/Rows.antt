@@ -71,7 +71,7 @@ header =
 -- digits of VHDL, a variable that is no line, a hole, and a file that ends early
 abbrev text : List ℕ
 text = header
-    ++ codes "#0 0! Ua b101000 A bq m\n#5 1!\n#7 ha\n#10 0!\n#15 1!\n$dumpoff x! xa bx A $end\n"
+    ++ codes "#0 0! ua b101000 A bq m\n#5 1!\n#7 ha\n#10 0!\n#15 1!\n$dumpoff x! xa bx A $end\n"
     ++ codes "#30 $dumpon 0! 1a b- A $end #35 1!\n#40 0! b10"
 
 pub told : map numbers_of (events_by wide text)
