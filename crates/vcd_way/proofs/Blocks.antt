@@ -1,12 +1,12 @@
 -- In the strict way the pieces of a text are its blocks, and their samples the same.
-use Rattle.std.proofs.Common.{◌≡◌, ℕ, ◌+◌, ◌-◌, ◌<◌, Bool, true, false, ◌&&◌, ◌||◌, ◌==◌, if◌then◌else◌, List, [], ◌∷◌}
-use Rattle.std.proofs.Common.{◌++◌, length, take, Option, Some, None, refl, sym, ap, ◌∙◌, arith, suc}
+use Rattle.std.proofs.Common.{◌≡◌, ◌-◌, ◌<◌, Bool, true, false, ◌&&◌, ◌==◌, if◌then◌else◌, List, [], ◌∷◌}
+use Rattle.std.proofs.Common.{◌++◌, length, take, Option, Some, refl, sym, ap, ◌∙◌, arith, suc}
 use Rattle.std.proofs.lemmas.Bool.{or_parts}
 use Rattle.fsb_signal.specs.declared.sample.Sample.{Sample}
 use Rattle.vcd_grammar.specs.Blocks.{Block, Change, BlockEvent, Later, Changed, blocks_from, ended}
 use Rattle.vcd_grammar.specs.Values.{Values, set_lines, values_behind, clock_of, is_rise, sample_of, samples_in}
 use Rattle.vcd_grammar.proofs.Interface.{blocks_some, ended-cons}
-use Rattle.vcd_way.specs.Pieces.{Stamp, TapChange, Happening, Comes, Gets, Stops, Piece, Changes, Gap, pieces_from, over}
+use Rattle.vcd_way.specs.Pieces.{Stamp, TapChange, Happening, Comes, Gets, Stops, Piece, Changes, pieces_from, over}
 use Rattle.vcd_way.specs.Events.{DumpEvent, Sampled, Course, course_behind, set_taps, values_after, sample_in_block}
 use Rattle.vcd_way.specs.Events.{events_from, samples_among, is_known_digit}
 use Rattle.vcd_way.specs.Strict.{strict_manner}
@@ -91,9 +91,9 @@ alike-samples block g stamp c (Changed x ∷ es) [] s o a = absurd a
 alike-samples block g stamp c (Changed x ∷ es) (Comes next ∷ hs) s o a = absurd a
 alike-samples block g stamp c (Changed x ∷ es) (Gets y ∷ hs) s o a =
     let standing = behind-snoc c.values block x
-        ∙ ap (λ w. set_lines w x.lines x.digits) o
-        ∙ a.0 (values_after c.values g)
-        ∙ sym (after-snoc c.values g y) in
+    ∙ ap (λ w. set_lines w x.lines x.digits) o
+    ∙ a.0 (values_after c.values g)
+    ∙ sym (after-snoc c.values g y) in
     alike-samples (block ++ x ∷ []) (g ++ y ∷ []) stamp c es hs s standing a.1
 alike-samples block g stamp c (Changed x ∷ es) (Stops lines ∷ hs) s o a = absurd a
 
@@ -134,8 +134,8 @@ alike-ended block g stamp c (Changed x ∷ es) [] s o a = absurd a
 alike-ended block g stamp c (Changed x ∷ es) (Comes next ∷ hs) s o a = absurd a
 alike-ended block g stamp c (Changed x ∷ es) (Gets y ∷ hs) s o a =
     let standing = behind-snoc c.values block x
-        ∙ ap (λ w. set_lines w x.lines x.digits) o
-        ∙ a.0 (values_after c.values g)
-        ∙ sym (after-snoc c.values g y) in
+    ∙ ap (λ w. set_lines w x.lines x.digits) o
+    ∙ a.0 (values_after c.values g)
+    ∙ sym (after-snoc c.values g y) in
     alike-ended (block ++ x ∷ []) (g ++ y ∷ []) stamp c es hs s standing a.1
 alike-ended block g stamp c (Changed x ∷ es) (Stops lines ∷ hs) s o a = absurd a

@@ -1,8 +1,8 @@
 -- The digits and the widths of the strict way.
-use Rattle.std.proofs.Common.{◌≡◌, ℕ, ◌+◌, ◌-◌, ◌<◌, ◌≤◌, min, Bool, true, false, not, ◌&&◌, ◌||◌, ◌==◌, if◌then◌else◌, is_some}
-use Rattle.std.proofs.Common.{List, [], ◌∷◌, ◌++◌, length, take, map, slice_get, nat_le, nat_lt, Option, Some, None, refl, sym, ap, ◌∙◌}
+use Rattle.std.proofs.Common.{◌≡◌, ℕ, ◌≤◌, Bool, true, false, ◌&&◌, ◌||◌, if◌then◌else◌, is_some}
+use Rattle.std.proofs.Common.{List, [], ◌∷◌, length, take, map, slice_get, nat_le, nat_lt, Some, None, refl, ap, ◌∙◌}
 use Rattle.std.proofs.Common.{arith, suc, zero}
-use Rattle.std.specs.List.{list_all, list_any}
+use Rattle.std.specs.List.{list_all}
 use Rattle.std.specs.Option.{option_map_or}
 use Rattle.std.proofs.lemmas.Bool.{leb-true, ltb-true, ltb-false, lt-ltb, le-ltb, and_parts, or_parts}
 use Rattle.std.proofs.lemmas.List.{length-take, take_all}
@@ -13,7 +13,7 @@ use Rattle.vcd_grammar.specs.Values.{Values, set_line, set_lines}
 use Rattle.vcd_grammar.specs.Judging.{is_too_wide}
 use Rattle.vcd_way.specs.Events.{whole, set_taps}
 use Rattle.vcd_way.specs.Steps.{is_digit_by, one_more, digits_by, is_too_wide_for}
-use Rattle.vcd_way.specs.Strict.{strict_digit, strict_manner}
+use Rattle.vcd_way.specs.Strict.{strict_manner}
 
 -- ---- digits
 

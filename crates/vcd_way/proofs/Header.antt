@@ -1,6 +1,6 @@
 -- In the strict way a section of the header does what the grammar says.
-use Rattle.std.proofs.Common.{◌≡◌, ℕ, ◌+◌, ◌≤◌, Bool, true, false, not, ◌&&◌, ◌||◌, ◌==◌, if◌then◌else◌, List, [], ◌∷◌, ◌++◌}
-use Rattle.std.proofs.Common.{length, take, nat_le, Option, Some, None, refl, sym, ap, subst, ◌∙◌, arith, suc}
+use Rattle.std.proofs.Common.{◌≡◌, ℕ, Bool, true, false, not, ◌&&◌, ◌||◌, ◌==◌, if◌then◌else◌, List, [], ◌∷◌, ◌++◌}
+use Rattle.std.proofs.Common.{length, take, nat_le, Option, Some, None, refl, sym, ap, subst, ◌∙◌, arith}
 use Rattle.std.proofs.lemmas.Bool.{le-leb}
 use Rattle.std.specs.List.{list_all}
 use Rattle.fsb_signal.specs.Table.{table, signal_number}
@@ -12,12 +12,12 @@ use Rattle.vcd_grammar.specs.Words.{HeaderWord, Declares, Finishes, Ends, Opens,
 use Rattle.vcd_grammar.specs.Words.{is_foreign_type, is_code_word}
 use Rattle.vcd_grammar.specs.Judging.{Draft, Mode, Header, Variable, Skipped, Closing, Values, Pending, Beside, Passed}
 use Rattle.vcd_grammar.specs.Judging.{Known, TokenTurn, stays, goes_to, fails, draft_at, drafted, is_declared, other_declared}
-use Rattle.vcd_grammar.specs.Judging.{line_declared, undeclared, named, with_width, declared, missing_from, closed_with, closed}
+use Rattle.vcd_grammar.specs.Judging.{line_declared, named, with_width, declared, missing_from, closed_with, closed}
 use Rattle.vcd_grammar.specs.Judging.{header_turn, turn_in}
 use Rattle.vcd_way.specs.Declarations.{DumpSection, Declaration, with_word, declaration_with, declaration_of}
 use Rattle.vcd_way.specs.Ways.{Refuses}
 use Rattle.vcd_way.specs.Steps.{Spot, AtPreface, AtHeader, InSection, AtValues, AtCode, AtOtherCode, InRemark, DumpState}
-use Rattle.vcd_way.specs.Steps.{Step, reads_past, moves_to, breaks, section_at, header_step, kept_step, declared_step}
+use Rattle.vcd_way.specs.Steps.{Step, moves_to, breaks, header_step, kept_step, declared_step}
 use Rattle.vcd_way.specs.Steps.{section_end, section_step, is_declaring}
 use Rattle.vcd_way.specs.Strict.{StrictHeader, with_other, with_strict_line, strict_named, strict_declares, strict_closed}
 use Rattle.vcd_way.specs.Strict.{strict_closes, strict}
@@ -166,7 +166,6 @@ width-same s m section a b c e ws (Some w) =
     let count = length (a ∷ b ∷ c ∷ e ∷ ws) in
     coded s m section.place w count a c e ws (nat_le 4 count) (is_code_word c) (le-leb 4 count (omega arith))
 
-
 words-same : (s : DumpState StrictHeader) (m : Mode) (section : DumpSection) (ws : List (List ℕ))
     → Follows (declared (record (known_of s) { mode = m }) (draft_from (draft_at section.place) ws))
     (declared_step strict (at s AtHeader) section.place (declaration_of s.path (record section { words = ws })))
@@ -217,20 +216,20 @@ section-by : (s : DumpState StrictHeader) (section : DumpSection) (t : Token) (w
     → header_word section.keyword ≡ w
     → Follows
     (elim w as (λ x. TokenTurn) [
-      Declares ↦ if long then fails (known_of (at s (InSection section))) t.place causes.Token
-      else (if last then
-        declared (known_of (at s (InSection section))) (draft_from (draft_at section.place) section.words)
-      else
-        goes_to (known_of (at s (InSection section)))
-        (Variable (drafted (draft_from (draft_at section.place) section.words) t.word)))
-    | Finishes ↦ if last then closed (known_of (at s (InSection section))) section.place
-      else stays (known_of (at s (InSection section)))
-    | Ends ↦ if last then goes_to (known_of (at s (InSection section))) Header
-      else stays (known_of (at s (InSection section)))
-    | Opens ↦ if last then goes_to (known_of (at s (InSection section))) Header
-      else stays (known_of (at s (InSection section)))
-    | Bare ↦ if last then goes_to (known_of (at s (InSection section))) Header
-      else stays (known_of (at s (InSection section)))
+      | Declares ↦ if long then fails (known_of (at s (InSection section))) t.place causes.Token
+          else (if last then
+          declared (known_of (at s (InSection section))) (draft_from (draft_at section.place) section.words)
+          else
+          goes_to (known_of (at s (InSection section)))
+          (Variable (drafted (draft_from (draft_at section.place) section.words) t.word)))
+      | Finishes ↦ if last then closed (known_of (at s (InSection section))) section.place
+          else stays (known_of (at s (InSection section)))
+      | Ends ↦ if last then goes_to (known_of (at s (InSection section))) Header
+          else stays (known_of (at s (InSection section)))
+      | Opens ↦ if last then goes_to (known_of (at s (InSection section))) Header
+          else stays (known_of (at s (InSection section)))
+      | Bare ↦ if last then goes_to (known_of (at s (InSection section))) Header
+          else stays (known_of (at s (InSection section)))
     ])
     (if long && is_declaring w then breaks (at s (InSection section)) t.place causes.Token
     else (if last then section_end strict (at s (InSection section)) section w

@@ -1,10 +1,10 @@
 -- In every way, what is kept of the header is known from the `$end` of its `$enddefinitions` on, and stays; before that no
 -- piece is over.
-use Rattle.std.proofs.Common.{◌≡◌, ℕ, ◌+◌, Bool, true, false, not, ◌&&◌, ◌||◌, ◌==◌, if◌then◌else◌, is_some, List, [], ◌∷◌, ◌++◌}
+use Rattle.std.proofs.Common.{◌≡◌, ℕ, Bool, true, false, ◌&&◌, ◌||◌, ◌==◌, if◌then◌else◌, is_some, List, [], ◌∷◌, ◌++◌}
 use Rattle.std.proofs.Common.{length, codes, nat_eq, nat_lt, Option, Some, None, refl, sym, ap, subst, ◌∙◌, arith}
 use Rattle.std.specs.List.{list_all}
 use Rattle.std.specs.Cmp.Lexicographic.{same_text}
-use Rattle.std.proofs.lemmas.Bool.{eqb-true, ltb-true}
+use Rattle.std.proofs.lemmas.Bool.{eqb-true}
 use Rattle.vcd_grammar.specs.declared.fault.VcdFault.{VcdFault}
 use Rattle.vcd_grammar.specs.declared.fault.VcdCause.{VcdCause}
 use Rattle.vcd_grammar.specs.declared.fault.VcdCause.TheVariants as causes
@@ -15,13 +15,14 @@ use Rattle.vcd_grammar.specs.Heading.{Heading, Between, Inside, Ending, Over, be
 use Rattle.vcd_grammar.specs.Heading.{is_over, is_header_over}
 use Rattle.vcd_grammar.proofs.Interface.{tokens-append}
 use Rattle.vcd_way.specs.Declarations.{DumpSection, Declaration, declaration_of, with_word}
-use Rattle.vcd_way.specs.Ways.{Tap, Kept, Keeps, Refuses, Way}
+use Rattle.vcd_way.specs.declared.tap.Tap.{Tap}
+use Rattle.vcd_way.specs.Ways.{Kept, Keeps, Refuses, Way}
 use Rattle.vcd_way.specs.Pieces.{Stamp as TimeStamp, TapChange, Happening, Comes, Gets, Stops, pieces_from, over}
 use Rattle.vcd_way.specs.Steps.{Spot, AtPreface, AtHeader, InSection, AtValues, AtCode, AtOtherCode, InRemark, DumpState}
-use Rattle.vcd_way.specs.Steps.{first_state, Step, reads_past, moves_to, breaks, if_short, section_at, header_step}
-use Rattle.vcd_way.specs.Steps.{unknown_from_here, kept_step, declared_step, told, section_end, is_declaring, section_step}
+use Rattle.vcd_way.specs.Steps.{first_state, Step, reads_past, moves_to, breaks, if_short, header_step}
+use Rattle.vcd_way.specs.Steps.{unknown_from_here, kept_step, declared_step, section_end, is_declaring}
 use Rattle.vcd_way.specs.Steps.{digits_by, value_word_by, comes, stamp_step, given, scalar_step, is_too_wide_for, vector_step}
-use Rattle.vcd_way.specs.Steps.{other_step, mark_step, value_step, remark_step, step_at, step, state_behind, happenings_in}
+use Rattle.vcd_way.specs.Steps.{other_step, mark_step, value_step, step_at, step, state_behind, happenings_in}
 use Rattle.vcd_way.specs.Steps.{is_past_header_at}
 use Rattle.vcd_way.specs.Answers.{state_of, header_in, header_by, header_so_far_by, header_at_end_by, events_so_far_by}
 use Rattle.vcd_way.specs.Events.{course_at_first, events_from}
@@ -255,11 +256,11 @@ section-heading : {W : Type 0} (way : Way W) (s : DumpState W) (section : DumpSe
     (if long && is_declaring w then breaks s t.place causes.Token
     else (if last then section_end way s section w else moves_to s (InSection (with_word section t.word))))
     ≡ elim w as (λ x. Heading) [
-      Declares ↦ if last then Between else Inside
-    | Finishes ↦ if last then Over else Ending
-    | Ends ↦ if last then Between else Inside
-    | Opens ↦ if last then Between else Inside
-    | Bare ↦ if last then Between else Inside
+      | Declares ↦ if last then Between else Inside
+      | Finishes ↦ if last then Over else Ending
+      | Ends ↦ if last then Between else Inside
+      | Opens ↦ if last then Between else Inside
+      | Bare ↦ if last then Between else Inside
     ]
 section-heading way s section t Declares true true e f g = let wrong = g refl in cc wrong
 section-heading way s section t Declares true false e f g = ap heading_at f ∙ ap section_heading e
@@ -286,11 +287,11 @@ section-heading way s section t Bare false false e f g = ap section_heading e
 
 section-over : (w : HeaderWord) (t : Token)
     → elim w as (λ x. Heading) [
-      Declares ↦ if is_end t.word then Between else Inside
-    | Finishes ↦ if is_end t.word then Over else Ending
-    | Ends ↦ if is_end t.word then Between else Inside
-    | Opens ↦ if is_end t.word then Between else Inside
-    | Bare ↦ if is_end t.word then Between else Inside
+      | Declares ↦ if is_end t.word then Between else Inside
+      | Finishes ↦ if is_end t.word then Over else Ending
+      | Ends ↦ if is_end t.word then Between else Inside
+      | Opens ↦ if is_end t.word then Between else Inside
+      | Bare ↦ if is_end t.word then Between else Inside
     ] ≡ behind_token (section_heading w) t
 section-over Declares t = refl
 section-over Finishes t = refl

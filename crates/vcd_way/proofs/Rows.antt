@@ -1,10 +1,7 @@
 -- Small dumps of other kinds, with what they tell, worked out by hand: what the definitions make of them is that.
-use Rattle.std.specs.Prelude.{◌≡◌, ℕ, ◌+◌, ◌++◌, [], ◌∷◌, length, map, List, Bool, true, false, ◌||◌, if◌then◌else◌, Option, Some}
+use Rattle.std.specs.Prelude.{◌≡◌, ℕ, ◌+◌, ◌++◌, [], ◌∷◌, length, map, List, true, false, if◌then◌else◌, Option, Some}
 use Rattle.std.specs.Prelude.{None, codes}
-use Rattle.std.specs.List.{list_any}
 use Rattle.std.proofs.Common.{refl}
-use Rattle.fsb_signal.specs.declared.sample.Sample.{Sample}
-use Rattle.fsb_signal.specs.DumpText.{width_of}
 use Rattle.vcd_grammar.specs.declared.fault.VcdFault.{VcdFault}
 use Rattle.vcd_grammar.specs.declared.fault.VcdCause.TheVariants as causes
 use Rattle.vcd_grammar.specs.Tokens.{ended_at, grown_at, tokens_of}
@@ -13,8 +10,12 @@ use Rattle.vcd_grammar.specs.Words.{same, header_word, is_read_past, name_in}
 use Rattle.vcd_grammar.specs.Levels.{level_of, control_of, bits_without}
 use Rattle.vcd_grammar.specs.Values.{sample_at}
 use Rattle.vcd_way.specs.Declarations.{Declaration, declaration_of, range_of, timescale_in}
-use Rattle.vcd_way.specs.Ways.{BitRun, Whole, Bits, Tap, Keeps, Falling, Manner, Way}
-use Rattle.vcd_way.specs.Pieces.{Stamp, line_number}
+use Rattle.vcd_way.specs.declared.tap.BitRun.{BitRun}
+use Rattle.vcd_way.specs.declared.tap.Part.TheVariants as pieces
+use Rattle.vcd_way.specs.declared.tap.Tap.{Tap}
+use Rattle.vcd_way.specs.declared.tap.Edge.TheVariants as sides
+use Rattle.vcd_way.specs.Ways.{Keeps, Manner, Way}
+use Rattle.vcd_way.specs.Pieces.{line_number}
 use Rattle.vcd_way.specs.Events.{DumpEvent, Sampled, Hole, with_part}
 use Rattle.vcd_way.specs.Steps.{value_word_by, step}
 use Rattle.vcd_way.specs.Answers.{state_of, first_fault_by, early_end_by, events_so_far_by, events_by, header_by}
@@ -25,16 +26,16 @@ use Rattle.vcd_way.specs.Wide.{wide_digit, wide_manner}
 abbrev taps_for : Declaration → List Tap
 taps_for d =
     if same (codes "clk") (name_in d.reference) then
-      record { line = 0; width = d.width; part = Whole; is_high = false } ∷ []
+    record { line = 0; width = d.width; part = pieces.Whole; is_high = false } ∷ []
     else (if same (codes "ads") (name_in d.reference) then
-      record { line = 8; width = d.width; part = Whole; is_high = true } ∷ []
+    record { line = 8; width = d.width; part = pieces.Whole; is_high = true } ∷ []
     else (if same (codes "addr") (name_in d.reference) then
-      record {
-        line = 10;
-        width = d.width;
-        part = Bits (record { count = 33; low = 3; lowest = 0; is_turned = false });
-        is_high = true;
-      } ∷ []
+    record {
+      line = 10;
+      width = d.width;
+      part = pieces.Bits (record { count = 33; low = 3; lowest = 0; is_turned = false });
+      is_high = true;
+    } ∷ []
     else []))
 
 -- what stands for a code
@@ -144,7 +145,7 @@ clocked = header ++ codes "#0 1! 0a b0 A\n#5 0!\n#10 1! 1a\n#15 0!\n"
 -- by default; with its first edge; with ADS# behind the edge; and by the falling edge
 abbrev manners : List Manner
 manners = wide_manner ∷ record wide_manner { takes_first = true } ∷ record wide_manner { late = 8 ∷ [] }
-    ∷ record wide_manner { edge = Falling } ∷ []
+    ∷ record wide_manner { edge = sides.Falling } ∷ []
 
 pub edges : map (λ m. map numbers_of (events_by (row_way m) clocked)) manners
     ≡ ((10 ∷ 0 ∷ 0 ∷ 0 ∷ 0 ∷ []) ∷ [])
@@ -163,6 +164,6 @@ parts = record { count = 2; low = 1; lowest = 0; is_turned = false }
     ∷ record { count = 2; low = 1; lowest = 0; is_turned = true }
     ∷ record { count = 2; low = 1; lowest = 1; is_turned = false } ∷ []
 
-pub put : map (λ run. with_part (Bits run) (codes "abcd") (codes "wxyz")) parts
+pub put : map (λ run. with_part (pieces.Bits run) (codes "abcd") (codes "wxyz")) parts
     ≡ codes "wxbc" ∷ codes "wxcb" ∷ codes "wbcz" ∷ []
 put = refl

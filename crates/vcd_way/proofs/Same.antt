@@ -1,17 +1,15 @@
 -- The strict way is the grammar, token by token.
-use Rattle.std.proofs.Common.{◌≡◌, ℕ, ◌+◌, Bool, true, false, not, ◌&&◌, ◌||◌, ◌==◌, if◌then◌else◌, is_some, List, [], ◌∷◌, ◌++◌}
-use Rattle.std.proofs.Common.{length, take, option_map, Option, Some, None, refl, sym, ap, subst, ◌∙◌, arith}
-use Rattle.std.specs.List.{list_all}
+use Rattle.std.proofs.Common.{◌≡◌, ℕ, Bool, true, false, if◌then◌else◌, is_some, List, [], ◌∷◌}
+use Rattle.std.proofs.Common.{length, take, option_map, Option, Some, None, refl, sym, ap, subst, ◌∙◌}
 use Rattle.fsb_signal.specs.declared.marks.Marks.{Marks}
 use Rattle.vcd_grammar.specs.declared.fault.VcdFault.{VcdFault}
 use Rattle.vcd_grammar.specs.declared.fault.VcdCause.TheVariants as causes
 use Rattle.vcd_grammar.specs.Tokens.{Token, is_long, tokens_of, tokens_so_far}
-use Rattle.vcd_grammar.specs.Words.{HeaderWord, Declares, Finishes, Ends, Opens, Bare, header_word, ValueWord, value_word, is_end}
+use Rattle.vcd_grammar.specs.Words.{HeaderWord, Declares, Finishes, Ends, Opens, Bare, header_word, value_word}
 use Rattle.vcd_grammar.specs.Codes.{lines_of}
 use Rattle.vcd_grammar.specs.Blocks.{BlockEvent}
-use Rattle.vcd_grammar.specs.Values.{Values, at_first}
 use Rattle.vcd_grammar.specs.Heading.{is_header_over}
-use Rattle.vcd_grammar.specs.Judging.{Mode, Known, nothing, TokenTurn, stays, goes_to, fails, unless_long, header_turn}
+use Rattle.vcd_grammar.specs.Judging.{Known, nothing, TokenTurn, goes_to, fails, unless_long, header_turn}
 use Rattle.vcd_grammar.specs.Judging.{value_turn, vector_turn, beside_turn, turn_in, mode_behind, turn, behind, events_in}
 use Rattle.vcd_grammar.specs.Judging.{marks_of_lines, known_marks, is_past_header}
 use Rattle.vcd_grammar.specs.Reading.{cut_in, or_cut, first_fault, samples_of, samples_before_end, marks_of, fault_so_far}
@@ -28,7 +26,7 @@ use Rattle.vcd_way.specs.Strict.{StrictHeader, strict_manner, strict, marks_by}
 use Rattle.vcd_way.proofs.Blocks.{Alike, alike-append, alike-samples, alike-ended}
 use Rattle.vcd_way.proofs.Header.{mode_of_section, mode_of_spot, known_of, is_sound, Follows, follows-if, at, header-same}
 use Rattle.vcd_way.proofs.Header.{section-same}
-use Rattle.vcd_way.proofs.Values.{first_digits, same-word, same-value, same-vector-turn, same-beside, same-remark}
+use Rattle.vcd_way.proofs.Values.{same-word, same-value, same-vector-turn, same-beside, same-remark}
 
 -- ---- one token
 

@@ -1,6 +1,6 @@
 -- In the strict way a token between values does what the grammar says.
-use Rattle.std.proofs.Common.{◌≡◌, ℕ, ◌+◌, Bool, true, false, not, ◌&&◌, ◌||◌, ◌==◌, if◌then◌else◌, List, [], ◌∷◌, ◌++◌, length}
-use Rattle.std.proofs.Common.{take, map, nat_lt, option_map, Option, Some, None, refl, sym, ap, subst, ◌∙◌, arith, suc}
+use Rattle.std.proofs.Common.{◌≡◌, ℕ, Bool, true, false, not, ◌&&◌, ◌||◌, ◌==◌, if◌then◌else◌, List, [], ◌∷◌, ◌++◌, length}
+use Rattle.std.proofs.Common.{take, map, nat_lt, option_map, Option, Some, None, refl, sym, ap, arith}
 use Rattle.std.specs.List.{list_all}
 use Rattle.std.proofs.lemmas.Bool.{eqb-true}
 use Rattle.vcd_grammar.specs.declared.fault.VcdCause.TheVariants as causes
@@ -10,16 +10,16 @@ use Rattle.vcd_grammar.specs.Words.{ValueWord, Stamp, Scalar, Vector, Foreign, M
 use Rattle.vcd_grammar.specs.Words.{vector_word, value_word, is_read_past, is_end}
 use Rattle.vcd_grammar.specs.Codes.{lines_of}
 use Rattle.vcd_grammar.specs.Blocks.{Changed}
-use Rattle.vcd_grammar.specs.Judging.{Values, Pending, Beside, Passed, TokenTurn, stays, goes_to, fails, later, stamped}
+use Rattle.vcd_grammar.specs.Judging.{Values, stays, goes_to, fails, later, stamped}
 use Rattle.vcd_grammar.specs.Judging.{scalar_turn, value_turn, is_too_wide, vector_turn, beside_turn}
 use Rattle.vcd_way.specs.Declarations.{DumpSection}
 use Rattle.vcd_way.specs.Events.{whole}
-use Rattle.vcd_way.specs.Steps.{AtValues, AtCode, AtOtherCode, InRemark, DumpState, Step, reads_past, moves_to, breaks}
+use Rattle.vcd_way.specs.Steps.{AtValues, AtCode, AtOtherCode, InRemark, DumpState, reads_past, moves_to, breaks}
 use Rattle.vcd_way.specs.Steps.{is_digit_by, digits_by, vector_by, value_word_by, comes, stamp_step, given, scalar_step}
-use Rattle.vcd_way.specs.Steps.{is_too_wide_for, vector_step, other_step, mark_step, value_step, remark_step}
+use Rattle.vcd_way.specs.Steps.{is_too_wide_for, vector_step, other_step, value_step, remark_step}
 use Rattle.vcd_way.specs.Strict.{StrictHeader, strict_manner, strict}
 use Rattle.vcd_way.proofs.Digits.{digit-test, digits-test, digits-meant, lines-set, wide-test, wide-set}
-use Rattle.vcd_way.proofs.Header.{known_of, is_sound, Follows, follows-if, at}
+use Rattle.vcd_way.proofs.Header.{known_of, Follows, follows-if, at}
 
 -- ---- what a token says
 
@@ -94,12 +94,12 @@ same-other : (b : ℕ) (bs : List ℕ)
     else (if b == 36 then (if is_read_past (b ∷ bs) then Mark else Section) else Wrong)))
 same-other b bs =
     let mark = same-if (is_read_past (b ∷ bs)) Mark Section Mark Section (record { same = refl; digits = refl })
-        (record { same = refl; digits = refl }) in
+    (record { same = refl; digits = refl }) in
     let dollar = same-if (b == 36) (if is_read_past (b ∷ bs) then Mark else Section) Wrong
-        (if is_read_past (b ∷ bs) then Mark else Section) Wrong mark (record { same = refl; digits = refl }) in
+    (if is_read_past (b ∷ bs) then Mark else Section) Wrong mark (record { same = refl; digits = refl }) in
     let last = if b == 36 then (if is_read_past (b ∷ bs) then Mark else Section) else Wrong in
     let foreign = same-if (((b == 114) || (b == 82)) || ((b == 115) || (b == 83))) Foreign last Foreign last
-        (record { same = refl; digits = refl }) dollar in
+    (record { same = refl; digits = refl }) dollar in
     let others = if ((b == 114) || (b == 82)) || ((b == 115) || (b == 83)) then Foreign else last in
     same-if ((b == 98) || (b == 66)) (vector_word bs) others (vector_by strict_manner bs) others (same-vector bs) foreign
 
@@ -118,7 +118,6 @@ same-word (b ∷ bs) =
     (digit-if b bs (is_value_digit b) (is_digit_by strict_manner b) _ _ refl (digit-test b) (same-other b bs))
 
 -- ---- what it does
-
 
 same-stamp-turn : (s : DumpState StrictHeader) (place time : ℕ) (last : Option ℕ)
     → Follows (stamped (known_of (at s AtValues)) place time last) (stamp_step (at s AtValues) place time last)
@@ -196,7 +195,7 @@ same-remark s section t = by (is_end t.word)
         (if b then goes_to (known_of (at s (InRemark section))) Values
         else stays (known_of (at s (InRemark section))))
         (if b then
-          moves_to (record (at s (InRemark section)) { remarks = s.remarks ++ section ∷ [] }) AtValues
+        moves_to (record (at s (InRemark section)) { remarks = s.remarks ++ section ∷ [] }) AtValues
         else moves_to (at s (InRemark section)) (InRemark (record section { words = section.words ++ t.word ∷ [] })))
     by true = record { known = refl; alike = tt; sound = refl }
     by false = record { known = refl; alike = tt; sound = refl }

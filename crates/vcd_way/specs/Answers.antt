@@ -1,5 +1,5 @@
 -- What a text tells in a way to read it: its header, its events, and its first fault; the same for its first bytes.
-use Rattle.std.specs.Prelude.{◌≡◌, ℕ, Bool, true, false, not, ◌&&◌, if◌then◌else◌, List, [], length, Option, Some, None, is_some}
+use Rattle.std.specs.Prelude.{◌≡◌, ℕ, Bool, not, ◌&&◌, if◌then◌else◌, List, length, Option, Some, None, is_some}
 use Rattle.vcd_grammar.specs.declared.fault.VcdFault.{VcdFault}
 use Rattle.vcd_grammar.specs.declared.fault.VcdCause.TheVariants as causes
 use Rattle.vcd_grammar.specs.Tokens.{Token, tokens_of, tokens_so_far}

@@ -44,16 +44,16 @@ abbrev pub declaration_with : List (List ℕ) → DumpSection → Option ℕ →
 declaration_with path section None = None
 declaration_with path section (Some width) =
     if nat_le 4 (length section.words) && is_code_word (word_of_section section 2) then
-      Some (record {
-        place = section.place;
-        count = length section.words;
-        kind = word_of_section section 0;
-        width = width;
-        code = word_of_section section 2;
-        reference = word_of_section section 3;
-        behind = drop 4 section.words;
-        path = path;
-      })
+    Some (record {
+      place = section.place;
+      count = length section.words;
+      kind = word_of_section section 0;
+      width = width;
+      code = word_of_section section 2;
+      reference = word_of_section section 3;
+      behind = drop 4 section.words;
+      path = path;
+    })
     else None
 
 -- the declaration that a section is in these scopes: it has four words at least, its width is a number, and its code one

@@ -1,16 +1,22 @@
 -- The values of the lines, and the samples and holes of a dump.
-use Rattle.std.specs.Prelude.{ℕ, ◌+◌, ◌-◌, Bool, true, false, not, ◌&&◌, ◌||◌, ◌==◌, if◌then◌else◌, List, [], ◌∷◌, ◌++◌, length, take, drop, map, reverse, slice_get, slice_set, Option, Some, None}
+use Rattle.std.specs.Prelude.{ℕ, ◌+◌, ◌-◌, Bool, false, not, ◌&&◌, ◌||◌, ◌==◌, if◌then◌else◌, List, [], ◌∷◌, ◌++◌, length, take, drop, map, reverse, slice_get, slice_set, Option}
 use Rattle.std.specs.Option.{option_map_or}
 use Rattle.fsb_signal.specs.declared.sample.Sample.{Sample}
 use Rattle.fsb_signal.specs.DumpText.{width_of}
 use Rattle.vcd_grammar.specs.Digits.{extended}
 use Rattle.vcd_grammar.specs.Values.{Values, at_first, clock_of, is_rise, sample_of}
-use Rattle.vcd_way.specs.Ways.{BitRun, Part, Whole, Bits, Tap, Edge, Rising, Falling, Manner}
+use Rattle.vcd_way.specs.declared.tap.BitRun.{BitRun}
+use Rattle.vcd_way.specs.declared.tap.Part.{Part}
+use Rattle.vcd_way.specs.declared.tap.Part.TheVariants as parts
+use Rattle.vcd_way.specs.declared.tap.Tap.{Tap}
+use Rattle.vcd_way.specs.declared.tap.Edge.{Edge}
+use Rattle.vcd_way.specs.declared.tap.Edge.TheVariants as edges
+use Rattle.vcd_way.specs.Ways.{Manner}
 use Rattle.vcd_way.specs.Pieces.{Stamp, TapChange, Piece, Changes, Gap}
 
 -- the tap of a variable that is the line of this number
 abbrev pub whole : ℕ → Tap
-whole number = record { line = number; width = width_of number; part = Whole; is_high = false }
+whole number = record { line = number; width = width_of number; part = parts.Whole; is_high = false }
 
 -- 0 and 1, each for the other
 abbrev pub turned_digit : ℕ → ℕ
@@ -28,8 +34,8 @@ run_of run digits =
 
 -- the digits of a line whose part got what it takes of a variable's digits
 abbrev pub with_part : Part → List ℕ → List ℕ → List ℕ
-with_part Whole digits line = digits
-with_part (Bits run) digits line =
+with_part parts.Whole digits line = digits
+with_part (parts.Bits run) digits line =
     let top = length line - (run.lowest + run.count) in
     take top line ++ run_of run digits ++ drop (top + run.count) line
 
@@ -59,13 +65,13 @@ unknown_in values lines = set_taps values (map whole lines) (120 ∷ [])
 
 -- the clock's edge lies between these digits
 abbrev pub is_edge : Edge → ℕ → ℕ → Bool
-is_edge Rising before after = is_rise before after
-is_edge Falling before after = is_rise after before
+is_edge edges.Rising before after = is_rise before after
+is_edge edges.Falling before after = is_rise after before
 
 -- the clock's digit behind its edge
 abbrev pub digit_behind : Edge → ℕ
-digit_behind Rising = 49
-digit_behind Falling = 48
+digit_behind edges.Rising = 49
+digit_behind edges.Falling = 48
 
 -- the digit is known
 abbrev pub is_known_digit : ℕ → Bool
@@ -98,9 +104,9 @@ pub data DumpEvent : Type 0 where
 abbrev pub sample_in_block : Manner → Course → Option Stamp → Values → List DumpEvent
 sample_in_block m c stamp after =
     if c.is_seen && is_edge m.edge (clock_of c.values) (clock_of after) then
-      Sampled (sample_of (sampled m.late c.values after)) stamp ∷ []
+    Sampled (sample_of (sampled m.late c.values after)) stamp ∷ []
     else (if m.takes_first && not c.is_seen && (clock_of after == digit_behind m.edge) then
-      Sampled (sample_of after) stamp ∷ []
+    Sampled (sample_of after) stamp ∷ []
     else [])
 
 -- what pieces tell, the first of which begins with these values

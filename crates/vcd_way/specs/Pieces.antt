@@ -1,6 +1,6 @@
 -- What the tokens behind the header do, in any way to read a dump, and the pieces that it makes of a dump.
 use Rattle.std.specs.Prelude.{ℕ, ◌+◌, ◌-◌, ◌==◌, count_by, List, [], ◌∷◌, ◌++◌, length, take, Option, Some, None}
-use Rattle.vcd_way.specs.Ways.{Tap}
+use Rattle.vcd_way.specs.declared.tap.Tap.{Tap}
 
 -- a time, and the place of its stamp in the text
 pub record Stamp : Type 0 where

@@ -10,7 +10,8 @@ use Rattle.vcd_grammar.specs.Words.{HeaderWord, Declares, Finishes, Ends, Opens,
 use Rattle.vcd_grammar.specs.Words.{ValueWord, Stamp, Scalar, Vector, Foreign, Mark, Section, Wrong, stamp_word, scalar_word}
 use Rattle.vcd_grammar.specs.Words.{same, is_end, is_read_past}
 use Rattle.vcd_way.specs.Declarations.{DumpSection, Declaration, declaration_of, with_word, word_of_section}
-use Rattle.vcd_way.specs.Ways.{Tap, Kept, Keeps, Refuses, Manner, Way}
+use Rattle.vcd_way.specs.declared.tap.Tap.{Tap}
+use Rattle.vcd_way.specs.Ways.{Kept, Keeps, Refuses, Manner, Way}
 use Rattle.vcd_way.specs.Pieces.{Happening, Comes, Gets, Stops}
 use Rattle.vcd_way.specs.Events.{whole}
 
@@ -218,7 +219,7 @@ other_step s place (Some taps) = moves_to s AtValues
 abbrev pub mark_step : {W : Type 0} → Way W → DumpState W → List ℕ → Step W
 mark_step way s word =
     if way.manner.tells_holes && same (codes "$dumpoff") word then
-      record { state = s; happenings = Stops (way.lines s.header) ∷ [] }
+    record { state = s; happenings = Stops (way.lines s.header) ∷ [] }
     else reads_past s
 
 -- a token between values

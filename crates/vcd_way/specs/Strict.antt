@@ -1,5 +1,5 @@
 -- The strict way: the first variable of each name of the signal table is that line, whatever its scope, and has its width.
-use Rattle.std.specs.Prelude.{ℕ, Bool, true, false, ◌||◌, ◌==◌, if◌then◌else◌, List, [], ◌∷◌, ◌++◌, map, Option, Some, None, option_map}
+use Rattle.std.specs.Prelude.{ℕ, false, ◌||◌, ◌==◌, if◌then◌else◌, List, [], ◌∷◌, ◌++◌, map, Option, Some, None, option_map}
 use Rattle.fsb_signal.specs.Table.{table, signal_number}
 use Rattle.fsb_signal.specs.DumpText.{width_of}
 use Rattle.fsb_signal.specs.declared.marks.Marks.{Marks}
@@ -9,7 +9,9 @@ use Rattle.vcd_grammar.specs.Words.{is_foreign_type, name_in}
 use Rattle.vcd_grammar.specs.Codes.{Code, with_code, lines_of}
 use Rattle.vcd_grammar.specs.Judging.{is_declared, missing_from, marks_of_lines}
 use Rattle.vcd_way.specs.Declarations.{Declaration}
-use Rattle.vcd_way.specs.Ways.{Tap, Kept, Keeps, Refuses, Rising, Manner, Way}
+use Rattle.vcd_way.specs.declared.tap.Tap.{Tap}
+use Rattle.vcd_way.specs.declared.tap.Edge.TheVariants as edges
+use Rattle.vcd_way.specs.Ways.{Kept, Keeps, Refuses, Manner, Way}
 use Rattle.vcd_way.specs.Events.{whole}
 
 -- the lines and the codes that were declared
@@ -59,7 +61,7 @@ abbrev pub strict_manner : Manner
 strict_manner = record {
   digit = strict_digit;
   takes_any = false;
-  edge = Rising;
+  edge = edges.Rising;
   takes_first = false;
   late = [];
   skips_preface = false;

@@ -1,38 +1,15 @@
 -- A way to read a dump: who is a line of the bus, of which bits, which bytes are digits, and when there is a sample.
-use Rattle.std.specs.Prelude.{ℕ, Bool, true, false, List, Option}
+use Rattle.std.specs.Prelude.{ℕ, Bool, List, Option}
 use Rattle.vcd_grammar.specs.declared.fault.VcdCause.{VcdCause}
+use Rattle.vcd_way.specs.declared.tap.Tap.{Tap}
+use Rattle.vcd_way.specs.declared.tap.Edge.{Edge}
 use Rattle.vcd_way.specs.Declarations.{Declaration}
-
--- so many bits of a variable, from `low` on, stand for as many of a line, from `lowest` on; turned, the lowest of
--- the variable stands for the highest of the line. Bits are counted from the lowest, which is 0
-pub record BitRun : Type 0 where
-  pub count : ℕ
-  pub low : ℕ
-  pub lowest : ℕ
-  pub is_turned : Bool
-
--- which bits of a line a variable stands for
-pub data Part : Type 0 where
-  Whole : Part
-  Bits : BitRun → Part
-
--- a variable of this width stands for the line of this number, or for a part of it; active high, its 1 is the line's 0
-pub record Tap : Type 0 where
-  pub line : ℕ
-  pub width : ℕ
-  pub part : Part
-  pub is_high : Bool
 
 -- what a header makes of a declaration, or of its own end: what is known of it then, with the lines that are unknown
 -- from here on; or a fault
 pub data Kept (W : Type 0) : Type 0 where
   Keeps : W → List ℕ → Kept W
   Refuses : VcdCause → Kept W
-
--- the edge of the clock that samples
-pub data Edge : Type 0 where
-  Rising : Edge
-  Falling : Edge
 
 -- what a way says of values, whatever was declared
 pub record Manner : Type 0 where

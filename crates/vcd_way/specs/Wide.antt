@@ -1,8 +1,9 @@
 -- What dumps of any tool have beside the strict ones: the digits of VHDL, words before the header, holes, and early ends.
-use Rattle.std.specs.Prelude.{ℕ, Bool, true, false, ◌==◌, if◌then◌else◌, List, [], ◌∷◌, codes, Option, Some, None}
+use Rattle.std.specs.Prelude.{ℕ, Bool, true, false, ◌==◌, if◌then◌else◌, List, [], codes, Option, Some, None}
 use Rattle.std.specs.List.{list_any}
 use Rattle.vcd_grammar.specs.Digits.{is_value_digit}
-use Rattle.vcd_way.specs.Ways.{Rising, Manner}
+use Rattle.vcd_way.specs.declared.tap.Edge.TheVariants as edges
+use Rattle.vcd_way.specs.Ways.{Manner}
 
 -- the byte is one of these
 abbrev pub is_among : List ℕ → ℕ → Bool
@@ -21,7 +22,7 @@ abbrev pub wide_manner : Manner
 wide_manner = record {
   digit = wide_digit;
   takes_any = true;
-  edge = Rising;
+  edge = edges.Rising;
   takes_first = false;
   late = [];
   skips_preface = true;

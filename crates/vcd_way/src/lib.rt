@@ -5,5 +5,7 @@
 #![tactic(auto)]
 
 pub use laws::{header_comes_first, one_answer, strict_is_the_grammar};
+pub use tap::{BitRun, Edge, Part, Tap};
 
 mod laws;
+mod tap;
