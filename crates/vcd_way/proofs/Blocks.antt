@@ -139,3 +139,38 @@ alike-ended block g stamp c (Changed x ∷ es) (Gets y ∷ hs) s o a =
     ∙ sym (after-snoc c.values g y) in
     alike-ended (block ++ x ∷ []) (g ++ y ∷ []) stamp c es hs s standing a.1
 alike-ended block g stamp c (Changed x ∷ es) (Stops lines ∷ hs) s o a = absurd a
+
+-- ---- the strict way tells samples alone
+
+plain : (seen rise : Bool) (a : Sample) (stamp : Option Stamp) (rest : List DumpEvent)
+    → length (samples_among rest) ≡ length rest
+    → length (samples_among ((if seen && rise then Sampled a stamp ∷ [] else []) ++ rest))
+    ≡ length ((if seen && rise then Sampled a stamp ∷ [] else []) ++ rest)
+plain true true a stamp rest h = ap (λ n. suc n) h
+plain true false a stamp rest h = h
+plain false rise a stamp rest h = h
+
+plain-block : (c : Course) (stamp : Option Stamp) (after : Values) (rest : List DumpEvent)
+    → length (samples_among rest) ≡ length rest
+    → length (samples_among (sample_in_block strict_manner c stamp after ++ rest))
+    ≡ length (sample_in_block strict_manner c stamp after ++ rest)
+plain-block c stamp after rest h =
+    plain c.is_seen (is_rise (clock_of c.values) (clock_of after)) (sample_of c.values) stamp rest h
+
+pub no_holes : (g : List TapChange) (stamp : Option Stamp) (c : Course) (es : List BlockEvent) (hs : List Happening)
+    → Alike es hs
+    → length (samples_among (events_from strict_manner c (pieces_from stamp g hs)))
+    ≡ length (events_from strict_manner c (pieces_from stamp g hs))
+no_holes g stamp c [] [] a = plain-block c stamp (values_after c.values g) [] refl
+no_holes g stamp c [] (h ∷ hs) a = absurd a
+no_holes g stamp c (Later ∷ es) [] a = absurd a
+no_holes g stamp c (Later ∷ es) (Comes next ∷ hs) a =
+    let after = values_after c.values g in
+    plain-block c stamp after (events_from strict_manner (course_behind c after) (pieces_from (Some next) [] hs))
+    (no_holes [] (Some next) (course_behind c after) es hs a)
+no_holes g stamp c (Later ∷ es) (Gets y ∷ hs) a = absurd a
+no_holes g stamp c (Later ∷ es) (Stops lines ∷ hs) a = absurd a
+no_holes g stamp c (Changed x ∷ es) [] a = absurd a
+no_holes g stamp c (Changed x ∷ es) (Comes next ∷ hs) a = absurd a
+no_holes g stamp c (Changed x ∷ es) (Gets y ∷ hs) a = no_holes (g ++ y ∷ []) stamp c es hs a.1
+no_holes g stamp c (Changed x ∷ es) (Stops lines ∷ hs) a = absurd a

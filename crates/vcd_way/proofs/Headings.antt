@@ -524,7 +524,7 @@ header-first way fed e =
     (none_over None [] (happenings_in way (first_state way) tokens)
     (calm-behind way (first_state way) tokens Between (first-heads way) before))
 
-state-append : {W : Type 0} (way : Way W) (s : DumpState W) (ts us : List Token)
+pub state-append : {W : Type 0} (way : Way W) (s : DumpState W) (ts us : List Token)
     → state_behind way s (ts ++ us) ≡ state_behind way (state_behind way s ts) us
 state-append way s [] us = refl
 state-append way s (t ∷ ts) us = state-append way (step way s t).state ts us
@@ -554,7 +554,7 @@ header-in-more way ts us h e =
     (ap (λ b. if b then Some (state_of way (ts ++ us)).header else None) more.over ∙ ap Some same, same)
 
 -- the tokens of a longer text
-tokens_longer : (fed more : List ℕ)
+pub tokens_longer : (fed more : List ℕ)
     → tokens_so_far (fed ++ more) ≡ tokens_so_far fed ++ tokens_from (length fed) (open_run fed) more
 tokens_longer fed more = tokens-append 0 [] fed more
     ∙ ap (λ n. tokens_so_far fed ++ tokens_from n (open_run fed) more) (omega arith)

@@ -4,4 +4,5 @@ mod Header
 mod Values
 mod Same
 mod Headings
+mod Longer
 mod Rows

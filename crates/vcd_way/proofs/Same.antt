@@ -23,7 +23,7 @@ use Rattle.vcd_way.specs.Steps.{vector_step, other_step, step_at, step, state_be
 use Rattle.vcd_way.specs.Answers.{cut_at, fault_at_end, first_fault_by, events_by, events_so_far_by, events_before_end_by}
 use Rattle.vcd_way.specs.Answers.{fault_so_far_by, header_in, header_by, header_so_far_by, header_at_end_by}
 use Rattle.vcd_way.specs.Strict.{StrictHeader, strict_manner, strict, marks_by}
-use Rattle.vcd_way.proofs.Blocks.{Alike, alike-append, alike-samples, alike-ended}
+use Rattle.vcd_way.proofs.Blocks.{Alike, alike-append, alike-samples, alike-ended, no_holes}
 use Rattle.vcd_way.proofs.Header.{mode_of_section, mode_of_spot, known_of, is_sound, Follows, follows-if, at, header-same}
 use Rattle.vcd_way.proofs.Header.{section-same}
 use Rattle.vcd_way.proofs.Values.{same-word, same-value, same-vector-turn, same-beside, same-remark}
@@ -199,6 +199,13 @@ unfolding samples_of events_by
 same-samples text =
     alike-samples [] [] None course_at_first (events_in nothing (tokens_of text))
     (happenings_in strict begun (tokens_of text)) (λ e. refl) refl (same-tokens (tokens_of text)).alike
+
+pub same-count : (text : List ℕ) → length (events_by strict text) ≡ length (samples_of text)
+unfolding events_by
+same-count text =
+    sym (no_holes [] None course_at_first (events_in nothing (tokens_of text))
+    (happenings_in strict begun (tokens_of text)) (same-tokens (tokens_of text)).alike)
+    ∙ sym (ap length (same-samples text))
 
 pub same-before_end : (text : List ℕ) → samples_before_end text ≡ samples_among (events_before_end_by strict text)
 unfolding samples_before_end events_before_end_by

@@ -1,4 +1,4 @@
-ghost use Rattle.std.specs.Prelude.{◌≡◌, ℕ, List, [], ◌++◌, Some, None, is_some, option_map, ◌⊎◌};
+ghost use Rattle.std.specs.Prelude.{◌≡◌, ℕ, List, [], ◌++◌, Some, None, is_some, option_map, length, ◌⊎◌};
 ghost use Rattle.vcd_grammar.specs.declared.fault.VcdFault.{VcdFault};
 ghost use Rattle.vcd_grammar.specs.Reading.{first_fault, samples_of, samples_before_end, samples_so_far, marks_of, fault_so_far, marks_so_far, marks_at_end};
 ghost use Rattle.vcd_way.specs.Ways.{Way};
@@ -10,10 +10,12 @@ ghost use Rattle.vcd_grammar.specs.Tokens.{tokens_so_far, tokens_of};
 
 use vcd_grammar::marks_come_first;
 
-/// The strict way is the grammar: the same faults, samples and marks, of a whole text and of its first bytes.
+/// The strict way is the grammar: the same faults, samples and marks, of a whole text and of its first bytes. It tells
+/// samples alone.
 pub fn strict_is_the_grammar()
     ensures fault { (text : List ℕ) → first_fault text ≡ first_fault_by strict text }
     ensures samples { (text : List ℕ) → samples_of text ≡ samples_among (events_by strict text) }
+    ensures alone { (text : List ℕ) → length (events_by strict text) ≡ length (samples_of text) }
     ensures before_end { (text : List ℕ) →
         samples_before_end text ≡ samples_among (events_before_end_by strict text) }
     ensures marks { (text : List ℕ) → marks_of text ≡ marks_by (header_by strict text) }
@@ -56,4 +58,14 @@ pub fn header_comes_first<W>()
         header_so_far_by way (fed ++ more) ≡ Some h }
     ensures whole { (way : Way W) (fed more : List ℕ) (h : W) → header_so_far_by way fed ≡ Some h →
         header_by way (fed ++ more) ≡ h }
+{}
+
+/// In each way what first bytes of a text tell, the whole text tells first, and a fault among them is its first fault.
+pub fn first_bytes_stay<W>()
+    ensures so_far { (way : Way W) (fed more : List ℕ) →
+        (rest : List DumpEvent) × (events_so_far_by way (fed ++ more) ≡ events_so_far_by way fed ++ rest) }
+    ensures events { (way : Way W) (fed more : List ℕ) →
+        (rest : List DumpEvent) × (events_by way (fed ++ more) ≡ events_so_far_by way fed ++ rest) }
+    ensures fault { (way : Way W) (fed more : List ℕ) (f : VcdFault) → fault_so_far_by way fed ≡ Some f →
+        first_fault_by way (fed ++ more) ≡ Some f }
 {}

@@ -1,5 +1,5 @@
 use Rattle.vcd_way.proofs.Same.{same-first_fault, same-samples, same-before_end, same-marks, same-fault_so_far, same-so_far}
-use Rattle.vcd_way.proofs.Same.{same-marks_so_far, same-marks_at_end}
+use Rattle.vcd_way.proofs.Same.{same-count, same-marks_so_far, same-marks_at_end}
 use Rattle.vcd_way.proofs.laws.strict_is_the_grammar.Goals as goal
 
 pub returns-clause-fault : goal.returns-clause-fault
@@ -25,3 +25,6 @@ returns-clause-marks_so_far c = λ fed. same-marks_so_far fed (c.marks_come_firs
 
 pub returns-clause-marks_at_end : goal.returns-clause-marks_at_end
 returns-clause-marks_at_end c = λ text. same-marks_at_end text (c.marks_come_first.ensures.over_at_end text)
+
+pub returns-clause-alone : goal.returns-clause-alone
+returns-clause-alone c = same-count
