@@ -116,6 +116,20 @@ unit = refl
 pub place : map (line_number (codes "a\nb\n")) (0 ∷ 1 ∷ 2 ∷ 4 ∷ []) ≡ 1 ∷ 1 ∷ 2 ∷ 3 ∷ []
 place = refl
 
+-- a hole whose values the dump leaves out
+pub hole : map numbers_of
+    (events_by wide (header ++ codes "#0 0! 0a b0 A\n#5 1!\n$dumpoff $end\n#20 1!\n#25 0!\n#30 1!\n"))
+    ≡ (5 ∷ 0 ∷ 0 ∷ 0 ∷ 0 ∷ []) ∷ (5 ∷ []) ∷ (30 ∷ 0 ∷ 128 ∷ 0 ∷ 8589934591 ∷ []) ∷ []
+unfolding first_fault_by events_by events_so_far_by ended_at grown_at number_up_to time_in extended header_word
+    value_word_by is_read_past level_of control_of bits_without sample_at step declaration_of wide_digit
+hole = refl
+
+-- the block that stands open at an early end does not count
+pub early : events_by wide (header ++ codes "#0 0! 0a b0 A\n#5 1! b10") ≡ []
+unfolding first_fault_by events_by events_so_far_by ended_at grown_at number_up_to time_in extended header_word
+    value_word_by is_read_past level_of control_of bits_without sample_at step declaration_of wide_digit
+early = refl
+
 -- ---- faults
 
 -- behind the header at time 0
