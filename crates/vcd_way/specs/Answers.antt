@@ -1,4 +1,5 @@
--- What a text tells in a way to read it: its header, its events, and its first fault; the same for its first bytes.
+-- What a text tells in a way to read it: its header, its events, and its first fault; the same for
+-- its first bytes.
 use Rattle.std.specs.Prelude.{◌≡◌, ℕ, Bool, not, ◌&&◌, if◌then◌else◌, List, length, Option, Some, None, is_some}
 use Rattle.vcd_grammar.specs.declared.fault.VcdFault.{VcdFault}
 use Rattle.vcd_grammar.specs.declared.fault.VcdCause.TheVariants as causes
@@ -26,7 +27,8 @@ abbrev pub cut_at : Spot → ℕ → Option VcdFault
 cut_at AtValues place = None
 cut_at _ place = Some (record { place = place; cause = causes.Cut })
 
--- the first fault of a text that ends at a place: a fault of a token, or that the text may not end there
+-- the first fault of a text that ends at a place: a fault of a token, or that the text may not end
+-- there
 abbrev pub fault_at_end : Option VcdFault → Spot → ℕ → Option VcdFault
 fault_at_end (Some fault) spot place = Some fault
 fault_at_end None spot place = cut_at spot place
@@ -36,8 +38,8 @@ abbrev pub whole_fault : {W : Type 0} → Way W → List ℕ → Option VcdFault
 whole_fault way text =
     let s = state_of way (tokens_of text) in fault_at_end s.fault s.spot (length text)
 
--- the text ends early: behind its header, up to the last white space, there is no fault; but its end is one, and the way
--- lets it pass
+-- the text ends early: behind its header, up to the last white space, there is no fault; but its
+-- end is one, and the way lets it pass
 abbrev pub is_early : {W : Type 0} → Way W → List ℕ → Bool
 is_early way text =
     let s = state_of way (tokens_so_far text) in
@@ -55,7 +57,8 @@ early_end_by way text = if is_early way text then whole_fault way text else None
 unfoldable pub events_so_far_by : {W : Type 0} → Way W → List ℕ → List DumpEvent
 events_so_far_by way fed = events_in_pieces way (over (pieces_in way (tokens_so_far fed)))
 
--- what a text tells, where its end ends the last block; of one that ends early, the pieces that are over
+-- what a text tells, where its end ends the last block; of one that ends early, the pieces that are
+-- over
 unfoldable pub events_by : {W : Type 0} → Way W → List ℕ → List DumpEvent
 events_by way text =
     if is_early way text then events_so_far_by way text
@@ -69,7 +72,8 @@ events_before_end_by way text = events_in_pieces way (over (pieces_in way (token
 unfoldable pub fault_so_far_by : {W : Type 0} → Way W → List ℕ → Option VcdFault
 fault_so_far_by way fed = (state_of way (tokens_so_far fed)).fault
 
--- what a way keeps of a header, once it is over among the first tokens of a text; behind a fault no more is kept
+-- what a way keeps of a header, once it is over among the first tokens of a text; behind a fault no
+-- more is kept
 abbrev pub header_in : {W : Type 0} → Way W → List Token → Option W
 header_in way tokens = if is_header_over tokens then Some (state_of way tokens).header else None
 

@@ -18,8 +18,9 @@ with_word section word = record section { words = section.words ++ word ∷ [] }
 abbrev pub word_of_section : DumpSection → ℕ → List ℕ
 word_of_section section number = option_map_or (λ word. word) (slice_get section.words number) []
 
--- a variable, as a header declares it: the place of its `$var`; how many words there are; its type, its width, its code,
--- and its reference; the words behind the reference; and the scopes that it stands in, the outermost first
+-- a variable, as a header declares it: the place of its `$var`; how many words there are; its type,
+-- its width, its code, and its reference; the words behind the reference; and the scopes that it
+-- stands in, the outermost first
 pub record Declaration : Type 0 where
   pub place : ℕ
   pub count : ℕ
@@ -35,7 +36,8 @@ abbrev pub as_one : List (List ℕ) → List ℕ
 as_one [] = []
 as_one (word ∷ words) = word ++ as_one words
 
--- the range of a variable, as it is written: what its reference has from a `[` on, and the words behind it
+-- the range of a variable, as it is written: what its reference has from a `[` on, and the words
+-- behind it
 abbrev pub range_of : Declaration → List ℕ
 range_of d = drop (length (name_in d.reference)) d.reference ++ as_one d.behind
 
@@ -56,7 +58,8 @@ declaration_with path section (Some width) =
     })
     else None
 
--- the declaration that a section is in these scopes: it has four words at least, its width is a number, and its code one
+-- the declaration that a section is in these scopes: it has four words at least, its width is a
+-- number, and its code one
 unfoldable pub declaration_of : List (List ℕ) → DumpSection → Option Declaration
 declaration_of path section = declaration_with path section (width_in (word_of_section section 1))
 

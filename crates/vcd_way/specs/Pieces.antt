@@ -1,4 +1,5 @@
--- What the tokens behind the header do, in any way to read a dump, and the pieces that it makes of a dump.
+-- What the tokens behind the header do, in any way to read a dump, and the pieces that it makes of
+-- a dump.
 use Rattle.std.specs.Prelude.{ℕ, ◌+◌, ◌-◌, ◌==◌, count_by, List, [], ◌∷◌, ◌++◌, length, take, Option, Some, None}
 use Rattle.vcd_way.specs.declared.tap.Tap.{Tap}
 
@@ -22,14 +23,14 @@ pub data Happening : Type 0 where
   Gets : TapChange → Happening
   Stops : List ℕ → Happening
 
--- a block, which is all changes at one time, with its stamp; or a hole, with the stamp before it and the lines that are
--- unknown behind it. What stands before the first stamp has none
+-- a block, which is all changes at one time, with its stamp; or a hole, with the stamp before it
+-- and the lines that are unknown behind it. What stands before the first stamp has none
 pub data Piece : Type 0 where
   Changes : Option Stamp → List TapChange → Piece
   Gap : Option Stamp → List ℕ → Piece
 
--- the pieces of what happens behind some changes of a block that stands open; the last one is the block that stands open
--- behind it. A stamp or a hole ends a block
+-- the pieces of what happens behind some changes of a block that stands open; the last one is the
+-- block that stands open behind it. A stamp or a hole ends a block
 abbrev pub pieces_from : Option Stamp → List TapChange → List Happening → List Piece
 pieces_from stamp block [] = Changes stamp block ∷ []
 pieces_from stamp block (Comes next ∷ hs) = Changes stamp block ∷ pieces_from (Some next) [] hs

@@ -32,8 +32,9 @@ pub data Spot : Type 0 where
   -- in a section behind the header
   InRemark : DumpSection → Spot
 
--- what is known behind some tokens: the first fault; where the next token stands; the scopes that are open, the outermost
--- first; what the way keeps of the header; the last time; and the sections that say nothing of the lines
+-- what is known behind some tokens: the first fault; where the next token stands; the scopes that
+-- are open, the outermost first; what the way keeps of the header; the last time; and the sections
+-- that say nothing of the lines
 pub record DumpState (W : Type 0) : Type 0 where
   pub fault : Option VcdFault
   pub spot : Spot
@@ -106,7 +107,8 @@ abbrev pub declared_step : {W : Type 0} → Way W → DumpState W → ℕ → Op
 declared_step way s place None = breaks s place causes.Header
 declared_step way s place (Some declaration) = kept_step s place (way.declares s.header declaration)
 
--- the scopes that are open behind a section: `$scope` opens one inside them, `$upscope` closes the innermost
+-- the scopes that are open behind a section: `$scope` opens one inside them, `$upscope` closes the
+-- innermost
 abbrev pub path_behind : List (List ℕ) → DumpSection → List (List ℕ)
 path_behind path section =
     if same (codes "$scope") section.keyword then path ++ word_of_section section 1 ∷ []
@@ -130,7 +132,8 @@ abbrev pub is_declaring : HeaderWord → Bool
 is_declaring Declares = true
 is_declaring _ = false
 
--- a token in a section: its `$end`, or one more word; one that is too long is a fault in a declaration alone
+-- a token in a section: its `$end`, or one more word; one that is too long is a fault in a
+-- declaration alone
 abbrev pub section_step : {W : Type 0} → Way W → DumpState W → DumpSection → Token → Step W
 section_step way s section t =
     if is_long t.word && is_declaring (header_word section.keyword) then breaks s t.place causes.Token
@@ -159,8 +162,8 @@ abbrev pub vector_by : Manner → List ℕ → ValueWord
 vector_by m [] = Wrong
 vector_by m (b ∷ bs) = if m.takes_any || list_all (is_digit_by m) (b ∷ bs) then Vector (b ∷ bs) else Wrong
 
--- what a token says between the values: `#` begins a time stamp, a digit a scalar change, `b` a vector, `r` and `s` a
--- real number and a string; any other token with `$` opens a section
+-- what a token says between the values: `#` begins a time stamp, a digit a scalar change, `b` a
+-- vector, `r` and `s` a real number and a string; any other token with `$` opens a section
 unfoldable pub value_word_by : Manner → List ℕ → ValueWord
 value_word_by m [] = Wrong
 value_word_by m (b ∷ bs) =
@@ -178,7 +181,8 @@ comes s place time = record {
   happenings = Comes (record { time = time; place = place }) ∷ [];
 }
 
--- a time stamp, behind the last one: the first and each greater one ends the block, an equal one goes on with it
+-- a time stamp, behind the last one: the first and each greater one ends the block, an equal one
+-- goes on with it
 abbrev pub stamp_step : {W : Type 0} → DumpState W → ℕ → ℕ → Option ℕ → Step W
 stamp_step s place time None = comes s place time
 stamp_step s place time (Some last) =

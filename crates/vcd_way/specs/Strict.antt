@@ -1,4 +1,5 @@
--- The strict way: the first variable of each name of the signal table is that line, whatever its scope, and has its width.
+-- The strict way: the first variable of each name of the signal table is that line, whatever its
+-- scope, and has its width.
 use Rattle.std.specs.Prelude.{ℕ, false, ◌||◌, ◌==◌, if◌then◌else◌, List, [], ◌∷◌, ◌++◌, map, Option, Some, None, option_map}
 use Rattle.fsb_signal.specs.Table.{table, signal_number}
 use Rattle.fsb_signal.specs.DumpText.{width_of}
@@ -32,7 +33,8 @@ abbrev pub with_strict_line : StrictHeader → List ℕ → ℕ → Kept StrictH
 with_strict_line h code number =
     Keeps (record { lines = h.lines ++ number ∷ []; codes = with_code h.codes code (number ∷ []) }) (number ∷ [])
 
--- a variable of a line's name is that line, where its type allows it and no earlier variable is; it must have the line's width
+-- a variable of a line's name is that line, where its type allows it and no earlier variable is; it
+-- must have the line's width
 abbrev pub strict_named : StrictHeader → Declaration → Option ℕ → Kept StrictHeader
 strict_named h d None = with_other h d.code
 strict_named h d (Some number) =
@@ -56,7 +58,8 @@ strict_closes h = strict_closed h (missing_from h.lines 0 table)
 abbrev pub strict_taps : StrictHeader → List ℕ → Option (List Tap)
 strict_taps h code = option_map (map whole) (lines_of h.codes code)
 
--- the digits are 0, 1, x and z, the rising edge samples, holes are read past, and nothing else is let pass
+-- the digits are 0, 1, x and z, the rising edge samples, holes are read past, and nothing else is
+-- let pass
 abbrev pub strict_manner : Manner
 strict_manner = record {
   digit = strict_digit;

@@ -1,12 +1,13 @@
--- A way to read a dump: who is a line of the bus, of which bits, which bytes are digits, and when there is a sample.
+-- A way to read a dump: who is a line of the bus, of which bits, which bytes are digits, and when
+-- there is a sample.
 use Rattle.std.specs.Prelude.{ℕ, Bool, List, Option}
 use Rattle.vcd_grammar.specs.declared.fault.VcdCause.{VcdCause}
 use Rattle.vcd_way.specs.declared.tap.Tap.{Tap}
 use Rattle.vcd_way.specs.declared.tap.Edge.{Edge}
 use Rattle.vcd_way.specs.Declarations.{Declaration}
 
--- what a header makes of a declaration, or of its own end: what is known of it then, with the lines that are unknown
--- from here on; or a fault
+-- what a header makes of a declaration, or of its own end: what is known of it then, with the lines
+-- that are unknown from here on; or a fault
 pub data Kept (W : Type 0) : Type 0 where
   Keeps : W → List ℕ → Kept W
   Refuses : VcdCause → Kept W

@@ -1,4 +1,5 @@
--- What dumps of any tool have beside the strict ones: the digits of VHDL, words before the header, holes, and early ends.
+-- What dumps of any tool have beside the strict ones: the digits of VHDL, words before the header,
+-- holes, and early ends.
 use Rattle.std.specs.Prelude.{ℕ, Bool, true, false, ◌==◌, if◌then◌else◌, List, [], codes, Option, Some, None}
 use Rattle.std.specs.List.{list_any}
 use Rattle.vcd_grammar.specs.Digits.{is_value_digit}

@@ -1,5 +1,5 @@
-/// So many bits of a variable, from `low` on, stand for as many of a line, from `lowest` on. Bits are counted from the
-/// lowest, which is 0.
+/// So many bits of a variable, from `low` on, stand for as many of a line, from `lowest` on. Bits
+/// are counted from the lowest, which is 0.
 #[derive(Clone, Copy, Debug, PartialEq, Eq)]
 pub struct BitRun {
     pub count: u8,
