@@ -1,0 +1,8 @@
+mod Blocks
+mod Digits
+mod Header
+mod Values
+mod Same
+mod Headings
+mod Longer
+mod Rows

@@ -1,0 +1,183 @@
+-- Small dumps of other kinds, with what they tell, worked out by hand: what the definitions make of them is that.
+use Rattle.std.specs.Prelude.{◌≡◌, ℕ, ◌+◌, ◌++◌, [], ◌∷◌, length, map, List, true, false, if◌then◌else◌, Option, Some}
+use Rattle.std.specs.Prelude.{None, codes}
+use Rattle.std.proofs.Common.{refl}
+use Rattle.vcd_grammar.specs.declared.fault.VcdFault.{VcdFault}
+use Rattle.vcd_grammar.specs.declared.fault.VcdCause.TheVariants as causes
+use Rattle.vcd_grammar.specs.Tokens.{ended_at, grown_at, tokens_of}
+use Rattle.vcd_grammar.specs.Digits.{number_up_to, time_in, extended}
+use Rattle.vcd_grammar.specs.Words.{same, header_word, is_read_past, name_in}
+use Rattle.vcd_grammar.specs.Levels.{level_of, control_of, bits_without}
+use Rattle.vcd_grammar.specs.Values.{sample_at}
+use Rattle.vcd_way.specs.Declarations.{Declaration, declaration_of, range_of, timescale_in}
+use Rattle.vcd_way.specs.declared.tap.BitRun.{BitRun}
+use Rattle.vcd_way.specs.declared.tap.Part.TheVariants as pieces
+use Rattle.vcd_way.specs.declared.tap.Tap.{Tap}
+use Rattle.vcd_way.specs.declared.tap.Edge.TheVariants as sides
+use Rattle.vcd_way.specs.Ways.{Keeps, Manner, Way}
+use Rattle.vcd_way.specs.Pieces.{line_number}
+use Rattle.vcd_way.specs.Events.{DumpEvent, Sampled, Hole, with_part}
+use Rattle.vcd_way.specs.Steps.{value_word_by, step}
+use Rattle.vcd_way.specs.Answers.{state_of, first_fault_by, early_end_by, events_so_far_by, events_by, header_by}
+use Rattle.vcd_way.specs.Wide.{wide_digit, wide_manner}
+
+-- a way for these rows: `clk` is the clock; `ads` is ADS_n, active high; `addr` has 36 bits, active high, of which all but
+-- the lowest three are A_n
+abbrev taps_for : Declaration → List Tap
+taps_for d =
+    if same (codes "clk") (name_in d.reference) then
+    record { line = 0; width = d.width; part = pieces.Whole; is_high = false } ∷ []
+    else (if same (codes "ads") (name_in d.reference) then
+    record { line = 8; width = d.width; part = pieces.Whole; is_high = true } ∷ []
+    else (if same (codes "addr") (name_in d.reference) then
+    record {
+      line = 10;
+      width = d.width;
+      part = pieces.Bits (record { count = 33; low = 3; lowest = 0; is_turned = false });
+      is_high = true;
+    } ∷ []
+    else []))
+
+-- what stands for a code
+abbrev taps_in : List Declaration → List ℕ → Option (List Tap)
+taps_in [] code = None
+taps_in (d ∷ ds) code = if same code d.code then Some (taps_for d) else taps_in ds code
+
+abbrev row_way : Manner → Way (List Declaration)
+row_way manner = record {
+  start = [];
+  declares = λ ds d. Keeps (ds ++ d ∷ []) [];
+  closes = λ ds. Keeps ds (0 ∷ 8 ∷ 10 ∷ []);
+  lines = λ ds. 0 ∷ 8 ∷ 10 ∷ [];
+  taps = taps_in;
+  manner = manner;
+}
+
+abbrev wide : Way (List Declaration)
+wide = row_way wide_manner
+
+-- the time of an event, and of a sample the control lines, the address, and of each what is unknown
+abbrev numbers_of : DumpEvent → List ℕ
+numbers_of (Sampled s (Some stamp)) = stamp.time ∷ s.lines.0 ∷ s.unknown.0 ∷ s.addr.bits ∷ s.addr.unknown ∷ []
+numbers_of (Sampled s None) = s.lines.0 ∷ s.unknown.0 ∷ s.addr.bits ∷ s.addr.unknown ∷ []
+numbers_of (Hole (Some stamp)) = stamp.time ∷ []
+numbers_of (Hole None) = []
+
+abbrev header : List ℕ
+header =
+    codes "VCD info: opened\n$timescale 1 ns $end\n$scope module tb $end\n$scope module bus $end\n"
+    ++ codes "$var wire 1 ! clk $end\n$var wire 1 a ads $end\n$var wire 36 A addr [35:0] $end\n$upscope $end\n"
+    ++ codes "$var wire 8 m state[7:0] $end\n$upscope $end\n$enddefinitions $end\n"
+
+-- digits of VHDL, a variable that is no line, a hole, and a file that ends early
+abbrev text : List ℕ
+text = header
+    ++ codes "#0 0! ua b101000 A bq m\n#5 1!\n#7 ha\n#10 0!\n#15 1!\n$dumpoff x! xa bx A $end\n"
+    ++ codes "#30 $dumpon 0! 1a b- A $end #35 1!\n#40 0! b10"
+
+pub told : map numbers_of (events_by wide text)
+    ≡ (5 ∷ 0 ∷ 128 ∷ 5 ∷ 0 ∷ [])
+    ∷ (15 ∷ 128 ∷ 0 ∷ 5 ∷ 0 ∷ [])
+    ∷ (15 ∷ [])
+    ∷ (35 ∷ 128 ∷ 0 ∷ 0 ∷ 8589934591 ∷ []) ∷ []
+unfolding first_fault_by events_by events_so_far_by ended_at grown_at number_up_to time_in extended header_word
+    value_word_by is_read_past level_of control_of bits_without sample_at step declaration_of wide_digit
+told = refl
+
+pub told-fault : first_fault_by wide text ≡ None
+unfolding first_fault_by ended_at grown_at number_up_to time_in extended header_word value_word_by is_read_past step
+    declaration_of wide_digit
+told-fault = refl
+
+pub told-early : early_end_by wide text ≡ Some (record { place = length text; cause = causes.Cut })
+unfolding early_end_by ended_at grown_at number_up_to time_in extended header_word value_word_by is_read_past step
+    declaration_of wide_digit
+told-early = refl
+
+-- the scopes, the ranges, and the unit of time
+pub scopes : map (λ (d : Declaration). d.path) (header_by wide text)
+    ≡ (codes "tb" ∷ codes "bus" ∷ []) ∷ (codes "tb" ∷ codes "bus" ∷ []) ∷ (codes "tb" ∷ codes "bus" ∷ [])
+    ∷ (codes "tb" ∷ []) ∷ []
+unfolding header_by ended_at grown_at number_up_to time_in extended header_word value_word_by is_read_past step
+    declaration_of wide_digit
+scopes = refl
+
+pub ranges : map range_of (header_by wide text) ≡ [] ∷ [] ∷ codes "[35:0]" ∷ codes "[7:0]" ∷ []
+unfolding header_by ended_at grown_at number_up_to time_in extended header_word value_word_by is_read_past step
+    declaration_of wide_digit
+ranges = refl
+
+pub unit : timescale_in (state_of wide (tokens_of header)).remarks ≡ Some (codes "1ns")
+unfolding ended_at grown_at number_up_to time_in extended header_word value_word_by is_read_past step declaration_of
+    wide_digit
+unit = refl
+
+-- the line of the file in which a place stands
+pub place : map (line_number (codes "a\nb\n")) (0 ∷ 1 ∷ 2 ∷ 4 ∷ []) ≡ 1 ∷ 1 ∷ 2 ∷ 3 ∷ []
+place = refl
+
+-- a hole whose values the dump leaves out
+pub hole : map numbers_of
+    (events_by wide (header ++ codes "#0 0! 0a b0 A\n#5 1!\n$dumpoff $end\n#20 1!\n#25 0!\n#30 1!\n"))
+    ≡ (5 ∷ 0 ∷ 0 ∷ 0 ∷ 0 ∷ []) ∷ (5 ∷ []) ∷ (30 ∷ 0 ∷ 128 ∷ 0 ∷ 8589934591 ∷ []) ∷ []
+unfolding first_fault_by events_by events_so_far_by ended_at grown_at number_up_to time_in extended header_word
+    value_word_by is_read_past level_of control_of bits_without sample_at step declaration_of wide_digit
+hole = refl
+
+-- the block that stands open at an early end does not count
+pub early : events_by wide (header ++ codes "#0 0! 0a b0 A\n#5 1! b10") ≡ []
+unfolding first_fault_by events_by events_so_far_by ended_at grown_at number_up_to time_in extended header_word
+    value_word_by is_read_past level_of control_of bits_without sample_at step declaration_of wide_digit
+early = refl
+
+-- ---- faults
+
+-- behind the header at time 0
+abbrev fault_of : List ℕ → Option VcdFault
+fault_of more = first_fault_by wide (header ++ more)
+
+abbrev texts : List (List ℕ)
+texts = codes "#0 qa\n" ∷ codes "#0 qm\n" ∷ codes "#0 bq A\n" ∷ codes "#0 b1111111111111111111111111111111111111 A\n"
+    ∷ codes "#0 1?\n" ∷ codes "#5 #4\n" ∷ codes "#5 #4" ∷ []
+
+pub faults : map fault_of texts
+    ≡ Some (record { place = length header + 3; cause = causes.Token }) ∷ None
+    ∷ Some (record { place = length header + 3; cause = causes.Token })
+    ∷ Some (record { place = length header + 3; cause = causes.Width })
+    ∷ Some (record { place = length header + 3; cause = causes.Code })
+    ∷ Some (record { place = length header + 3; cause = causes.TimeBack }) ∷ None ∷ []
+unfolding first_fault_by ended_at grown_at number_up_to time_in extended header_word value_word_by is_read_past step
+    declaration_of wide_digit
+faults = refl
+
+-- ---- edges
+
+-- a clock that is high at first, and ADS# that comes with its second edge
+abbrev clocked : List ℕ
+clocked = header ++ codes "#0 1! 0a b0 A\n#5 0!\n#10 1! 1a\n#15 0!\n"
+
+-- by default; with its first edge; with ADS# behind the edge; and by the falling edge
+abbrev manners : List Manner
+manners = wide_manner ∷ record wide_manner { takes_first = true } ∷ record wide_manner { late = 8 ∷ [] }
+    ∷ record wide_manner { edge = sides.Falling } ∷ []
+
+pub edges : map (λ m. map numbers_of (events_by (row_way m) clocked)) manners
+    ≡ ((10 ∷ 0 ∷ 0 ∷ 0 ∷ 0 ∷ []) ∷ [])
+    ∷ ((0 ∷ 0 ∷ 0 ∷ 0 ∷ 0 ∷ []) ∷ (10 ∷ 0 ∷ 0 ∷ 0 ∷ 0 ∷ []) ∷ [])
+    ∷ ((10 ∷ 128 ∷ 0 ∷ 0 ∷ 0 ∷ []) ∷ [])
+    ∷ ((5 ∷ 0 ∷ 0 ∷ 0 ∷ 0 ∷ []) ∷ (15 ∷ 128 ∷ 0 ∷ 0 ∷ 0 ∷ []) ∷ []) ∷ []
+unfolding first_fault_by events_by events_so_far_by ended_at grown_at number_up_to time_in extended header_word
+    value_word_by is_read_past level_of control_of bits_without sample_at step declaration_of wide_digit
+edges = refl
+
+-- ---- parts of a line
+
+-- bits 1 and 2 of a variable for bits 0 and 1 of a line; turned round; and for its bits 1 and 2
+abbrev parts : List BitRun
+parts = record { count = 2; low = 1; lowest = 0; is_turned = false }
+    ∷ record { count = 2; low = 1; lowest = 0; is_turned = true }
+    ∷ record { count = 2; low = 1; lowest = 1; is_turned = false } ∷ []
+
+pub put : map (λ run. with_part (pieces.Bits run) (codes "abcd") (codes "wxyz")) parts
+    ≡ codes "wxbc" ∷ codes "wxcb" ∷ codes "wbcz" ∷ []
+put = refl

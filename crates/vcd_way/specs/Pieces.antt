@@ -1,0 +1,46 @@
+-- What the tokens behind the header do, in any way to read a dump, and the pieces that it makes of
+-- a dump.
+use Rattle.std.specs.Prelude.{ℕ, ◌+◌, ◌-◌, ◌==◌, count_by, List, [], ◌∷◌, ◌++◌, length, take, Option, Some, None}
+use Rattle.vcd_way.specs.declared.tap.Tap.{Tap}
+
+-- a time, and the place of its stamp in the text
+pub record Stamp : Type 0 where
+  pub time : ℕ
+  pub place : ℕ
+
+-- the number of the line of a text in which the byte of this place stands, from 1 on
+abbrev pub line_number : List ℕ → ℕ → ℕ
+line_number text place = 1 + count_by (λ b. b == 10) (take place text)
+
+-- what these taps lead to gets these digits
+pub record TapChange : Type 0 where
+  pub taps : List Tap
+  pub digits : List ℕ
+
+-- a greater time comes; or a change; or the dump stops for a time, and these lines are unknown
+pub data Happening : Type 0 where
+  Comes : Stamp → Happening
+  Gets : TapChange → Happening
+  Stops : List ℕ → Happening
+
+-- a block, which is all changes at one time, with its stamp; or a hole, with the stamp before it
+-- and the lines that are unknown behind it. What stands before the first stamp has none
+pub data Piece : Type 0 where
+  Changes : Option Stamp → List TapChange → Piece
+  Gap : Option Stamp → List ℕ → Piece
+
+-- the pieces of what happens behind some changes of a block that stands open; the last one is the
+-- block that stands open behind it. A stamp or a hole ends a block
+abbrev pub pieces_from : Option Stamp → List TapChange → List Happening → List Piece
+pieces_from stamp block [] = Changes stamp block ∷ []
+pieces_from stamp block (Comes next ∷ hs) = Changes stamp block ∷ pieces_from (Some next) [] hs
+pieces_from stamp block (Gets change ∷ hs) = pieces_from stamp (block ++ change ∷ []) hs
+pieces_from stamp block (Stops lines ∷ hs) = Changes stamp block ∷ Gap stamp lines ∷ pieces_from stamp [] hs
+
+-- the pieces of what happens in a text
+abbrev pub pieces_of : List Happening → List Piece
+pieces_of hs = pieces_from None [] hs
+
+-- the pieces that are over: all but the last one
+abbrev pub over : List Piece → List Piece
+over pieces = take (length pieces - 1) pieces

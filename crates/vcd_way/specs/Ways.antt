@@ -1,0 +1,45 @@
+-- A way to read a dump: who is a line of the bus, of which bits, which bytes are digits, and when
+-- there is a sample.
+use Rattle.std.specs.Prelude.{ℕ, Bool, List, Option}
+use Rattle.vcd_grammar.specs.declared.fault.VcdCause.{VcdCause}
+use Rattle.vcd_way.specs.declared.tap.Tap.{Tap}
+use Rattle.vcd_way.specs.declared.tap.Edge.{Edge}
+use Rattle.vcd_way.specs.Declarations.{Declaration}
+
+-- what a header makes of a declaration, or of its own end: what is known of it then, with the lines
+-- that are unknown from here on; or a fault
+pub data Kept (W : Type 0) : Type 0 where
+  Keeps : W → List ℕ → Kept W
+  Refuses : VcdCause → Kept W
+
+-- what a way says of values, whatever was declared
+pub record Manner : Type 0 where
+  -- the digit that a byte means: 0, 1, x for unknown or z for open
+  pub digit : ℕ → Option ℕ
+  -- a value of other bytes is no fault where its code stands for no line
+  pub takes_any : Bool
+  pub edge : Edge
+  -- a clock that is first seen behind its edge has its first edge there
+  pub takes_first : Bool
+  -- the lines that are sampled behind the changes of the edge's own time
+  pub late : List ℕ
+  -- words before the first `$` are read past
+  pub skips_preface : Bool
+  -- where the dump stops for a time, this is told, and all lines are unknown
+  pub tells_holes : Bool
+  -- a last token that is a fault, behind which the text ends, ends it early
+  pub ends_early : Bool
+
+-- a way to read a dump, which keeps a W of what the header declares
+pub record Way (W : Type 0) : Type 0 where
+  -- before the first declaration
+  pub start : W
+  -- behind a declaration
+  pub declares : W → Declaration → Kept W
+  -- behind the end of the header
+  pub closes : W → Kept W
+  -- the lines that were declared
+  pub lines : W → List ℕ
+  -- what a code stands for, where it was declared
+  pub taps : W → List ℕ → Option (List Tap)
+  pub manner : Manner
