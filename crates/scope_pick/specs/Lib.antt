@@ -1,0 +1,5 @@
+pub mod Names
+pub mod Places
+pub mod Wires
+pub mod Scopes
+pub mod ScopeFaults
