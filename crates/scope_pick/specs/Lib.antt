@@ -3,3 +3,5 @@ pub mod Places
 pub mod Wires
 pub mod Scopes
 pub mod ScopeFaults
+pub mod Told
+pub mod Chosen

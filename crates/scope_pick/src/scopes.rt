@@ -18,7 +18,7 @@ pub enum ScopeFault {
     Several(Vec<Named>),
 }
 
-const LINES: [u8; 22] = [
+pub(crate) const LINES: [u8; 22] = [
     0, 1, 2, 3, 4, 5, 6, 7, 8, 9, 10, 11, 12, 13, 14, 15, 16, 17, 18, 19, 20, 21,
 ];
 
@@ -120,7 +120,7 @@ fn like_in(names: &[Named], scope: usize, line: u8) -> Option<Named>
 }
 
 #[tactic(auto, unfolding(crate::specs::Scopes::is_for))]
-fn is_for(scope: usize, line: u8, name: Named) -> bool
+pub(crate) fn is_for(scope: usize, line: u8, name: Named) -> bool
     ensures { result ≡ is_for scope line name }
 {
     name.scope == scope && name.line == line
@@ -164,8 +164,9 @@ fn first_of(names: &[Named], scope: usize) -> Option<Named>
     names.iter().copied().find(|name| name.scope == scope)
 }
 
+/// Whether every needed line is found in the scope, but for the settled ones.
 #[tactic(auto, unfolding(crate::specs::Scopes::is_whole))]
-fn is_whole(names: &[Named], settled: &[u8], scope: usize) -> bool
+pub fn is_whole(names: &[Named], settled: &[u8], scope: usize) -> bool
     ensures { result ≡ is_whole names.now settled.now scope }
 {
     are_settled(names, settled, scope, &LINES)

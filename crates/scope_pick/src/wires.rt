@@ -107,14 +107,14 @@ fn is_beside(one: &Declaration, other: &Declaration) -> bool
 }
 
 #[tactic(auto, unfolding(crate::specs::Wires::is_same_wire))]
-fn is_same_wire(one: &Declaration, other: &Declaration) -> bool
+pub(crate) fn is_same_wire(one: &Declaration, other: &Declaration) -> bool
     ensures { result ≡ is_same_wire one.now other.now }
 {
     one.code == other.code
 }
 
 #[tactic(auto, unfolding(crate::specs::Wires::is_wire_kind))]
-fn is_wire_kind(kind: &[u8]) -> bool
+pub(crate) fn is_wire_kind(kind: &[u8]) -> bool
     ensures { result ≡ is_wire_kind kind.now }
 {
     !is_one_of(&OTHER_KINDS, kind)
