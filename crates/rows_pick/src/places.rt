@@ -28,6 +28,7 @@ static PLACES: [(u8, u32, Option<(u32, u32)>, Option<(u32, bool)>); 17] = [
 fn place_lines(rt: HostRuntime) {
     for (line, width, range, place) in PLACES.iter() {
         let range = range.map(|(left, right)| Range { left, right });
+        assert!(rt; *line < 22);
         let found = place_of(*line, *width, range);
         assert_eq!(rt; found.map(|place| (place.low, place.turned)), *place);
     }

@@ -2,6 +2,7 @@
 use Rattle.std.specs.Prelude.{ℕ, Bool, true, false, nat_eq, nat_le, not, ◌-◌, ◌&&◌, List, Option, Some, None, if◌then◌else◌}
 use Rattle.std.specs.List.{position, list_any}
 use Rattle.std.specs.Cmp.Lexicographic.{pointwise}
+use Rattle.std.specs.declared.alloc.Global.{Global}
 use Rattle.std.specs.declared.vec.Vec.{Vec}
 use Rattle.scope_pick.specs.declared.declaration.Declaration.{Declaration}
 use Rattle.scope_pick.specs.declared.declaration.Range.{Range}
@@ -11,23 +12,23 @@ use Rattle.scope_pick.specs.Places.{line_width, place_of, from_bit, is_range_of}
 use Rattle.scope_pick.specs.Wires.{is_same_wire, is_wire_kind}
 
 -- the declaration stands in the scope of this path
-unfoldable pub is_in_scope : List (Vec ℕ) → Declaration → Bool
+unfoldable pub is_in_scope : List (Vec ℕ Global) → Declaration → Bool
 is_in_scope path d = pointwise (λ x y. pointwise nat_eq x.items y.items) d.scope.items path
 
 -- the number of the scope of this path: its first declaration
-unfoldable pub scope_at : List Declaration → List (Vec ℕ) → Option ℕ
+unfoldable pub scope_at : List Declaration → List (Vec ℕ Global) → Option ℕ
 scope_at ds path = position (is_in_scope path) ds
 
 -- the declaration is of this name in the scope of this path
-unfoldable pub is_called : List (Vec ℕ) → List ℕ → Declaration → Bool
+unfoldable pub is_called : List (Vec ℕ Global) → List ℕ → Declaration → Bool
 is_called path name d = is_in_scope path d && pointwise nat_eq d.name.items name
 
 -- the first variable of the name in the scope
-unfoldable pub variable_at : List Declaration → List (Vec ℕ) → List ℕ → Option ℕ
+unfoldable pub variable_at : List Declaration → List (Vec ℕ Global) → List ℕ → Option ℕ
 variable_at ds path name = position (is_called path name) ds
 
 -- a variable of the same name and scope, but of another wire
-unfoldable pub has_other_wire : List Declaration → List (Vec ℕ) → List ℕ → Declaration → Bool
+unfoldable pub has_other_wire : List Declaration → List (Vec ℕ Global) → List ℕ → Declaration → Bool
 has_other_wire ds path name d = list_any (λ e. is_called path name e && not (is_same_wire e d)) ds
 
 -- the bit of an index, counted from the last digit

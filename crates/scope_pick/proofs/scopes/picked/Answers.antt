@@ -13,7 +13,7 @@ along ns settled scopes h = rw h refl
 -- a list that is not empty by its length is not empty
 some : (empty : Bool) (n : ℕ) (xs ys : List Named) → empty ≡ nat_eq n 0 → empty ≡ false → length xs ≡ n
     → xs ≡ ys → ys ≢ []
-some empty n xs ys h no len same e =
+some empty n xs ys h full len same e =
     let z : n ≡ 0 = sym len ∙ ap length (same ∙ e) in
     let t : empty ≡ true = h ∙ ap (λ k. nat_eq k 0) z in
     cc
