@@ -2,8 +2,8 @@
 
 use crate::headers::*;
 use scope_pick::{
-    Declaration, Range, ambiguous_lines, found_in, has_other_wire, named_lines, other_names, scope_at,
-    tap_named, tap_of, unfound_lines, variable_at,
+    Declaration, Range, ambiguous_lines, found_in, has_other_wire, named_lines, other_names,
+    scope_at, tap_named, tap_of, unfound_lines, variable_at,
 };
 use std::alloc::{AllocError, Global};
 use std::process::Abort;
@@ -38,7 +38,13 @@ fn find_scope(rt: HostRuntime) {
 }
 
 /// Headers, a scope, a name in it, its first variable, and whether another wire has the name.
-static VARIABLES: [(&'static str, &'static str, &'static str, Option<usize>, bool); 5] = [
+static VARIABLES: [(
+    &'static str,
+    &'static str,
+    &'static str,
+    Option<usize>,
+    bool,
+); 5] = [
     (TWO_BUSES, "tb.right", "ADS_n", Some(14), false),
     (TWO_BUSES, "tb.right", "ads_n", None, false),
     (EXACT_AND_LOOSE, "tb.dut", "ads_l", Some(0), false),
@@ -94,10 +100,38 @@ static TAPS: [(
     ("wire", 8, None, 8, Some((5, 5)), Some((5, false))),
     ("wire", 8, None, 8, Some((8, 8)), None),
     ("wire", 8, None, 8, Some((1, 0)), None),
-    ("wire", 36, Some((35, 0)), 10, Some((35, 3)), Some((3, false))),
-    ("wire", 36, Some((35, 0)), 10, Some((3, 35)), Some((3, true))),
-    ("wire", 36, Some((0, 35)), 10, Some((3, 35)), Some((0, false))),
-    ("wire", 36, Some((0, 35)), 10, Some((35, 3)), Some((0, true))),
+    (
+        "wire",
+        36,
+        Some((35, 0)),
+        10,
+        Some((35, 3)),
+        Some((3, false)),
+    ),
+    (
+        "wire",
+        36,
+        Some((35, 0)),
+        10,
+        Some((3, 35)),
+        Some((3, true)),
+    ),
+    (
+        "wire",
+        36,
+        Some((0, 35)),
+        10,
+        Some((3, 35)),
+        Some((0, false)),
+    ),
+    (
+        "wire",
+        36,
+        Some((0, 35)),
+        10,
+        Some((35, 3)),
+        Some((0, true)),
+    ),
     ("wire", 36, Some((35, 0)), 10, Some((36, 4)), None),
     ("wire", 36, Some((40, 0)), 10, Some((35, 3)), None),
     ("event", 1, None, 8, Some((0, 0)), None),
@@ -134,7 +168,10 @@ fn tell_of_scope(rt: HostRuntime) {
     let declared = declarations(alloc, ALIASES).expect(&rt, "memory");
     let names = named_lines(alloc, &declared).expect(&rt, "memory");
     let unfound = unfound_lines(alloc, &names, 12).expect(&rt, "memory");
-    assert_eq!(rt; unfound.as_slice(), &[2, 3, 4, 6, 7, 11, 14, 20, 21]);
+    assert_eq!(rt;
+        unfound.as_slice(),
+        [2, 3, 4, 6, 7, 11, 14, 20, 21].as_slice()
+    );
 
     let declared = declarations(alloc, EXACT_AND_LOOSE).expect(&rt, "memory");
     let names = named_lines(alloc, &declared).expect(&rt, "memory");
@@ -151,5 +188,5 @@ fn tell_of_scope(rt: HostRuntime) {
     let declared = declarations(alloc, LOOSE_TWICE).expect(&rt, "memory");
     let names = named_lines(alloc, &declared).expect(&rt, "memory");
     let ambiguous = ambiguous_lines(alloc, &names, 0).expect(&rt, "memory");
-    assert_eq!(rt; ambiguous.as_slice(), &[8]);
+    assert_eq!(rt; ambiguous.as_slice(), [8].as_slice());
 }

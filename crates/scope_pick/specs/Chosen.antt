@@ -35,9 +35,9 @@ has_other_wire ds path name d = list_any (λ e. is_called path name e && not (is
 unfoldable pub bit_of : Range → ℕ → Option ℕ
 bit_of range index =
     if nat_le range.right range.left then
-        if nat_le range.right index && nat_le index range.left then Some (index - range.right) else None
+    if nat_le range.right index && nat_le index range.left then Some (index - range.right) else None
     else
-        if nat_le range.left index && nat_le index range.right then Some (range.right - index) else None
+    if nat_le range.left index && nat_le index range.right then Some (range.right - index) else None
 
 -- the bits from one to the other, which are turned where the first is the lower
 abbrev pub between_bits : ℕ → ℕ → Place
@@ -52,20 +52,29 @@ place_between (Some high) (Some low) = Some (between_bits high low)
 unfoldable pub place_named : ℕ → Range → Range → Option Place
 place_named line range bits =
     if is_range_of (line_width line) bits
-        then place_between (bit_of range bits.left) (bit_of range bits.right) else None
+    then place_between (bit_of range bits.left) (bit_of range bits.right) else None
 
 -- what is taken of the variable with this place in the list, at these bits of it
 unfoldable pub tap_at : ℕ → ℕ → ℕ → Bool → Place → Tap
 tap_at index width line inverted place = record {
-    line = line; code = index; width = width; low = place.low; count = line_width line; to = 0;
-    turned = place.turned; inverted = inverted }
+  line = line;
+  code = index;
+  width = width;
+  low = place.low;
+  count = line_width line;
+  to = 0;
+  turned = place.turned;
+  inverted = inverted;
+}
 
 -- what is taken of a variable that is the line
 unfoldable pub tap_of : ℕ → Declaration → ℕ → Bool → Option Tap
 tap_of index d line inverted =
-    elim (place_of line d.width d.range)
-        [ None ↦ None | Some p ↦ if is_wire_kind d.kind.items
-            then Some (tap_at index d.width line inverted p) else None ]
+    elim (place_of line d.width d.range) [
+      | None ↦ None
+      | Some p ↦ if is_wire_kind d.kind.items
+          then Some (tap_at index d.width line inverted p) else None
+    ]
 
 -- the variable's range, or that of its width where none is written
 unfoldable pub written_range : ℕ → Option Range → Range
@@ -75,6 +84,8 @@ written_range width (Some range) = range
 -- what is taken of a variable of which the user names the bits
 unfoldable pub tap_named : ℕ → Declaration → ℕ → Bool → Range → Option Tap
 tap_named index d line inverted bits =
-    elim (place_named line (written_range d.width d.range) bits)
-        [ None ↦ None | Some p ↦ if is_wire_kind d.kind.items && is_range_of d.width (written_range d.width d.range)
-            then Some (tap_at index d.width line inverted p) else None ]
+    elim (place_named line (written_range d.width d.range) bits) [
+      | None ↦ None
+      | Some p ↦ if is_wire_kind d.kind.items && is_range_of d.width (written_range d.width d.range)
+          then Some (tap_at index d.width line inverted p) else None
+    ]

@@ -1,6 +1,6 @@
 -- Which line of the bus a variable's name stands for.
-use Rattle.std.specs.Prelude.{ℕ, Bool, true, false, nat_eq, nat_le, ◌+◌, ◌-◌, ◌&&◌, ◌||◌, not, List, [], ◌∷◌, Option, codes, length, map, take, drop, slice_get, Some, None, if◌then◌else◌}
-use Rattle.std.specs.List.{position, starts_with, ends_with, list_any}
+use Rattle.std.specs.Prelude.{ℕ, Bool, false, nat_eq, nat_le, ◌-◌, ◌&&◌, not, List, [], ◌∷◌, Option, codes, length, take, drop, slice_get, Some, None, if◌then◌else◌}
+use Rattle.std.specs.List.{position, starts_with, ends_with}
 use Rattle.std.specs.Cmp.Lexicographic.{pointwise}
 use Rattle.std.specs.Str.{str_to_ascii_lowercase}
 use Rattle.fsb_signal.specs.Table.{table, TableEntry}

@@ -40,11 +40,11 @@ from_bit low turned = record { low = low; turned = turned }
 unfoldable pub place_by_index : ℕ → Range → Option Place
 place_by_index line range =
     if nat_le range.right range.left then
-        if nat_le range.right (lowest_index line) && nat_le (highest_index line) range.left
-            then Some (from_bit (lowest_index line - range.right) false) else None
+    if nat_le range.right (lowest_index line) && nat_le (highest_index line) range.left
+    then Some (from_bit (lowest_index line - range.right) false) else None
     else
-        if nat_le range.left (lowest_index line) && nat_le (highest_index line) range.right
-            then Some (from_bit (range.right - highest_index line) true) else None
+    if nat_le range.left (lowest_index line) && nat_le (highest_index line) range.right
+    then Some (from_bit (range.right - highest_index line) true) else None
 
 -- the same, where the range is not written it is from the width less one down to 0
 unfoldable pub place_in_wider : ℕ → ℕ → Option Range → Option Place

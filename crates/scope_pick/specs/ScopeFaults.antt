@@ -1,5 +1,5 @@
 -- Why no scope is picked.
-use Rattle.std.specs.Prelude.{◌≡◌, ◌≢◌, ℕ, List, [], Option, None}
+use Rattle.std.specs.Prelude.{◌≡◌, ◌≢◌, ℕ, List, [], None}
 use Rattle.scope_pick.specs.declared.wires.Named.{Named}
 use Rattle.scope_pick.specs.declared.scopes.ScopeFault.{ScopeFault}
 use Rattle.scope_pick.specs.declared.scopes.ScopeFault.TheVariants.{Memory, Missing, Several}

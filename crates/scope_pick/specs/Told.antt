@@ -1,5 +1,5 @@
 -- What is told of the scope that is judged.
-use Rattle.std.specs.Prelude.{ℕ, Bool, nat_eq, not, is_none, ◌&&◌, List, Option, Some, None}
+use Rattle.std.specs.Prelude.{ℕ, Bool, nat_eq, not, is_none, ◌&&◌, List}
 use Rattle.std.specs.List.{filter}
 use Rattle.scope_pick.specs.declared.wires.Named.{Named}
 use Rattle.scope_pick.specs.Scopes.{lines, is_for, is_ambiguous, found_in}

@@ -1,8 +1,7 @@
 -- The variables that are named like lines of the bus.
-use Rattle.std.specs.Prelude.{ℕ, Bool, true, false, nat_eq, not, ◌&&◌, List, [], ◌∷◌, Option, Some, None, codes, is_some, unwrap_or, if◌then◌else◌}
+use Rattle.std.specs.Prelude.{ℕ, Bool, nat_eq, not, ◌&&◌, List, [], ◌∷◌, Option, Some, None, codes, is_some, unwrap_or, if◌then◌else◌}
 use Rattle.std.specs.List.{position, list_any, filter_map, enumerate_from}
 use Rattle.std.specs.Cmp.Lexicographic.{pointwise}
-use Rattle.std.specs.declared.vec.Vec.{Vec}
 use Rattle.scope_pick.specs.declared.declaration.Declaration.{Declaration}
 use Rattle.scope_pick.specs.declared.wires.Named.{Named}
 use Rattle.scope_pick.specs.Names.{line_named, is_exact_name}
@@ -38,10 +37,17 @@ can_be d line = is_wire_kind d.kind.items && is_some (place_of line d.width d.ra
 -- the i-th variable as a line of the bus, if its name is one
 unfoldable pub named_at : List Declaration → ℕ → Declaration → Option Named
 named_at ds i d =
-    elim (line_named d.name.items) [ None ↦ None | Some n ↦
-        if can_be d n then Some (record {
-            index = i; line = n; exact = is_exact_name n d.name.items;
-            scope = scope_number ds i d; wire = wire_number ds i d }) else None ]
+    elim (line_named d.name.items) [
+      | None ↦ None
+      | Some n ↦
+          if can_be d n then Some (record {
+            index = i;
+            line = n;
+            exact = is_exact_name n d.name.items;
+            scope = scope_number ds i d;
+            wire = wire_number ds i d;
+          }) else None
+    ]
 
 -- all variables that are named like lines, in the order of the header
 unfoldable pub named_lines : List Declaration → List Named

@@ -57,9 +57,8 @@ pub fn has_other_wire(
 ) -> bool
     ensures { result ≡ has_other_wire declarations.now path.now name.now declaration.now }
 {
-    declarations
-        .iter()
-        .any(|other| is_called(path, name, other) && !is_same_wire(other, declaration))
+    declarations.iter().any(|other| is_called(path, name, other)
+        && !is_same_wire(other, declaration))
 }
 
 /// What is taken of a variable as the line, or `None` where it cannot be the line.

@@ -10,7 +10,9 @@ pub use chosen::{Tap, has_other_wire, scope_at, tap_named, tap_of, variable_at};
 pub use declaration::{Declaration, Range};
 pub use names::{is_exact_name, line_named};
 pub use place::{Place, is_line_needed, line_width, place_of};
-pub use scopes::{ScopeFault, first_in, found_in, is_ambiguous, is_settled, is_whole, picked, qualified};
+pub use scopes::{
+    ScopeFault, first_in, found_in, is_ambiguous, is_settled, is_whole, picked, qualified,
+};
 pub use told::{ambiguous_lines, other_names, unfound_lines};
 pub use wires::{Named, named_lines};
 

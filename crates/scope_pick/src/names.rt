@@ -67,7 +67,10 @@ fn low_mark(name: &[u8]) -> usize
     if name.ends_with(b"#") {
         return 1;
     }
-    if ends_with_letters(name, b"_n") || ends_with_letters(name, b"_l") || ends_with_letters(name, b"_b") {
+    if ends_with_letters(name, b"_n")
+        || ends_with_letters(name, b"_l")
+        || ends_with_letters(name, b"_b")
+    {
         return 2;
     }
     0

@@ -116,7 +116,10 @@ fn exact_in(names: &[Named], scope: usize, line: u8) -> Option<Named>
 fn like_in(names: &[Named], scope: usize, line: u8) -> Option<Named>
     ensures { result ≡ like_in names.now scope line }
 {
-    names.iter().copied().find(|name| is_for(scope, line, *name))
+    names
+        .iter()
+        .copied()
+        .find(|name| is_for(scope, line, *name))
 }
 
 #[tactic(auto, unfolding(crate::specs::Scopes::is_for))]
@@ -195,9 +198,7 @@ fn are_same(names: &[Named], scope: usize, other: usize, lines: &[u8]) -> bool
     ensures { result ≡ list_all (λ n.
         has_same (found_in names.now scope n) (found_in names.now other n)) lines.now }
 {
-    lines
-        .iter()
-        .all(|line| has_same(found_in(names, scope, *line), found_in(names, other, *line)))
+    lines.iter().all(|line| has_same(found_in(names, scope, *line), found_in(names, other, *line)))
 }
 
 #[tactic(auto, unfolding(crate::specs::Scopes::has_same))]

@@ -1,4 +1,4 @@
-use Rattle.std.proofs.Common.{◌≡◌, ap, sym, slice_get}
+use Rattle.std.proofs.Common.{◌≡◌, ap, slice_get}
 use Rattle.fsb_signal.specs.Table.{table}
 use Rattle.scope_pick.specs.Places.{line_width, entry_width}
 use Rattle.scope_pick.proofs.place.line_width.Goals as goal

@@ -23,7 +23,8 @@ returns-in-Some c =
     sym (along _ _ _ (c.deref.ensures.value ∙ c.in-Ok.ensures)) ∙ sym c.in-Some.ensures
 
 pub returns-in-None : goal.returns-in-None
-returns-in-None c =
-    ( some _ _ _ _ c.is_empty.ensures c.if-is_empty.false c.deref.ensures.len (c.deref.ensures.value ∙ c.in-Ok.ensures)
-    , c.in-Ok.ensures
-    , sym (along _ _ _ (c.deref.ensures.value ∙ c.in-Ok.ensures)) ∙ sym c.in-None.ensures )
+returns-in-None c = (
+  some _ _ _ _ c.is_empty.ensures c.if-is_empty.false c.deref.ensures.len (c.deref.ensures.value ∙ c.in-Ok.ensures),
+  c.in-Ok.ensures,
+  sym (along _ _ _ (c.deref.ensures.value ∙ c.in-Ok.ensures)) ∙ sym c.in-None.ensures,
+)
