@@ -83,7 +83,8 @@ fn variable(
     })
 }
 
-/// Types, widths and ranges of variables, a line, the bits that the user names, and the lowest bit taken, and whether they are turned.
+/// Types, widths and ranges of variables, a line, the bits that the user names; the lowest bit taken, and whether they
+/// are turned.
 static TAPS: [(
     &'static str,
     u32,

@@ -3,7 +3,7 @@
 use scope_pick::{Range, place_of};
 use std::process::Abort;
 
-/// Lines, the width and range of a variable, and the lowest of its bits that is the line's, and whether they are turned.
+/// Lines, the width and range of a variable, the lowest of its bits that is the line's, and whether they are turned.
 static PLACES: [(u8, u32, Option<(u32, u32)>, Option<(u32, bool)>); 17] = [
     (8, 1, None, Some((0, false))),
     (8, 1, Some((7, 7)), Some((0, false))),

@@ -30,13 +30,16 @@ highest_index line = lowest_index line + line_width line - 1
 -- the range has as many indices as the variable has bits
 unfoldable pub is_range_of : ℕ → Range → Bool
 is_range_of width range =
-    nat_eq (if nat_le range.right range.left then range.left - range.right else range.right - range.left) (width - 1)
+    nat_eq
+    (if nat_le range.right range.left
+    then range.left - range.right else range.right - range.left)
+    (width - 1)
 
 -- the bits from the low one on, as they are or turned
 abbrev pub from_bit : ℕ → Bool → Place
 from_bit low turned = record { low = low; turned = turned }
 
--- the bits of the line's indices in a variable with this range, whose last digit has the right index
+-- the bits of the line's indices in a variable with this range: its last digit has the right index
 unfoldable pub place_by_index : ℕ → Range → Option Place
 place_by_index line range =
     if nat_le range.right range.left then
@@ -52,10 +55,12 @@ place_in_wider line width None = place_by_index line (record { left = width - 1;
 place_in_wider line width (Some range) =
     if is_range_of width range then place_by_index line range else None
 
--- which bits of a variable of this width and range are the line: a variable as wide as the line is taken by place;
+-- which bits of a variable of this width and range are the line:
+-- a variable as wide as the line is taken by place;
 -- in a wider one a word is taken by its indices, and a single line is not looked for
 unfoldable pub place_of : ℕ → ℕ → Option Range → Option Place
 place_of line width range =
     if nat_eq width (line_width line) then Some (from_bit 0 false)
-    else if nat_lt 1 (line_width line) && nat_lt (line_width line) width then place_in_wider line width range
+    else if nat_lt 1 (line_width line) && nat_lt (line_width line) width
+    then place_in_wider line width range
     else None

@@ -6,7 +6,9 @@ use Rattle.scope_pick.specs.Places.{is_line_needed}
 
 -- the numbers of the lines
 abbrev pub lines : List ℕ
-lines = 0 ∷ 1 ∷ 2 ∷ 3 ∷ 4 ∷ 5 ∷ 6 ∷ 7 ∷ 8 ∷ 9 ∷ 10 ∷ 11 ∷ 12 ∷ 13 ∷ 14 ∷ 15 ∷ 16 ∷ 17 ∷ 18 ∷ 19 ∷ 20 ∷ 21 ∷ []
+lines =
+    0 ∷ 1 ∷ 2 ∷ 3 ∷ 4 ∷ 5 ∷ 6 ∷ 7 ∷ 8 ∷ 9 ∷ 10
+    ∷ 11 ∷ 12 ∷ 13 ∷ 14 ∷ 15 ∷ 16 ∷ 17 ∷ 18 ∷ 19 ∷ 20 ∷ 21 ∷ []
 
 -- the variable stands in the scope and is named like the line
 unfoldable pub is_for : ℕ → ℕ → Named → Bool
@@ -22,7 +24,8 @@ like_in ns scope line = find (is_for scope line) ns
 
 -- of several names for one line in a scope the exact one wins
 unfoldable pub first_in : List Named → ℕ → ℕ → Option Named
-first_in ns scope line = elim (exact_in ns scope line) [ Some e ↦ Some e | None ↦ like_in ns scope line ]
+first_in ns scope line =
+    elim (exact_in ns scope line) [ Some e ↦ Some e | None ↦ like_in ns scope line ]
 
 -- another wire of the scope has as good a name for the line
 unfoldable pub is_rival : Named → Named → Bool
@@ -40,7 +43,9 @@ found_in ns scope line = if is_ambiguous ns scope line then None else first_in n
 -- the line is found in the scope, or it need not be
 unfoldable pub is_settled : List Named → List ℕ → ℕ → ℕ → Bool
 is_settled ns settled scope line =
-    not (is_line_needed line) || list_any (λ n. nat_eq n line) settled || is_some (found_in ns scope line)
+    not (is_line_needed line)
+    || list_any (λ n. nat_eq n line) settled
+    || is_some (found_in ns scope line)
 
 -- every needed line is found in the scope
 unfoldable pub is_whole : List Named → List ℕ → ℕ → Bool
@@ -48,7 +53,8 @@ is_whole ns settled scope = list_all (is_settled ns settled scope) lines
 
 -- the variable is the first of its scope that is named like a line
 unfoldable pub is_head : List Named → Named → Bool
-is_head ns e = elim (find (λ f. nat_eq f.scope e.scope) ns) [ None ↦ false | Some f ↦ nat_eq f.index e.index ]
+is_head ns e =
+    elim (find (λ f. nat_eq f.scope e.scope) ns) [ None ↦ false | Some f ↦ nat_eq f.index e.index ]
 
 -- the scope whose first variable this is has every needed line
 unfoldable pub qualifies : List Named → List ℕ → Named → Bool
@@ -64,9 +70,11 @@ has_same None theirs = not (is_some theirs)
 has_same (Some e) None = true
 has_same (Some e) (Some f) = nat_eq e.wire f.wire
 
--- every line of the other scope stands in this one with the same code, so that the two are one bus and this one is fuller
+-- every line of the other scope stands in this one with the same code,
+-- so that the two are one bus and this one is fuller
 unfoldable pub is_same_bus : List Named → ℕ → ℕ → Bool
-is_same_bus ns scope other = list_all (λ n. has_same (found_in ns scope n) (found_in ns other n)) lines
+is_same_bus ns scope other =
+    list_all (λ n. has_same (found_in ns scope n) (found_in ns other n)) lines
 
 -- the scope has the lines of all of these
 unfoldable pub is_fullest : List Named → List Named → Named → Bool

@@ -17,7 +17,8 @@ is_same_wire d e = pointwise nat_eq d.code.items e.code.items
 
 -- types whose variables are no lines
 abbrev pub other_kinds : List (List ℕ)
-other_kinds = codes "real" ∷ codes "realtime" ∷ codes "string" ∷ codes "event" ∷ codes "parameter" ∷ []
+other_kinds =
+    codes "real" ∷ codes "realtime" ∷ codes "string" ∷ codes "event" ∷ codes "parameter" ∷ []
 
 unfoldable pub is_wire_kind : List ℕ → Bool
 is_wire_kind kind = not (list_any (λ k. pointwise nat_eq kind k) other_kinds)

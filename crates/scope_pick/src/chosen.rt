@@ -79,7 +79,8 @@ pub fn tap_of(index: usize, declaration: &Declaration, line: u8, inverted: bool)
     }
 }
 
-/// What is taken of a variable at bits that the user names, or `None` where they are not in it or not as many as the line's.
+/// What is taken of a variable at bits that the user names, or `None` where it lacks them or they are not as many as the
+/// line's.
 #[tactic(auto, unfolding(crate::specs::Chosen::tap_named))]
 pub fn tap_named(
     index: usize,

@@ -1,9 +1,11 @@
 //! Which declared variables of a dump are the lines of the bus.
 //!
-//! `names` says which line a name stands for, `place` which bits of a variable are the line. `wires` lists the variables that
-//! are named like lines, and `scopes` finds the one scope that has every line that is needed; `told` has what is told of it. `chosen`
-//! has what a user names: scopes, variables, bits. Each call answers exactly what `specs/` defines over the whole list of
-//! declarations. Nothing is read here: a reader of headers makes the declarations.
+//! `names` says which line a name stands for, `place` which bits of a variable are the line. `wires` lists the variables
+//! that are named like lines. `scopes` finds the one scope that has every needed line, and `told` says what else is there.
+//! `chosen` has what a user names: scopes, variables, bits.
+//!
+//! Each call answers exactly what `specs/` defines over the whole list of declarations. Nothing is read here: a reader of
+//! headers makes the declarations.
 #![tactic(auto)]
 
 pub use chosen::{Tap, has_other_wire, scope_at, tap_named, tap_of, variable_at};
