@@ -1,0 +1,85 @@
+-- Which scope of a dump is the bus.
+use Rattle.std.specs.Prelude.{ℕ, Bool, true, false, nat_eq, not, ◌&&◌, ◌||◌, List, [], ◌∷◌, Option, Some, None, is_some, if◌then◌else◌}
+use Rattle.std.specs.List.{find, filter, list_any, list_all}
+use Rattle.scope_pick.specs.declared.wires.Named.{Named}
+use Rattle.scope_pick.specs.Places.{is_line_needed}
+
+-- the numbers of the lines
+abbrev pub lines : List ℕ
+lines =
+    0 ∷ 1 ∷ 2 ∷ 3 ∷ 4 ∷ 5 ∷ 6 ∷ 7 ∷ 8 ∷ 9 ∷ 10
+    ∷ 11 ∷ 12 ∷ 13 ∷ 14 ∷ 15 ∷ 16 ∷ 17 ∷ 18 ∷ 19 ∷ 20 ∷ 21 ∷ []
+
+-- the variable stands in the scope and is named like the line
+unfoldable pub is_for : ℕ → ℕ → Named → Bool
+is_for scope line e = nat_eq e.scope scope && nat_eq e.line line
+
+-- the first variable of the scope with the line's own name
+unfoldable pub exact_in : List Named → ℕ → ℕ → Option Named
+exact_in ns scope line = find (λ e. is_for scope line e && e.exact) ns
+
+-- the first with any of its names
+unfoldable pub like_in : List Named → ℕ → ℕ → Option Named
+like_in ns scope line = find (is_for scope line) ns
+
+-- of several names for one line in a scope the exact one wins
+unfoldable pub first_in : List Named → ℕ → ℕ → Option Named
+first_in ns scope line =
+    elim (exact_in ns scope line) [ Some e ↦ Some e | None ↦ like_in ns scope line ]
+
+-- another wire of the scope has as good a name for the line
+unfoldable pub is_rival : Named → Named → Bool
+is_rival c e = is_for c.scope c.line e && (not c.exact || e.exact) && not (nat_eq e.wire c.wire)
+
+-- the scope has wires that are as good as one another for the line
+unfoldable pub is_ambiguous : List Named → ℕ → ℕ → Bool
+is_ambiguous ns scope line =
+    elim (first_in ns scope line) [ None ↦ false | Some c ↦ list_any (is_rival c) ns ]
+
+-- the line as it is found in the scope
+unfoldable pub found_in : List Named → ℕ → ℕ → Option Named
+found_in ns scope line = if is_ambiguous ns scope line then None else first_in ns scope line
+
+-- the line is found in the scope, or it need not be
+unfoldable pub is_settled : List Named → List ℕ → ℕ → ℕ → Bool
+is_settled ns settled scope line =
+    not (is_line_needed line)
+    || list_any (λ n. nat_eq n line) settled
+    || is_some (found_in ns scope line)
+
+-- every needed line is found in the scope
+unfoldable pub is_whole : List Named → List ℕ → ℕ → Bool
+is_whole ns settled scope = list_all (is_settled ns settled scope) lines
+
+-- the variable is the first of its scope that is named like a line
+unfoldable pub is_head : List Named → Named → Bool
+is_head ns e =
+    elim (find (λ f. nat_eq f.scope e.scope) ns) [ None ↦ false | Some f ↦ nat_eq f.index e.index ]
+
+-- the scope whose first variable this is has every needed line
+unfoldable pub qualifies : List Named → List ℕ → Named → Bool
+qualifies ns settled e = is_head ns e && is_whole ns settled e.scope
+
+-- the scopes that qualify, each by its first variable
+unfoldable pub qualified : List Named → List ℕ → List Named
+qualified ns settled = filter (qualifies ns settled) ns
+
+-- the line stands in the scope on the same wire, if it stands in the other
+unfoldable pub has_same : Option Named → Option Named → Bool
+has_same None theirs = not (is_some theirs)
+has_same (Some e) None = true
+has_same (Some e) (Some f) = nat_eq e.wire f.wire
+
+-- every line of the other scope stands in this one with the same code,
+-- so that the two are one bus and this one is fuller
+unfoldable pub is_same_bus : List Named → ℕ → ℕ → Bool
+is_same_bus ns scope other =
+    list_all (λ n. has_same (found_in ns scope n) (found_in ns other n)) lines
+
+-- the scope has the lines of all of these
+unfoldable pub is_fullest : List Named → List Named → Named → Bool
+is_fullest ns others e = list_all (λ f. is_same_bus ns e.scope f.scope) others
+
+-- the one scope that is judged: of those that qualify the one that has all lines of the others
+unfoldable pub picked : List Named → List ℕ → Option Named
+picked ns settled = find (is_fullest ns (qualified ns settled)) (qualified ns settled)

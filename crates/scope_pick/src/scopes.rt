@@ -1,0 +1,233 @@
+ghost use Rattle.std.specs.Prelude.{◌≡◌, ◌≢◌, ◌<◌, ◌&&◌, nat_eq, Some, None, IfOk, IfErr, MatchResult, All, [], List, ℕ};
+ghost use Rattle.std.specs.List.{list_any, list_all, find, filter};
+ghost use Rattle.scope_pick.specs.Scopes.{lines, is_for, exact_in, like_in, first_in, is_rival, is_ambiguous, found_in, is_settled, is_whole, is_head, qualifies, qualified, has_same, is_same_bus, is_fullest, picked};
+ghost use Rattle.scope_pick.specs.ScopeFaults.{IsScopeFault};
+
+use crate::place::is_line_needed;
+use crate::wires::Named;
+use std::alloc::{AllocError, Global};
+
+/// Why no scope is picked.
+#[derive(Debug, Drop)]
+pub enum ScopeFault {
+    /// There was no memory for the list.
+    Memory(AllocError),
+    /// No scope has every needed line.
+    Missing,
+    /// Several scopes have, and none of them has all lines of the others: each by its first variable.
+    Several(Vec<Named>),
+}
+
+pub(crate) const LINES: [u8; 22] = [
+    0, 1, 2, 3, 4, 5, 6, 7, 8, 9, 10, 11, 12, 13, 14, 15, 16, 17, 18, 19, 20, 21,
+];
+
+/// The scope that is judged, by its first variable, where the settled lines need not be found.
+pub fn picked(alloc: Global, names: &[Named], settled: &[u8]) -> Result<Named, ScopeFault>
+    ensures { MatchResult result
+        (λ e. picked names.now settled.now ≡ Some e)
+        (IsScopeFault names.now settled.now) }
+{
+    let scopes = match qualified(alloc, names, settled) {
+        Ok(scopes) => scopes,
+        Err(error) => return Err(ScopeFault::Memory(error)),
+    };
+    if scopes.is_empty() {
+        return Err(ScopeFault::Missing);
+    }
+    match fullest(names, &scopes) {
+        Some(scope) => Ok(scope),
+        None => Err(ScopeFault::Several(scopes)),
+    }
+}
+
+/// The scopes that have every needed line, each by its first variable.
+#[tactic(auto, unfolding(crate::specs::Scopes::qualified))]
+pub fn qualified(alloc: Global, names: &[Named], settled: &[u8]) -> Result<Vec<Named>, AllocError>
+    ensures { IfOk result (λ v. v.items ≡ qualified names.now settled.now) }
+{
+    names
+        .iter()
+        .copied()
+        .filter(|name| qualifies(names, settled, *name))
+        .collect(alloc)
+}
+
+/// The line as it is found in the scope, or `None` where it is not there or ambiguous.
+#[tactic(auto, unfolding(crate::specs::Scopes::found_in))]
+pub fn found_in(names: &[Named], scope: usize, line: u8) -> Option<Named>
+    ensures { result ≡ found_in names.now scope line }
+{
+    if is_ambiguous(names, scope, line) {
+        None
+    } else {
+        first_in(names, scope, line)
+    }
+}
+
+/// Whether the scope has wires that are as good as one another for the line.
+#[tactic(auto, unfolding(crate::specs::Scopes::is_ambiguous))]
+pub fn is_ambiguous(names: &[Named], scope: usize, line: u8) -> bool
+    ensures { result ≡ is_ambiguous names.now scope line }
+{
+    match first_in(names, scope, line) {
+        None => false,
+        Some(chosen) => has_rival(names, chosen),
+    }
+}
+
+/// The variable of the scope that has the best name for the line.
+#[tactic(auto, unfolding(crate::specs::Scopes::first_in))]
+pub fn first_in(names: &[Named], scope: usize, line: u8) -> Option<Named>
+    ensures { result ≡ first_in names.now scope line }
+{
+    match exact_in(names, scope, line) {
+        Some(name) => Some(name),
+        None => like_in(names, scope, line),
+    }
+}
+
+/// Whether the line is found in the scope, or need not be.
+#[tactic(auto, unfolding(crate::specs::Scopes::is_settled))]
+pub fn is_settled(names: &[Named], settled: &[u8], scope: usize, line: u8) -> bool
+    requires { line < 22 }
+    ensures { result ≡ is_settled names.now settled.now scope line }
+{
+    !is_line_needed(line) || is_listed(settled, line) || found_in(names, scope, line).is_some()
+}
+
+fn is_listed(lines: &[u8], line: u8) -> bool
+    ensures { result ≡ list_any (λ n. nat_eq n line) lines.now }
+{
+    lines.iter().any(|other| *other == line)
+}
+
+#[tactic(auto, unfolding(crate::specs::Scopes::exact_in))]
+fn exact_in(names: &[Named], scope: usize, line: u8) -> Option<Named>
+    ensures { result ≡ exact_in names.now scope line }
+{
+    names
+        .iter()
+        .copied()
+        .find(|name| is_for(scope, line, *name) && name.exact)
+}
+
+#[tactic(auto, unfolding(crate::specs::Scopes::like_in))]
+fn like_in(names: &[Named], scope: usize, line: u8) -> Option<Named>
+    ensures { result ≡ like_in names.now scope line }
+{
+    names
+        .iter()
+        .copied()
+        .find(|name| is_for(scope, line, *name))
+}
+
+#[tactic(auto, unfolding(crate::specs::Scopes::is_for))]
+pub(crate) fn is_for(scope: usize, line: u8, name: Named) -> bool
+    ensures { result ≡ is_for scope line name }
+{
+    name.scope == scope && name.line == line
+}
+
+fn has_rival(names: &[Named], chosen: Named) -> bool
+    ensures { result ≡ list_any (is_rival chosen) names.now }
+{
+    names.iter().any(|name| is_rival(chosen, *name))
+}
+
+#[tactic(auto, unfolding(crate::specs::Scopes::is_rival))]
+fn is_rival(chosen: Named, name: Named) -> bool
+    ensures { result ≡ is_rival chosen name }
+{
+    is_for(chosen.scope, chosen.line, name)
+        && (!chosen.exact || name.exact)
+        && name.wire != chosen.wire
+}
+
+#[tactic(auto, unfolding(crate::specs::Scopes::qualifies))]
+fn qualifies(names: &[Named], settled: &[u8], name: Named) -> bool
+    ensures { result ≡ qualifies names.now settled.now name }
+{
+    is_head(names, name) && is_whole(names, settled, name.scope)
+}
+
+#[tactic(auto, unfolding(crate::specs::Scopes::is_head))]
+fn is_head(names: &[Named], name: Named) -> bool
+    ensures { result ≡ is_head names.now name }
+{
+    match first_of(names, name.scope) {
+        None => false,
+        Some(first) => first.index == name.index,
+    }
+}
+
+fn first_of(names: &[Named], scope: usize) -> Option<Named>
+    ensures { result ≡ find (λ f. nat_eq f.scope scope) names.now }
+{
+    names.iter().copied().find(|name| name.scope == scope)
+}
+
+/// Whether every needed line is found in the scope, but for the settled ones.
+#[tactic(auto, unfolding(crate::specs::Scopes::is_whole))]
+pub fn is_whole(names: &[Named], settled: &[u8], scope: usize) -> bool
+    ensures { result ≡ is_whole names.now settled.now scope }
+{
+    are_settled(names, settled, scope, &LINES)
+}
+
+fn are_settled(names: &[Named], settled: &[u8], scope: usize, lines: &[u8]) -> bool
+    requires { All (λ n. n < 22) lines.now }
+    ensures { result ≡ list_all (is_settled names.now settled.now scope) lines.now }
+{
+    for line in lines {
+        if !is_settled(names, settled, scope, *line) {
+            return false;
+        }
+    }
+    true
+}
+
+#[tactic(auto, unfolding(crate::specs::Scopes::is_same_bus))]
+fn is_same_bus(names: &[Named], scope: usize, other: usize) -> bool
+    ensures { result ≡ is_same_bus names.now scope other }
+{
+    are_same(names, scope, other, &LINES)
+}
+
+fn are_same(names: &[Named], scope: usize, other: usize, lines: &[u8]) -> bool
+    ensures { result ≡ list_all (λ n.
+        has_same (found_in names.now scope n) (found_in names.now other n)) lines.now }
+{
+    lines.iter().all(|line| has_same(found_in(names, scope, *line), found_in(names, other, *line)))
+}
+
+#[tactic(auto, unfolding(crate::specs::Scopes::has_same))]
+fn has_same(ours: Option<Named>, theirs: Option<Named>) -> bool
+    ensures { result ≡ has_same ours theirs }
+{
+    match ours {
+        None => theirs.is_none(),
+        Some(our) => match theirs {
+            None => true,
+            Some(their) => our.wire == their.wire,
+        },
+    }
+}
+
+#[tactic(auto, unfolding(crate::specs::Scopes::is_fullest))]
+fn is_fullest(names: &[Named], others: &[Named], scope: Named) -> bool
+    ensures { result ≡ is_fullest names.now others.now scope }
+{
+    others
+        .iter()
+        .all(|other| is_same_bus(names, scope.scope, other.scope))
+}
+
+fn fullest(names: &[Named], scopes: &[Named]) -> Option<Named>
+    ensures { result ≡ find (is_fullest names.now scopes.now) scopes.now }
+{
+    scopes
+        .iter()
+        .copied()
+        .find(|scope| is_fullest(names, scopes, *scope))
+}
