@@ -1,6 +1,6 @@
 -- A map of lines after one of them was written.
 use Rattle.std.proofs.Common.{◌≡◌, ◌≢◌, ℕ, ◌+◌, ◌<◌, Bool, cond, ◌||◌, List, [], ◌∷◌, ◌++◌, Some, None, IsTrue, length}
-use Rattle.std.proofs.Common.{take, get_or, sym, ap, ◌∙◌, ⊎_elim, arith, add-one}
+use Rattle.std.proofs.Common.{take, get_or, sym, ap, ◌∙◌, ⊎_elim, arith, add-one, Result, Ok, Err, OnOk, OnErr}
 use Rattle.std.proofs.lemmas.Bool.{cases_eq}
 use Rattle.std.proofs.lemmas.Bool.Decides.{nat_tests}
 use Rattle.std.proofs.lemmas.List.Folds.{list_any-append}
@@ -40,6 +40,14 @@ is_mapped-held old new line bytes writes held other = let at = writes other in g
 pub is_mapped-none : (lines : LineMap) (line : ℕ) → lookup (λ key. line == key) lines ≡ None
     → IsTrue (is_mapped lines line) → ⊥
 is_mapped-none lines line none held = grind (arith, nat_tests)
+
+-- what is put at a line that is there is written
+pub held-written :
+    {X Y : Type 0} (result : Result X Y) (old new : LineMap) (line : ℕ) (bytes : List ℕ)
+    → OnOk result (Writes old new line bytes) → OnErr result (lookup (λ key. line == key) old ≡ None)
+    → IsTrue (is_mapped old line) → Writes old new line bytes
+held-written (Ok x) old new line bytes writes none held = writes
+held-written (Err y) old new line bytes writes none held = absurd (is_mapped-none old line none held)
 
 -- a line that was written with the bytes that it had
 pub line_in-same :

@@ -4,14 +4,14 @@ ghost use Rattle.fsb_memory.specs.Controller.{is_mapped, line_in, start_bytes, i
 
 use fsb_access::{LINE_BYTES, Setting};
 use fsb_io::Memory;
-use indexmap::IndexMap;
 use std::alloc::Global;
 use std::marker::Model;
+use steady_map::SteadyMap;
 
 /// The bytes of each line that was named. Contracts see them as a map of lines.
 #[derive(Drop)]
 pub struct Controller {
-    lines: IndexMap<u64, [u8; 32]>,
+    lines: SteadyMap<[u8; 32]>,
 }
 
 impl Model for Controller {
@@ -44,7 +44,7 @@ impl Controller {
         ensures bytes { result ≡ line_in self.now line }
         ensures all { length result ≡ 32 }
     {
-        self.lines.get(&line).copied().unwrap_or([0; 32])
+        self.lines.get(line).copied().unwrap_or([0; 32])
     }
 
     /// Puts the bytes of a line that was named. No memory is taken.
@@ -55,9 +55,7 @@ impl Controller {
             line_in self.new other ≡ line_in self.old other }
         ensures named { (other : ℕ) → is_mapped self.new other ≡ is_mapped self.old other }
     {
-        if let Some(kept) = self.lines.get_mut(&line) {
-            *kept = bytes;
-        }
+        let _ = self.lines.replace(line, bytes);
     }
 
     /// The memory that the settings make, with the lines that they name.
@@ -68,7 +66,7 @@ impl Controller {
             (line : ℕ) → is_mapped controller line ≡ list_any (is_in_line line) sets.now) }
     {
         let mut controller = Controller {
-            lines: IndexMap::new(alloc),
+            lines: SteadyMap::new(alloc),
         };
         let mut done = 0;
         while done < sets.len() {
