@@ -15,8 +15,8 @@ use fsb_io::Memory;
 use fsb_rules::{Checker, Coming};
 use fsb_signal::{Lines, Marks, Sample};
 use fsb_trace::{Outcome, code_of, known_pair};
-use indexmap::IndexMap;
 use std::alloc::Global;
+use steady_map::SteadyMap;
 
 /// Tells after each sample whether data came from memory that are not what was last moved of their chunk.
 #[derive(Drop)]
@@ -37,7 +37,7 @@ pub struct Audit {
     /// How many chunks were moved.
     count: u64,
     /// The data of each chunk when it was moved last.
-    moved: IndexMap<u64, u64>,
+    moved: SteadyMap<u64>,
 }
 
 /// The foul clock, where data of this chunk come that differ from those before.
@@ -77,7 +77,7 @@ impl Audit {
             asked: [0; 256],
             from_memory: false,
             count: 0,
-            moved: IndexMap::new(alloc),
+            moved: SteadyMap::new(alloc),
         })
     }
 

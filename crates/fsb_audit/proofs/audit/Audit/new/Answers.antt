@@ -11,7 +11,7 @@ returns-clause-stands c = new_stands _ c.args.marks (record {
   asked = refl;
   from_memory = refl;
   count = refl;
-  moved = c.new-2.ensures.empty;
+  moved = c.new-2.ensures;
 })
 
 pub returns-clause-room : goal.returns-clause-room

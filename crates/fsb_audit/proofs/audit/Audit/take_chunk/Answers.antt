@@ -10,7 +10,7 @@ returns-clause-moved c = λ other.
     ≡ cond (chunk == other) (Some c.args.bits) (data_in c.args.self.now.moved.entries other))
     (c.nth_chunk-chunk.ensures.value
     ∙ ap (λ did. nth_from (slice_index c.args.self.now.asked did) c.args.coming.place) c.from.ensures)
-    (c.in-Ok.ensures.updates.0 other)
+    (c.in-Ok.ensures.updates other)
 
 pub returns-clause-found : goal.returns-clause-found
 unfolding chunk_by
