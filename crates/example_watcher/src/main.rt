@@ -71,11 +71,7 @@ impl Watcher for Census {
                 }
             }
         }
-        self.first = if sample.has(Lines::ADS) {
-            words
-        } else {
-            None
-        };
+        self.first = if sample.has(Lines::ADS) { words } else { None };
         Ok(())
     }
 }
