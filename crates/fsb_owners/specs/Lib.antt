@@ -1,0 +1,4 @@
+pub mod Joint
+pub mod Shown
+pub mod Possible
+pub mod Rules
