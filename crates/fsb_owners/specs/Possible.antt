@@ -1,7 +1,6 @@
 -- What agents may have of a line, clock by clock: the joint states that what the wires have shown of it leaves.
-use Rattle.std.specs.Prelude.{ℕ, zero, suc, ◌+◌, Bool, ◌&&◌, not, if◌then◌else◌, List, [], ◌∷◌, Option, Some, None}
+use Rattle.std.specs.Prelude.{ℕ, zero, suc, ◌+◌, Bool, ◌&&◌, not, if◌then◌else◌, List, Option, Some, None}
 use Rattle.std.specs.List.{filter}
-use Rattle.fsb_count.specs.Options.{is_at}
 use Rattle.fsb_signal.specs.declared.lines.TheConstants.Lines.{HIT, HITM}
 use Rattle.fsb_signal.specs.Samples.{line_at}
 use Rattle.fsb_line.specs.declared.purpose.Purpose.{Purpose}

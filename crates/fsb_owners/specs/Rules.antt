@@ -1,11 +1,11 @@
 -- The rules of ownership, 21 to 31. Each test says that the rule is broken at clock c of v, and v is to end with clock c:
 -- a rule is judged over the samples up to its clock alone. `first` are the joint states that a line may have at first:
 -- `unheld` alone where the trace begins with empty caches, all of them where it begins in traffic.
-use Rattle.std.specs.Prelude.{ℕ, ◌+◌, ◌-◌, nat_eq, nat_lt, Bool, true, false, ◌&&◌, ◌||◌, not, is_some, take, length, if◌then◌else◌, List, [], ◌∷◌, Option, Some, None, slice_get}
+use Rattle.std.specs.Prelude.{ℕ, ◌+◌, ◌-◌, nat_lt, nat_le, Bool, true, false, ◌&&◌, ◌||◌, not, take, length, if◌then◌else◌, List, [], ◌∷◌, Option, slice_get}
 use Rattle.std.specs.List.{list_all}
-use Rattle.std.specs.Option.{option_map, option_and_then}
-use Rattle.fsb_count.specs.Options.{is_some_and, is_before, is_at}
-use Rattle.fsb_count.specs.Clocks.{any_where, first_where}
+use Rattle.std.specs.Option.{option_and_then}
+use Rattle.fsb_count.specs.Options.{is_some_and, is_before}
+use Rattle.fsb_count.specs.Clocks.{any_where}
 use Rattle.fsb_signal.specs.declared.lines.TheConstants.Lines.{ADS, DEFER, HIT, HITM}
 use Rattle.fsb_signal.specs.Samples.{line_at}
 use Rattle.fsb_line.specs.declared.purpose.Purpose.{Purpose}
@@ -16,7 +16,8 @@ use Rattle.fsb_trace.specs.Snoop.{line_at_snoop_end, snoop_end_of}
 use Rattle.fsb_trace.specs.Outcome.{is_deferred}
 use Rattle.fsb_trace.specs.Flight.{reply_number_of}
 use Rattle.fsb_owners.specs.Joint.{Joint, has_other_owner}
-use Rattle.fsb_owners.specs.Shown.{agent_at, asked_at, is_held_back, is_spoiled, is_still_asking, names, purpose_at, served_by, serves, snooped_at}
+use Rattle.fsb_owners.specs.Shown.{agent_at, asked_at, is_held_back, is_spoiled, is_still_asking, names, purpose_at, served_by, snooped_at}
+use Rattle.fsb_owners.specs.Least.{least_broken}
 use Rattle.fsb_owners.specs.Possible.{possible, possible_begun, possible_shown}
 
 -- the set has none
@@ -173,18 +174,12 @@ ownership_rules first =
     ∷ is_owner_lacking first ∷ is_owner_silent first ∷ is_holder_silent first ∷ is_holder_lacking first
     ∷ is_written_when_lost first ∷ is_hit_of_reply_wrong first ∷ is_given_again first ∷ []
 
--- the rule with this place in the list is broken at c: c is a clock of w, and the rule is judged over the first c + 1
--- samples of w
-unfoldable pub breaks_ownership : List Joint → Trace → ℕ → ℕ → Bool
-breaks_ownership first w c place =
-    nat_lt c (length w) && is_some_and (slice_get (ownership_rules first) place) (λ rule. rule (take (c + 1) w) c)
+-- rule j, 21 to 31, is broken at c: c is a clock of w, and the rule is judged over the first c + 1 samples of w
+unfoldable pub is_ownership_broken : List Joint → Trace → ℕ → ℕ → Bool
+is_ownership_broken first w c j =
+    nat_lt c (length w) && nat_le 21 j
+    && is_some_and (slice_get (ownership_rules first) (j - 21)) (λ rule. rule (take (c + 1) w) c)
 
--- the least rule of ownership that is broken at c
-unfoldable pub least_ownership_rule : List Joint → Trace → ℕ → Option ℕ
-least_ownership_rule first w c = option_map (λ place. place + 21) (first_where (breaks_ownership first w c) 11)
-
--- the least clock with a broken rule of ownership and, there, the least such rule
+-- the least clock with a broken rule of ownership and, there, the least such rule; none where no rule is broken
 unfoldable pub ownership_verdict : List Joint → Trace → Option (ℕ × ℕ)
-ownership_verdict first w =
-    option_and_then (λ c. option_map {U = ℕ × ℕ} (λ j. (c, j)) (least_ownership_rule first w c))
-    (first_where (λ c. is_some (least_ownership_rule first w c)) (length w))
+ownership_verdict first w = least_broken (is_ownership_broken first w) 32 (length w)

@@ -5,3 +5,7 @@
 //! end, and when bytes arrive. Stores into a copy, and drops of clean copies, are not seen. The definitions are in
 //! `specs/`; read `Joint`, `Shown`, `Possible` and `Rules` in this order.
 #![tactic(auto)]
+
+pub use laws::{ownership_rests_on_the_past, ownership_verdict_is_least};
+
+mod laws;
