@@ -15,6 +15,7 @@ pub use Rattle.fsb_trace.proofs.RuleSteps.{breaks-16, breaks-17, breaks-18, brea
 pub use Rattle.fsb_trace.proofs.RuleSteps.{breaks-4, breaks-5, breaks-6, breaks-7, breaks-8, breaks-9, breaks-none}
 -- Traces that agree have the same at a clock.
 pub use Rattle.fsb_trace.proofs.AgreeAt.{AgreeTo-less, AgreeTo-sym, is_cancelled-agree, is_live-agree, line_at-agree}
+pub use Rattle.fsb_trace.proofs.AgreeAt.{take-agree}
 pub use Rattle.fsb_trace.proofs.AgreeAt.{request_at-agree, requesters_before-agree, response_code_at-agree}
 pub use Rattle.fsb_trace.proofs.AgreeAt.{responds_at-agree, stalls_at-agree, winner_after-agree, winner_at-agree}
 -- A number that is reached stays as it is in every trace that agrees up to it.
