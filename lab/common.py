@@ -11,6 +11,17 @@ import time
 TOP = os.path.dirname(os.path.dirname(os.path.abspath(__file__)))
 
 
+def libraries():
+    """The crates of crates.txt, in its order, each with the libraries that it stands on."""
+    found = {}
+    with open(os.path.join(TOP, "crates.txt")) as lines:
+        for line in lines:
+            name, colon, needs = line.partition("#")[0].partition(":")
+            if colon:
+                found[name.split()[0]] = needs.split()
+    return found
+
+
 def built_program(name=None):
     """The program of this name, or the one that the checkout has built."""
     program = os.path.abspath(name or os.path.join(TOP, "crates/p6bench/out/p6bench"))

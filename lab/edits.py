@@ -23,23 +23,19 @@ import subprocess
 import sys
 import tempfile
 
-TOP = os.path.dirname(os.path.dirname(os.path.abspath(__file__)))
+from common import TOP, libraries
+
 EDITS = os.path.join(TOP, "lab/planted/edits")
 TOLD = re.compile(r"must-fail (\w+)/(\S+)\.edit: (.*)")
 
 
 def below(crates):
     """The crates of the repository that these stand on, by crates.txt."""
-    libraries = {}
-    with open(os.path.join(TOP, "crates.txt")) as file:
-        for line in file:
-            name, colon, rest = line.partition("#")[0].partition(":")
-            if colon:
-                libraries[name.split()[0]] = rest.split()
+    known = libraries()
     found, left = set(), list(crates)
     while left:
-        for name in libraries.get(left.pop(), []):
-            if name in libraries and name not in found:
+        for name in known.get(left.pop(), []):
+            if name in known and name not in found:
                 found.add(name)
                 left.append(name)
     return found

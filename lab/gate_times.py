@@ -20,7 +20,8 @@ import subprocess
 import sys
 import time
 
-TOP = os.path.dirname(os.path.dirname(os.path.abspath(__file__)))
+from common import TOP, libraries
+
 PAGE = os.path.join(TOP, "docs/proof/times.md")
 HEADING = "| Crate | Tests | Stored runs | Edits | Seconds of a processor: proof | tests | edits |\n|---|---|---|---|---|---|---|\n"
 KINDS = ("proof", "tests", "edits")
@@ -29,12 +30,7 @@ TICKS = os.sysconf("SC_CLK_TCK")
 
 def crates():
     """The crates of crates.txt, each behind those that it stands on."""
-    below = {}
-    with open(os.path.join(TOP, "crates.txt")) as lines:
-        for line in lines:
-            name, colon, needs = line.partition("#")[0].partition(":")
-            if colon:
-                below[name.split()[0]] = needs.split()
+    below = libraries()
     order = []
 
     def put(name):
