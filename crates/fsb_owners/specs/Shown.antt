@@ -1,5 +1,5 @@
 -- What the wires show of a line: who asks for it, what its snoop ends say, whose bytes are under way.
--- All of it is taken in the samples of v alone.
+-- All of it is taken in the samples of v alone. q is the first clock of a request; i and j number the live ones.
 use Rattle.std.specs.Prelude.{ℕ, ◌+◌, nat_eq, Bool, true, false, ◌&&◌, ◌||◌, not, if◌then◌else◌, Option, Some, None}
 use Rattle.std.specs.Option.{option_and_then}
 use Rattle.fsb_count.specs.Options.{is_some_and, is_before, is_at}
@@ -33,7 +33,7 @@ purpose_of kinds.Upgrade = Some purposes.Upgrade
 unfoldable pub purpose_at : Trace → ℕ → Option Purpose
 purpose_at v q = option_and_then (λ r. purpose_of r.kind) (request_at v q)
 
--- the symmetric agent that begins a request at q
+-- the winner at q, where that is a symmetric agent
 unfoldable pub agent_at : Trace → ℕ → Option ℕ
 agent_at v q = symmetric_after None (winner_at v q)
 
@@ -41,75 +41,78 @@ agent_at v q = symmetric_after None (winner_at v q)
 unfoldable pub names : Trace → ℕ → ℕ → Bool
 names v line q = line_at ADS v q && is_at (line_of v q) line && not (is_reply (request_at v q))
 
--- it is this agent's
+-- the request that begins at q names the line, and is this agent's
 unfoldable pub asks : Trace → ℕ → ℕ → ℕ → Bool
 asks v line a q = names v line q && is_at (agent_at v q) a
 
 -- live request i is Deferred, and live request j is the reply to it
-unfoldable pub is_answered_by : Trace → ℕ → ℕ → Bool
-is_answered_by v j i = is_deferred v i && is_at (reply_number_of v i) j
+unfoldable pub is_reply_of : Trace → ℕ → ℕ → Bool
+is_reply_of v j i = is_deferred v i && is_at (reply_number_of v i) j
 
--- the live request that live request j serves: the one that it answers, or itself
-unfoldable pub served_by : Trace → ℕ → Option ℕ
-served_by v j =
-    if is_reply (live_request_of v j) then first_where (is_answered_by v j) (live_count v) else Some j
+-- the request that counts at live request j: of a reply the one that it answers, else itself
+unfoldable pub origin_of : Trace → ℕ → Option ℕ
+origin_of v j =
+    if is_reply (live_request_of v j) then first_where (is_reply_of v j) (live_count v) else Some j
 
--- the first clock of the request that live request j serves
-unfoldable pub asked_at : Trace → ℕ → Option ℕ
-asked_at v j = option_and_then (live_clock_of v) (served_by v j)
+-- the first clock of that request
+unfoldable pub origin_clock_of : Trace → ℕ → Option ℕ
+origin_clock_of v j = option_and_then (live_clock_of v) (origin_of v j)
 
--- live request j serves a request for the line
-unfoldable pub serves : Trace → ℕ → ℕ → Bool
-serves v line j = is_some_and (asked_at v j) (names v line)
+-- live request j names the line, or answers a request that does
+unfoldable pub is_for_line : Trace → ℕ → ℕ → Bool
+is_for_line v line j = is_some_and (origin_clock_of v j) (names v line)
 
--- the line is failed for: nothing says what agents have of it from then on
-unfoldable pub is_failed_with : Outcome → Bool
-is_failed_with Granted = false
-is_failed_with Handed = false
-is_failed_with Retried = false
-is_failed_with Deferred = false
-is_failed_with Written = false
-is_failed_with Replied = false
-is_failed_with Failed = true
-is_failed_with Upgraded = false
+-- the outcome is a hard failure
+unfoldable pub is_failure : Outcome → Bool
+is_failure Granted = false
+is_failure Handed = false
+is_failure Retried = false
+is_failure Deferred = false
+is_failure Written = false
+is_failure Replied = false
+is_failure Failed = true
+is_failure Upgraded = false
 
--- a hard failure was told of a request for the line
+-- a request for the line, or the reply to one, failed hard. Nothing says what agents hold from then on, so no rule is
+-- judged
 unfoldable pub is_spoiled : Trace → ℕ → Bool
 is_spoiled v line =
-    any_where (λ j. serves v line j && is_some_and (outcome_of v j) is_failed_with) (live_count v)
+    any_where (λ j. is_for_line v line j && is_some_and (outcome_of v j) is_failure) (live_count v)
 
 -- live request j is turned away at its snoop end, to be made again or to be answered later
 unfoldable pub is_turned : Trace → ℕ → Bool
 is_turned v j = line_at_snoop_end DEFER v j && not (line_at_snoop_end HITM v j)
 
--- live request j is to have the bytes of its line: it is a reply, or an owner hands them over, or memory gives them
+-- live request j is to have the bytes of its line: it is a reply, or an owner hands them over, or memory gives them. It is
+-- read once the snoop end is reached: before, every read passes
 unfoldable pub brings_bytes : Trace → ℕ → Bool
 brings_bytes v j =
     is_reply (live_request_of v j)
     || (line_at_snoop_end HITM v j && not (is_write_back (live_request_of v j)))
-    || (not (is_turned v j) && is_some_and (option_and_then (purpose_at v) (asked_at v j)) gets_line)
+    || (not (is_turned v j) && is_some_and (option_and_then (purpose_at v) (origin_clock_of v j)) gets_line)
 
 -- at c bytes of the line are under way to the agent by live request j: its snoop end lies below c, and its end does not
 unfoldable pub is_coming_by : Trace → ℕ → ℕ → ℕ → ℕ → Bool
 is_coming_by v line a c j =
-    is_some_and (asked_at v j) (asks v line a) && brings_bytes v j && is_before (snoop_end_of v j) c
+    is_some_and (origin_clock_of v j) (asks v line a) && brings_bytes v j && is_before (snoop_end_of v j) c
     && not (is_before (end_of v j) c)
 
 -- bytes of the line are under way to the agent at c
 unfoldable pub is_coming : Trace → ℕ → ℕ → ℕ → Bool
 is_coming v line a c = any_where (is_coming_by v line a c) (live_count v)
 
--- the agent has an upgrade of the line under way at c, from its first clock to its last one
+-- c lies from the first clock of an upgrade of the line by the agent to its last clock as outstanding
 unfoldable pub is_upgrading : Trace → ℕ → ℕ → ℕ → Bool
 is_upgrading v line a c =
     any_where (λ q. asks v line a q && is_upgrade (request_at v q) && (nat_eq q c || is_outstanding v c q)) (c + 1)
 
--- the agent may drop a clean copy at c: no bytes of the line are under way to it there, nor an upgrade
+-- the agent may drop a clean copy at c: no bytes of the line are under way to it there, nor an upgrade. `is_coming` at c and
+-- at c + 1 are together the clocks from the snoop end to the end, both included
 unfoldable pub may_drop_at : Trace → ℕ → ℕ → ℕ → Bool
 may_drop_at v line c a =
     not (is_coming v line a c) && not (is_coming v line a (c + 1)) && not (is_upgrading v line a c)
 
--- the snoop of the request that begins at q has not ended below c
+-- the request that begins at q is in flight at c and has no snoop end below c
 unfoldable pub is_open_at : Trace → ℕ → ℕ → Bool
 is_open_at v c q =
     is_in_flight v c q && not (any_where (λ j. is_at (live_clock_of v j) q && is_before (snoop_end_of v j) c) (live_count v))
