@@ -1,0 +1,5 @@
+mod Clauses
+mod Completed
+mod Converse
+mod Promises
+mod Statuses

@@ -1,0 +1,231 @@
+-- What a call of `bench` leaves behind: a row for each form of its words. It says what was read and
+-- under which name, what that means, what was printed and dumped, and what stayed as it was.
+use Rattle.std.specs.Prelude.{◌≡◌, ◌≢◌, ◌≤◌, ◌⊎◌, ℕ, IsTrue, List, Option, Some, None, length}
+use Rattle.std.specs.Prelude.{Result, Ok, Err}
+use Rattle.fsb_audit.specs.declared.finding.Finding.{Finding}
+use Rattle.fsb_audit.specs.declared.finding.Finding.TheVariants as findings
+use Rattle.fsb_audit.specs.Fouls.{finding_of}
+use Rattle.fsb_audit_dump.specs.Audited.{audited_as}
+use Rattle.fsb_command.specs.Form.{Form, run, check, audit, show, find, wave, gen}
+use Rattle.fsb_hazard.specs.Told.{Told}
+use Rattle.fsb_io.specs.Faults.{Rose}
+use Rattle.fsb_io.specs.declared.sink.Sink.{Ghosts as SinkGhosts}
+use Rattle.fsb_io.specs.declared.source.Source.{Ghosts as SourceGhosts}
+use Rattle.fsb_play.specs.Printed.{run_dump, run_log, run_summary}
+use Rattle.fsb_report.specs.VerdictText.{trace_text}
+use Rattle.fsb_rules.specs.Checker.{as_broken}
+use Rattle.fsb_rules.specs.declared.broken.Broken.{Broken}
+use Rattle.fsb_script.specs.Made.{made_plan}
+use Rattle.fsb_script.specs.Plans.{PlanView}
+use Rattle.fsb_show.specs.ShowText.{show_text}
+use Rattle.fsb_signal.specs.declared.marks.Marks.{Marks}
+use Rattle.fsb_signal.specs.declared.sample.Sample.{Sample}
+use Rattle.fsb_top.specs.BenchEnds.{HasRunFrom, HasRunOf, IsDumped, IsLogged, IsPlanOf, IsWritten}
+use Rattle.fsb_top.specs.BenchEnds.{finding_text, match_text}
+use Rattle.fsb_top.specs.declared.status.Status.{Status}
+use Rattle.fsb_top.specs.declared.status.Status.TheVariants.{BadWords, Done, DumpFault, Foul}
+use Rattle.fsb_top.specs.declared.status.Status.TheVariants.{NotFound, OutOfMemory, Rejected}
+use Rattle.fsb_top.specs.declared.status.Status.TheVariants.{WriteFault}
+use Rattle.fsb_trace.specs.Verdict.{verdict}
+use Rattle.fsb_trigger.specs.Match.{least_match}
+use Rattle.fsb_trigger.specs.TriggerSteps.{StepView}
+use Rattle.fsb_wave.specs.WaveText.{wave_text}
+use Rattle.vcd_grammar.specs.Reading.{Reads}
+use Rattle.fsb_calls.specs.FileRead.{FileKind, bench_file, dump_in_pieces, whole_dump}
+use Rattle.fsb_calls.specs.FileRead.{IsReadAll, IsStopped, sample_limit}
+
+-- ---- commands that look at a dump
+
+-- a command that looks at a dump: how it reads the dump, the name of the dump, what it finds in a
+-- trace, the status of what it finds, and the text that it prints of the trace
+pub record Look (F : Type 0) : Type 0 where
+  pub kind : FileKind
+  pub name : List ℕ
+  pub found : Marks → List Sample → F
+  pub status : F → Status
+  pub text : Marks → List Sample → List ℕ
+
+-- the status of a first broken rule, or of none
+abbrev pub broken_status : Option Broken → Status
+broken_status None = Done
+broken_status (Some broken) = Rejected broken
+
+-- the status of what an audit finds first, or of how many chunks moved where it finds nothing
+abbrev pub audit_status : Result ℕ Finding → Status
+audit_status (Ok chunks) = Done
+audit_status (Err (findings.Broken broken)) = Rejected broken
+audit_status (Err (findings.Foul foul)) = Foul foul
+
+-- the status of the clocks of a match, or of none
+abbrev pub match_status : Option (List ℕ) → Status
+match_status None = NotFound
+match_status (Some clocks) = Done
+
+-- `check` finds the first broken rule, and prints the line of the verdict
+abbrev pub check_look : List ℕ → Look (Option Broken)
+check_look name = record {
+  kind = dump_in_pieces;
+  name = name;
+  found = λ marks w. as_broken (verdict marks w);
+  status = broken_status;
+  text = trace_text;
+}
+
+-- `audit` finds the first broken rule or foul transfer, and prints its line
+abbrev pub audit_look : List ℕ → Look (Result ℕ Finding)
+audit_look name = record {
+  kind = dump_in_pieces;
+  name = name;
+  found = λ marks w. audited_as (finding_of marks w) w;
+  status = audit_status;
+  text = finding_text;
+}
+
+-- `show` finds the first broken rule, and prints the table with the totals of the probes
+abbrev pub show_look : List (Sample → ℕ) → List ℕ → Look (Option Broken)
+show_look weights name = record {
+  kind = whole_dump;
+  name = name;
+  found = λ marks w. as_broken (verdict marks w);
+  status = broken_status;
+  text = show_text weights;
+}
+
+-- `find` finds the least match of the steps, and prints its line
+abbrev pub find_look : List ℕ → List StepView → Look (Option (List ℕ))
+find_look name steps = record {
+  kind = dump_in_pieces;
+  name = name;
+  found = λ marks w. least_match steps w;
+  status = match_status;
+  text = λ marks w. match_text steps w;
+}
+
+-- `wave` finds nothing, and prints the wave of the clocks from `from` to `to`
+abbrev pub wave_look : List ℕ → ℕ → ℕ → Look (Unit {0})
+wave_look name from to = record {
+  kind = dump_in_pieces;
+  name = name;
+  found = λ marks w. tt;
+  status = λ found. Done;
+  text = λ marks w. wave_text w from to;
+}
+
+-- the dump was read whole, this was found in its trace, and the sink has the text behind what it
+-- held, or a first part of the text where it failed
+pub record HasTold {F S O : Type 0} (look : Look F) (source : SourceGhosts S) (was now : S)
+    (out : SinkGhosts O) (before after : O) (found : F) (status : Status)
+    : Type 0 where
+  pub marks : Marks
+  pub trace : List Sample
+  pub read : IsReadAll source look.kind look.name was now
+  pub reads : Reads (source.holds was) marks trace
+  pub few : length trace ≤ sample_limit look.kind
+  pub is_found : found ≡ look.found marks trace
+  pub printed : IsTrue out.tells
+      → IsWritten status (look.text marks trace) (out.holds before) (out.holds after)
+
+-- the status is this one, or the sink of what is printed failed
+abbrev pub EndsTold : {O : Type 0} → SinkGhosts O → O → O → Status → Status → Type 0
+EndsTold out before after told status =
+    (status ≡ told) ⊎ ((status ≡ WriteFault) × Rose (out.faults before) (out.faults after))
+
+-- something was found, and the status is that of what was found, or the sink failed
+pub record HasLookedAt {F S O : Type 0} (look : Look F) (source : SourceGhosts S) (was now : S)
+    (out : SinkGhosts O) (before after : O) (status : Status)
+    : Type 0 where
+  pub found : F
+  pub ends : EndsTold out before after (look.status found) status
+  pub told : IsTrue source.tells → HasTold look source was now out before after found status
+
+-- a dump was looked at, or the call was stopped before, and then nothing was printed
+abbrev pub LookEnds
+    : {F S O : Type 0} → SourceGhosts S → SinkGhosts O → S → S → O → O → Look F → Status → Type 0
+LookEnds source out was now before after look status =
+    (IsStopped source look.kind look.name was now status × (after ≡ before))
+    ⊎ HasLookedAt look source was now out before after status
+
+-- ---- the whole call
+
+-- what is said of the sink of the dump: that it stays as it was, that it failed, and that after a
+-- call with this status it has this dump of a run, where the words name one
+pub record DumpCall : Type 1 where
+  pub Stays : Type 0
+  pub Fails : Type 0
+  pub Has : Status → List ℕ → Option (List ℕ) → Type 0
+
+-- the sink of the dump, before and after a call
+abbrev pub dump_call : {D : Type 0} → SinkGhosts D → D → D → DumpCall
+dump_call sink was now = record {
+  Stays = now ≡ was;
+  Fails = Rose (sink.faults was) (sink.faults now);
+  Has = λ status text name. IsTrue sink.tells → IsDumped status text name
+      (sink.holds was) (sink.begun_as was) (sink.holds now) (sink.begun_as now);
+}
+
+-- a run was made and its log or summary was printed; the sink of these failed, and then no dump was
+-- begun; or the sink of the dump failed, and the words name a dump
+abbrev pub IsPlayed : Type 0 → DumpCall → Option (List ℕ) → Status → Type 0
+IsPlayed Failed dump name Done = Unit {0}
+IsPlayed Failed dump name WriteFault = Failed × dump.Stays
+IsPlayed Failed dump name DumpFault = dump.Fails × (name ≢ None)
+IsPlayed Failed dump name _ = ⊥
+
+module _ {O : Type 0} (out : SinkGhosts O) (dump : DumpCall) (before after : O) where
+  -- the plan that is made from a seed was run, or memory lacked; nothing is dumped
+  abbrev pub GenEnds : (PlanView → List (Option Told)) → ℕ → ℕ → ℕ → Status → Type 0
+  GenEnds told seed agents items status = dump.Stays
+      × (((status ≡ OutOfMemory) × (after ≡ before))
+      ⊎ (IsPlayed (Rose (out.faults before) (out.faults after)) dump None status
+      × HasRunOf (told (made_plan seed agents items)) (made_plan seed agents items)
+      (λ r. IsTrue out.tells → IsLogged status (run_summary seed agents items r)
+      (out.holds before) (out.holds after))))
+
+module _ {S O : Type 0} (source : SourceGhosts S) (out : SinkGhosts O) (dump : DumpCall)
+    (was now : S) (before after : O) where
+  -- nothing was printed and nothing dumped
+  abbrev pub IsSilentCall : Type 0
+  IsSilentCall = (after ≡ before) × dump.Stays
+
+  -- a dump was looked at, and nothing is dumped
+  abbrev pub LookRow : {F : Type 0} → Look F → Status → Type 0
+  LookRow look status = dump.Stays × LookEnds source out was now before after look status
+
+  -- a bench file was run, or the call was stopped before; the log and the dump are of one run of
+  -- the file's plan; without a name for a dump nothing is dumped
+  abbrev pub RunEnds
+      : (PlanView → List (Option Told)) → List ℕ → Option (List ℕ) → Status → Type 0
+  RunEnds told bench name status = (name ≡ None → dump.Stays)
+      × ((IsStopped source bench_file bench was now status × IsSilentCall)
+      ⊎ (IsPlayed (Rose (out.faults before) (out.faults after)) dump name status
+      × HasRunFrom (λ plan. IsTrue source.tells
+      → IsPlanOf bench (source.holds was) (source.left now) (source.begun_as now) plan) told
+      (λ r. (IsTrue out.tells
+      → IsLogged status (run_log r) (out.holds before) (out.holds after))
+      × dump.Has status (run_dump r) name)))
+
+  -- the row of each form of the words, where the objects tell `told` once they were given the
+  -- hazard lines of a plan, and the probes have these weights
+  abbrev pub RowEnds
+      : (PlanView → List (Option Told)) → List (Sample → ℕ) → Form → Status → Type 0
+  RowEnds told weights (run bench name) status = RunEnds told bench name status
+  RowEnds told weights (check name) status = LookRow (check_look name) status
+  RowEnds told weights (audit name) status = LookRow (audit_look name) status
+  RowEnds told weights (show name) status = LookRow (show_look weights name) status
+  RowEnds told weights (find name steps) status = LookRow (find_look name steps) status
+  RowEnds told weights (wave name from to) status = LookRow (wave_look name from to) status
+  RowEnds told weights (gen seed agents items) status =
+      (now ≡ was) × GenEnds out dump before after told seed agents items status
+
+  -- nothing was read, printed or dumped
+  abbrev pub IsUntouched : Type 0
+  IsUntouched = (now ≡ was) × (after ≡ before) × dump.Stays
+
+  -- words of no form are told so, or memory lacked, and nothing is touched; for words with a form
+  -- its row holds, or memory lacked before the call touched anything
+  abbrev pub CallEnds
+      : (PlanView → List (Option Told)) → List (Sample → ℕ) → Option Form → Status → Type 0
+  CallEnds told weights None status =
+      ((status ≡ BadWords) ⊎ (status ≡ OutOfMemory)) × IsUntouched
+  CallEnds told weights (Some form) status =
+      ((status ≡ OutOfMemory) × IsUntouched) ⊎ RowEnds told weights form status

@@ -1,0 +1,3 @@
+pub mod CallEnds
+pub mod Calls
+pub mod FileRead
