@@ -43,7 +43,7 @@ mode_of_spot AtHeader = Header
 mode_of_spot (InSection section) = mode_of_section section (header_word section.keyword)
 mode_of_spot AtValues = Values
 mode_of_spot (AtCode place digits) = Pending place (take 65 digits)
-mode_of_spot AtOtherCode = Beside
+mode_of_spot (AtOtherCode place) = Beside
 mode_of_spot (InRemark section) = Passed
 
 abbrev pub known_of : DumpState StrictHeader → Known
@@ -62,7 +62,7 @@ is_sound AtHeader = true
 is_sound (InSection section) = true
 is_sound AtValues = true
 is_sound (AtCode place digits) = list_all is_value_digit digits
-is_sound AtOtherCode = true
+is_sound (AtOtherCode place) = true
 is_sound (InRemark section) = true
 
 -- a token does the same

@@ -115,8 +115,8 @@ stays-at way (AtCode from digits) s t h =
     let p = placed s (AtCode from digits) in
     stays-short p t (vector_step way p t.place from digits (way.taps s.header t.word)) refl
     (stays-vector way p t.place from digits (way.taps s.header t.word) refl)
-stays-at way AtOtherCode s t h =
-    let p = placed s AtOtherCode in
+stays-at way (AtOtherCode from) s t h =
+    let p = placed s (AtOtherCode from) in
     stays-short p t (other_step p t.place (way.taps s.header t.word)) refl
     (stays-other p t.place (way.taps s.header t.word) refl)
 stays-at way (InRemark section) s t h =
@@ -177,7 +177,7 @@ heading_at AtHeader = Between
 heading_at (InSection section) = section_heading (header_word section.keyword)
 heading_at AtValues = Over
 heading_at (AtCode place digits) = Over
-heading_at AtOtherCode = Over
+heading_at (AtOtherCode place) = Over
 heading_at (InRemark section) = Over
 
 abbrev heading : {W : Type 0} → Step W → Heading
@@ -230,7 +230,7 @@ over_at AtHeader h = cc h
 over_at (InSection section) h = cc h
 over_at AtValues h = refl
 over_at (AtCode place digits) h = refl
-over_at AtOtherCode h = refl
+over_at (AtOtherCode place) h = refl
 over_at (InRemark section) h = refl
 
 -- the `$end` of a section is not too long
@@ -315,7 +315,7 @@ heading-at way (InSection section) s t =
     (is_end t.word) refl refl (end_short t.word) ∙ section-over (header_word section.keyword) t
 heading-at way AtValues s t = past-heading way AtValues s t refl
 heading-at way (AtCode from digits) s t = past-heading way (AtCode from digits) s t refl
-heading-at way AtOtherCode s t = past-heading way AtOtherCode s t refl
+heading-at way (AtOtherCode from) s t = past-heading way (AtOtherCode from) s t refl
 heading-at way (InRemark section) s t = past-heading way (InRemark section) s t refl
 
 -- without a fault the state stands here in the header
@@ -360,7 +360,7 @@ past_at (InSection section) h e o = by (header_word section.keyword) (ap is_over
     by Bare k = k
 past_at AtValues h e o = refl
 past_at (AtCode place digits) h e o = refl
-past_at AtOtherCode h e o = refl
+past_at (AtOtherCode place) h e o = refl
 past_at (InRemark section) h e o = refl
 
 done_where : {W : Type 0} (s : DumpState W) (h : Heading) (f : Option VcdFault) → s.fault ≡ f → Heads s h
@@ -441,7 +441,7 @@ calm-at way (InSection section) s t h =
     (calm-end way p section w) refl)
 calm-at way AtValues s t h = cc h
 calm-at way (AtCode from digits) s t h = cc h
-calm-at way AtOtherCode s t h = cc h
+calm-at way (AtOtherCode from) s t h = cc h
 calm-at way (InRemark section) s t h = cc h
 
 before_at : (spot : Spot) (h : Heading) → heading_at spot ≡ h → is_over h ≡ false → is_past_header_at spot ≡ false
@@ -450,7 +450,7 @@ before_at AtHeader h e o = refl
 before_at (InSection section) h e o = refl
 before_at AtValues h e o = let wrong = ap is_over e ∙ o in cc wrong
 before_at (AtCode place digits) h e o = let wrong = ap is_over e ∙ o in cc wrong
-before_at AtOtherCode h e o = let wrong = ap is_over e ∙ o in cc wrong
+before_at (AtOtherCode place) h e o = let wrong = ap is_over e ∙ o in cc wrong
 before_at (InRemark section) h e o = let wrong = ap is_over e ∙ o in cc wrong
 
 calm-fault : {W : Type 0} (s : DumpState W) (y : Step W) (f : Option VcdFault) → (f ≡ None → Calm y.happenings)

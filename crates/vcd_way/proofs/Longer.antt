@@ -7,7 +7,8 @@ use Rattle.vcd_way.specs.Ways.{Manner, Way}
 use Rattle.vcd_way.specs.Pieces.{Stamp, TapChange, Happening, Comes, Gets, Stops, Piece, Changes, Gap, pieces_from, over}
 use Rattle.vcd_way.specs.Events.{DumpEvent, Hole, Course, course_at_first, course_behind, values_after, unknown_in}
 use Rattle.vcd_way.specs.Events.{sample_in_block, events_from}
-use Rattle.vcd_way.specs.Steps.{DumpState, Step, first_state, reads_past, step, state_behind, happenings_in, is_past_header_at}
+use Rattle.vcd_way.specs.Steps.{DumpState, Step, first_state, reads_past, step, state_behind, happenings_in}
+use Rattle.vcd_way.specs.Steps.{is_past_header_at, hides_stamp}
 use Rattle.vcd_way.specs.Answers.{state_of, pieces_in, fault_at_end, whole_fault, is_early, first_fault_by, fault_so_far_by}
 use Rattle.vcd_way.specs.Answers.{events_so_far_by, events_by}
 use Rattle.vcd_way.proofs.Blocks.{pieces_some, over-cons}
@@ -183,5 +184,6 @@ fault-stays way fed more f e =
     let so_far = fault-longer way fed more f e in
     let whole = fault-more way (tokens_so_far text) (ended_at (length text) (open_run text)) f so_far in
     ap (λ b. if b then None else whole_fault way text)
-    (not_early way.manner.ends_early s.fault (is_past_header_at s.spot) (is_some (whole_fault way text)) f so_far)
+    (not_early way.manner.ends_early s.fault (is_past_header_at s.spot && not (hides_stamp all.spot))
+    (is_some (whole_fault way text)) f so_far)
     ∙ ap (λ x. fault_at_end x all.spot (length text)) whole

@@ -1,6 +1,6 @@
 -- Small dumps of other kinds, with what they tell, worked out by hand: what the definitions make of them is that.
-use Rattle.std.specs.Prelude.{◌≡◌, ℕ, ◌+◌, ◌++◌, [], ◌∷◌, length, map, List, true, false, if◌then◌else◌, Option, Some}
-use Rattle.std.specs.Prelude.{None, codes}
+use Rattle.std.specs.Prelude.{◌≡◌, ℕ, ◌+◌, ◌-◌, ◌++◌, [], ◌∷◌, length, map, List, true, false, if◌then◌else◌, Option, Some}
+use Rattle.std.specs.Prelude.{None, codes, option_map}
 use Rattle.std.proofs.Common.{refl}
 use Rattle.vcd_grammar.specs.declared.fault.VcdFault.{VcdFault}
 use Rattle.vcd_grammar.specs.declared.fault.VcdCause.TheVariants as causes
@@ -18,7 +18,7 @@ use Rattle.vcd_way.specs.Ways.{Keeps, Manner, Way}
 use Rattle.vcd_way.specs.Pieces.{line_number}
 use Rattle.vcd_way.specs.Events.{DumpEvent, Sampled, Hole, with_part}
 use Rattle.vcd_way.specs.Steps.{value_word_by, step}
-use Rattle.vcd_way.specs.Answers.{state_of, first_fault_by, early_end_by, events_so_far_by, events_by, header_by}
+use Rattle.vcd_way.specs.Answers.{EarlyEnd, state_of, first_fault_by, early_end_by, events_so_far_by, events_by, header_by}
 use Rattle.vcd_way.specs.Wide.{wide_digit, wide_manner}
 
 -- a way for these rows: `clk` is the clock; `ads` is ADS_n, active high; `addr` has 36 bits, active high, of which all but
@@ -89,7 +89,8 @@ unfolding first_fault_by ended_at grown_at number_up_to time_in extended header_
     declaration_of wide_digit
 told-fault = refl
 
-pub told-early : early_end_by wide text ≡ Some (record { place = length text; cause = causes.Cut })
+pub told-early : early_end_by wide text
+    ≡ Some (record { fault = record { place = length text; cause = causes.Cut }; open_from = Some (length text - 3) })
 unfolding early_end_by ended_at grown_at number_up_to time_in extended header_word value_word_by is_read_past step
     declaration_of wide_digit
 told-early = refl
@@ -129,6 +130,28 @@ pub early : events_by wide (header ++ codes "#0 0! 0a b0 A\n#5 1! b10") ≡ []
 unfolding first_fault_by events_by events_so_far_by ended_at grown_at number_up_to time_in extended header_word
     value_word_by is_read_past level_of control_of bits_without sample_at step declaration_of wide_digit
 early = refl
+
+-- a text that ends in a section: the same, but where the section holds a stamp it is cut
+abbrev open_section : List ℕ → List ℕ
+open_section words = header ++ codes "#0 0! 0a b0 A\n#5 1!\n#10 0!\n$comment " ++ words
+
+pub unended : events_by wide (open_section (codes "all well\n"))
+    ≡ events_by wide (header ++ codes "#0 0! 0a b0 A\n#5 1!\n#10 0!\n")
+unfolding first_fault_by events_by events_so_far_by ended_at grown_at number_up_to time_in extended header_word
+    value_word_by is_read_past level_of control_of bits_without sample_at step declaration_of wide_digit
+unended = refl
+
+pub unended-from : option_map (λ (e : EarlyEnd). e.open_from) (early_end_by wide (open_section (codes "all well\n")))
+    ≡ Some (Some (length header + 27))
+unfolding early_end_by ended_at grown_at number_up_to time_in extended header_word value_word_by is_read_past step
+    declaration_of wide_digit
+unended-from = refl
+
+pub swallowed : first_fault_by wide (open_section (codes "all well\n#15 1!\n"))
+    ≡ Some (record { place = length header + 52; cause = causes.Cut })
+unfolding first_fault_by ended_at grown_at number_up_to time_in extended header_word value_word_by is_read_past step
+    declaration_of wide_digit
+swallowed = refl
 
 -- ---- faults
 

@@ -63,10 +63,10 @@ at-same (AtCode from digits) s t h =
     (vector_turn (known_of (at s (AtCode from digits))) t.place from (take 65 digits) lines)
     (vector_step strict (at s (AtCode from digits)) t.place from digits (strict.taps s.header t.word)) h
     (same-vector-turn s t.place from digits lines h)
-at-same AtOtherCode s t h =
+at-same (AtOtherCode from) s t h =
     let lines = lines_of s.header.codes t.word in
-    short-same s AtOtherCode t (beside_turn (known_of (at s AtOtherCode)) t.place lines)
-    (other_step (at s AtOtherCode) t.place (strict.taps s.header t.word)) refl (same-beside s t.place lines)
+    short-same s (AtOtherCode from) t (beside_turn (known_of (at s (AtOtherCode from))) t.place lines)
+    (other_step (at s (AtOtherCode from)) t.place (strict.taps s.header t.word)) refl (same-beside s t.place from lines)
 at-same (InRemark section) s t h = same-remark s section t
 
 faultless : (b : Bool) (x z : TokenTurn) (y w : Step StrictHeader) → b ≡ false → Follows z w
@@ -174,7 +174,7 @@ same-cut AtHeader place = refl
 same-cut (InSection section) place = cut-section section (header_word section.keyword) place
 same-cut AtValues place = refl
 same-cut (AtCode from digits) place = refl
-same-cut AtOtherCode place = refl
+same-cut (AtOtherCode from) place = refl
 same-cut (InRemark section) place = refl
 
 same-end : (fault : Option VcdFault) (k : Known) (s : DumpState StrictHeader) (place : ℕ) → k.fault ≡ fault → s.fault ≡ fault

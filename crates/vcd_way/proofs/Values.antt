@@ -177,11 +177,11 @@ same-vector-turn s place from digits (Some lines) h =
     vector-width s from digits lines (is_too_wide (take 65 digits) lines) (is_too_wide_for (map whole lines) digits) refl
     (wide-test lines digits) (digits-meant digits h) h
 
-pub same-beside : (s : DumpState StrictHeader) (place : ℕ) (lines : Option (List ℕ))
-    → Follows (beside_turn (known_of (at s AtOtherCode)) place lines)
-    (other_step (at s AtOtherCode) place (option_map (map whole) lines))
-same-beside s place None = record { known = refl; alike = tt; sound = refl }
-same-beside s place (Some lines) = record { known = refl; alike = tt; sound = refl }
+pub same-beside : (s : DumpState StrictHeader) (place from : ℕ) (lines : Option (List ℕ))
+    → Follows (beside_turn (known_of (at s (AtOtherCode from))) place lines)
+    (other_step (at s (AtOtherCode from)) place (option_map (map whole) lines))
+same-beside s place from None = record { known = refl; alike = tt; sound = refl }
+same-beside s place from (Some lines) = record { known = refl; alike = tt; sound = refl }
 
 pub same-remark : (s : DumpState StrictHeader) (section : DumpSection) (t : Token)
     → Follows

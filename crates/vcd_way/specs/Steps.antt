@@ -5,7 +5,7 @@ use Rattle.vcd_grammar.specs.declared.fault.VcdFault.{VcdFault}
 use Rattle.vcd_grammar.specs.declared.fault.VcdCause.{VcdCause}
 use Rattle.vcd_grammar.specs.declared.fault.VcdCause.TheVariants as causes
 use Rattle.vcd_grammar.specs.Tokens.{Token, is_long}
-use Rattle.vcd_grammar.specs.Digits.{time_in}
+use Rattle.vcd_grammar.specs.Digits.{is_number, time_in}
 use Rattle.vcd_grammar.specs.Words.{HeaderWord, Declares, Finishes, Ends, Opens, Bare, header_word, is_dollar}
 use Rattle.vcd_grammar.specs.Words.{ValueWord, Stamp, Scalar, Vector, Foreign, Mark, Section, Wrong, stamp_word, scalar_word}
 use Rattle.vcd_grammar.specs.Words.{same, is_end, is_read_past}
@@ -27,8 +27,8 @@ pub data Spot : Type 0 where
   AtValues : Spot
   -- behind a vector of these digits at this place: its code is next
   AtCode : ℕ → List ℕ → Spot
-  -- behind a real number or a string: its code is next
-  AtOtherCode : Spot
+  -- after a real number or a string at this place: its code is next
+  AtOtherCode : ℕ → Spot
   -- in a section behind the header
   InRemark : DumpSection → Spot
 
@@ -231,7 +231,7 @@ abbrev pub value_step : {W : Type 0} → Way W → DumpState W → Token → Val
 value_step way s t (Stamp time) = stamp_step s t.place time s.time
 value_step way s t (Scalar digit code) = scalar_step way s t.place digit (way.taps s.header code)
 value_step way s t (Vector digits) = moves_to s (AtCode t.place digits)
-value_step way s t Foreign = moves_to s AtOtherCode
+value_step way s t Foreign = moves_to s (AtOtherCode t.place)
 value_step way s t Mark = mark_step way s t.word
 value_step way s t Section = moves_to s (InRemark (section_at t))
 value_step way s t Wrong = breaks s t.place causes.Token
@@ -253,7 +253,7 @@ step_at way (InSection section) s t = section_step way s section t
 step_at way AtValues s t = if_short s t (value_step way s t (value_word_by way.manner t.word))
 step_at way (AtCode from digits) s t =
     if_short s t (vector_step way s t.place from digits (way.taps s.header t.word))
-step_at way AtOtherCode s t = if_short s t (other_step s t.place (way.taps s.header t.word))
+step_at way (AtOtherCode from) s t = if_short s t (other_step s t.place (way.taps s.header t.word))
 step_at way (InRemark section) s t = remark_step s section t
 
 -- what a token does: behind the first fault nothing
@@ -276,3 +276,21 @@ is_past_header_at AtPreface = false
 is_past_header_at AtHeader = false
 is_past_header_at (InSection section) = false
 is_past_header_at _ = true
+
+-- the place where the section or the value begins that stands open
+abbrev pub open_from : Spot → Option ℕ
+open_from (InSection section) = Some section.place
+open_from (AtCode place digits) = Some place
+open_from (AtOtherCode place) = Some place
+open_from (InRemark section) = Some section.place
+open_from _ = None
+
+-- a word that elsewhere is a time stamp
+abbrev pub is_like_stamp : List ℕ → Bool
+is_like_stamp [] = false
+is_like_stamp (b ∷ bs) = (b == 35) && is_number bs
+
+-- an open section holds what looks like a time stamp: its `$end` may be missing since long ago
+abbrev pub hides_stamp : Spot → Bool
+hides_stamp (InRemark section) = list_any is_like_stamp section.words
+hides_stamp _ = false
