@@ -168,7 +168,7 @@ width-same s m section a b c e ws (Some w) =
 
 words-same : (s : DumpState StrictHeader) (m : Mode) (section : DumpSection) (ws : List (List ℕ))
     → Follows (declared (record (known_of s) { mode = m }) (draft_from (draft_at section.place) ws))
-    (declared_step strict (at s AtHeader) section.place (declaration_of s.path (record section { words = ws })))
+    (declared_step strict (at s AtHeader) section.place (declaration_of 1000000 s.path (record section { words = ws })))
 unfolding drafted declared declaration_of
 words-same s m section [] = rw no_width (record { known = refl; alike = tt; sound = refl })
 words-same s m section (a ∷ []) = rw no_width (record { known = refl; alike = tt; sound = refl })
@@ -177,7 +177,7 @@ words-same s m section (a ∷ b ∷ []) = by (width_in b) refl
     by : (width : Option ℕ) → width_in b ≡ width
         → Follows (declared (record (known_of s) { mode = m }) (draft_from (draft_at section.place) (a ∷ b ∷ [])))
         (declared_step strict (at s AtHeader) section.place
-        (declaration_of s.path (record section { words = a ∷ b ∷ [] })))
+        (declaration_of 1000000 s.path (record section { words = a ∷ b ∷ [] })))
     by None e = rw e (record { known = refl; alike = tt; sound = refl })
     by (Some w) e = rw e (record { known = refl; alike = tt; sound = refl })
 words-same s m section (a ∷ b ∷ c ∷ []) = by (width_in b) refl
@@ -185,7 +185,7 @@ words-same s m section (a ∷ b ∷ c ∷ []) = by (width_in b) refl
     by : (width : Option ℕ) → width_in b ≡ width
         → Follows (declared (record (known_of s) { mode = m }) (draft_from (draft_at section.place) (a ∷ b ∷ c ∷ [])))
         (declared_step strict (at s AtHeader) section.place
-        (declaration_of s.path (record section { words = a ∷ b ∷ c ∷ [] })))
+        (declaration_of 1000000 s.path (record section { words = a ∷ b ∷ c ∷ [] })))
     by None e = rw e (record { known = refl; alike = tt; sound = refl })
     by (Some w) e = rw e (record { known = refl; alike = tt; sound = refl })
 words-same s m section (a ∷ b ∷ c ∷ e ∷ ws) =

@@ -1,6 +1,6 @@
 -- In every way, what is kept of the header is known from the `$end` of its `$enddefinitions` on, and stays; before that no
 -- piece is over.
-use Rattle.std.proofs.Common.{◌≡◌, ℕ, Bool, true, false, ◌&&◌, ◌||◌, ◌==◌, if◌then◌else◌, is_some, List, [], ◌∷◌, ◌++◌}
+use Rattle.std.proofs.Common.{◌≡◌, ℕ, Bool, true, false, not, ◌&&◌, ◌||◌, ◌==◌, if◌then◌else◌, is_some, List, [], ◌∷◌, ◌++◌}
 use Rattle.std.proofs.Common.{length, codes, nat_eq, nat_lt, Option, Some, None, refl, sym, ap, subst, ◌∙◌, arith}
 use Rattle.std.specs.List.{list_all}
 use Rattle.std.specs.Cmp.Lexicographic.{same_text}
@@ -23,7 +23,7 @@ use Rattle.vcd_way.specs.Steps.{first_state, Step, reads_past, moves_to, breaks,
 use Rattle.vcd_way.specs.Steps.{unknown_from_here, kept_step, declared_step, section_end, is_declaring}
 use Rattle.vcd_way.specs.Steps.{digits_by, value_word_by, comes, stamp_step, given, scalar_step, is_too_wide_for, vector_step}
 use Rattle.vcd_way.specs.Steps.{other_step, mark_step, value_step, step_at, step, state_behind, happenings_in}
-use Rattle.vcd_way.specs.Steps.{is_past_header_at}
+use Rattle.vcd_way.specs.Steps.{is_past_header_at, vector_digits, may_be_long}
 use Rattle.vcd_way.specs.Answers.{state_of, header_in, header_by, header_so_far_by, header_at_end_by, events_so_far_by}
 use Rattle.vcd_way.specs.Events.{course_at_first, events_from}
 
@@ -74,8 +74,8 @@ stays-vector : {W : Type 0} (way : Way W) (s : DumpState W) (place from : ℕ) (
 stays-vector way s place from digits None h = stays-breaks s place causes.Code h
 stays-vector way s place from digits (Some taps) h =
     stays-if s (is_too_wide_for taps digits) (breaks s from causes.Width)
-    (given s from taps (digits_by way.manner digits)) (stays-breaks s from causes.Width h)
-    (stays-given s from taps (digits_by way.manner digits) h)
+    (given s from taps (vector_digits way.manner digits)) (stays-breaks s from causes.Width h)
+    (stays-given s from taps (vector_digits way.manner digits) h)
 
 stays-other : {W : Type 0} (s : DumpState W) (place : ℕ) (taps : Option (List Tap)) → is_past_header_at s.spot ≡ true
     → Stays s (other_step s place taps)
@@ -109,8 +109,10 @@ stays-at way AtPreface s t h = cc h
 stays-at way AtHeader s t h = cc h
 stays-at way (InSection section) s t h = cc h
 stays-at way AtValues s t h =
-    stays-short (placed s AtValues) t (value_step way (placed s AtValues) t (value_word_by way.manner t.word)) refl
-    (stays-value way (placed s AtValues) t (value_word_by way.manner t.word) refl)
+    let w = value_word_by way.manner t.word in
+    stays-if (placed s AtValues) (not (way.manner.takes_any && may_be_long w) && is_long t.word)
+    (breaks (placed s AtValues) t.place causes.Token) (value_step way (placed s AtValues) t w)
+    (stays-breaks (placed s AtValues) t.place causes.Token refl) (stays-value way (placed s AtValues) t w refl)
 stays-at way (AtCode from digits) s t h =
     let p = placed s (AtCode from digits) in
     stays-short p t (vector_step way p t.place from digits (way.taps s.header t.word)) refl
@@ -265,7 +267,7 @@ section-heading : {W : Type 0} (way : Way W) (s : DumpState W) (section : DumpSe
 section-heading way s section t Declares true true e f g = let wrong = g refl in cc wrong
 section-heading way s section t Declares true false e f g = ap heading_at f ∙ ap section_heading e
 section-heading way s section t Declares false true e f g =
-    declared-heading way (placed s AtHeader) section.place (declaration_of s.path section)
+    declared-heading way (placed s AtHeader) section.place (declaration_of way.manner.widest s.path section)
 section-heading way s section t Declares false false e f g = ap section_heading e
 section-heading way s section t Finishes true true e f g = kept-heading (placed s AtValues) section.place (way.closes s.header)
 section-heading way s section t Finishes false true e f g =
@@ -417,7 +419,7 @@ calm-short s t y p = calm-if (is_long t.word) (breaks s t.place causes.Token) y 
 calm-end : {W : Type 0} (way : Way W) (s : DumpState W) (section : DumpSection) (w : HeaderWord)
     → Calm (section_end way s section w).happenings
 calm-end way s section Declares =
-    calm-declared way (placed s AtHeader) section.place (declaration_of s.path section)
+    calm-declared way (placed s AtHeader) section.place (declaration_of way.manner.widest s.path section)
 calm-end way s section Finishes = calm-kept (placed s AtValues) section.place (way.closes s.header)
 calm-end way s section Ends = refl
 calm-end way s section Opens = refl

@@ -1,6 +1,6 @@
 -- Small dumps of other kinds, with what they tell, worked out by hand: what the definitions make of them is that.
 use Rattle.std.specs.Prelude.{◌≡◌, ℕ, ◌+◌, ◌-◌, ◌++◌, [], ◌∷◌, length, map, List, true, false, if◌then◌else◌, Option, Some}
-use Rattle.std.specs.Prelude.{None, codes, option_map}
+use Rattle.std.specs.Prelude.{None, codes, option_map, replicate}
 use Rattle.std.proofs.Common.{refl}
 use Rattle.vcd_grammar.specs.declared.fault.VcdFault.{VcdFault}
 use Rattle.vcd_grammar.specs.declared.fault.VcdCause.TheVariants as causes
@@ -161,17 +161,37 @@ fault_of more = first_fault_by wide (header ++ more)
 
 abbrev texts : List (List ℕ)
 texts = codes "#0 qa\n" ∷ codes "#0 qm\n" ∷ codes "#0 bq A\n" ∷ codes "#0 b1111111111111111111111111111111111111 A\n"
-    ∷ codes "#0 1?\n" ∷ codes "#5 #4\n" ∷ codes "#5 #4" ∷ []
+    ∷ codes "#0 1?\n" ∷ codes "#5 #4\n" ∷ codes "#5 #4" ∷ codes "#0 b m\n" ∷ codes "#0 b A\n" ∷ []
 
 pub faults : map fault_of texts
     ≡ Some (record { place = length header + 3; cause = causes.Token }) ∷ None
     ∷ Some (record { place = length header + 3; cause = causes.Token })
     ∷ Some (record { place = length header + 3; cause = causes.Width })
     ∷ Some (record { place = length header + 3; cause = causes.Code })
-    ∷ Some (record { place = length header + 3; cause = causes.TimeBack }) ∷ None ∷ []
+    ∷ Some (record { place = length header + 3; cause = causes.TimeBack }) ∷ None ∷ None
+    ∷ Some (record { place = length header + 3; cause = causes.Token }) ∷ []
 unfolding first_fault_by ended_at grown_at number_up_to time_in extended header_word value_word_by is_read_past step
     declaration_of wide_digit
 faults = refl
+
+-- a variable of two million bits, and one of none
+pub any_width : first_fault_by wide
+    (codes "$var reg 2000000 w big $end\n$var wire 0 n no $end\n$enddefinitions $end\n#0 bx w\nb n\n0n\n") ≡ None
+unfolding first_fault_by ended_at grown_at number_up_to time_in extended header_word value_word_by is_read_past step
+    declaration_of wide_digit
+any_width = refl
+
+-- a value that is too long for a token: of no line it is read past, of a line too wide
+abbrev behind_long : List ℕ → Option VcdFault
+behind_long code =
+    let long = step wide (state_of wide (tokens_of header)) (record { place = 300; word = 98 ∷ replicate 70000 48 }) in
+    (step wide long.state (record { place = 70301; word = code })).state.fault
+
+pub long : map behind_long (codes "m" ∷ codes "A" ∷ [])
+    ≡ None ∷ Some (record { place = 300; cause = causes.Width }) ∷ []
+unfolding ended_at grown_at number_up_to time_in extended header_word value_word_by is_read_past step declaration_of
+    wide_digit
+long = refl
 
 -- ---- edges
 

@@ -1,7 +1,7 @@
 -- The sections of a header, and the variables that they declare.
 use Rattle.std.specs.Prelude.{ℕ, ◌&&◌, nat_le, if◌then◌else◌, List, [], ◌∷◌, ◌++◌, length, drop, slice_get, codes, Option, Some, None}
 use Rattle.std.specs.Option.{option_map_or}
-use Rattle.vcd_grammar.specs.Digits.{width_in}
+use Rattle.vcd_grammar.specs.Digits.{number_up_to}
 use Rattle.vcd_grammar.specs.Words.{same, name_in, is_code_word}
 
 -- a section so far: the word that opens it, its place, and the words behind it
@@ -58,10 +58,11 @@ declaration_with path section (Some width) =
     })
     else None
 
--- the declaration that a section is in these scopes: it has four words at least, its width is a
--- number, and its code one
-unfoldable pub declaration_of : List (List ℕ) → DumpSection → Option Declaration
-declaration_of path section = declaration_with path section (width_in (word_of_section section 1))
+-- the declaration that a section is in these scopes: it has four words or more, its width is a
+-- number up to the widest, and each byte of its code is 33 to 126
+unfoldable pub declaration_of : ℕ → List (List ℕ) → DumpSection → Option Declaration
+declaration_of widest path section =
+    declaration_with path section (number_up_to widest (word_of_section section 1))
 
 -- the first section of this keyword, as one word
 abbrev pub text_of_section : List ℕ → List DumpSection → Option (List ℕ)

@@ -1,10 +1,10 @@
 -- Each token, judged in the place where it stands, in any way to read a dump.
-use Rattle.std.specs.Prelude.{ℕ, ◌-◌, Bool, true, false, ◌&&◌, ◌||◌, ◌==◌, nat_lt, if◌then◌else◌, List, [], ◌∷◌, ◌++◌, length, take, map, codes, Option, Some, None, is_some}
+use Rattle.std.specs.Prelude.{ℕ, ◌-◌, Bool, true, false, not, ◌&&◌, ◌||◌, ◌==◌, nat_lt, nat_le, if◌then◌else◌, List, [], ◌∷◌, ◌++◌, length, take, map, codes, Option, Some, None, is_some}
 use Rattle.std.specs.List.{list_all, list_any}
 use Rattle.vcd_grammar.specs.declared.fault.VcdFault.{VcdFault}
 use Rattle.vcd_grammar.specs.declared.fault.VcdCause.{VcdCause}
 use Rattle.vcd_grammar.specs.declared.fault.VcdCause.TheVariants as causes
-use Rattle.vcd_grammar.specs.Tokens.{Token, is_long}
+use Rattle.vcd_grammar.specs.Tokens.{Token, longest, is_long}
 use Rattle.vcd_grammar.specs.Digits.{is_number, time_in}
 use Rattle.vcd_grammar.specs.Words.{HeaderWord, Declares, Finishes, Ends, Opens, Bare, header_word, is_dollar}
 use Rattle.vcd_grammar.specs.Words.{ValueWord, Stamp, Scalar, Vector, Foreign, Mark, Section, Wrong, stamp_word, scalar_word}
@@ -122,7 +122,8 @@ told s section =
 -- a section at its `$end`
 abbrev pub section_end : {W : Type 0} → Way W → DumpState W → DumpSection → HeaderWord → Step W
 section_end way s section Declares =
-    declared_step way (record s { spot = AtHeader }) section.place (declaration_of s.path section)
+    declared_step way (record s { spot = AtHeader }) section.place
+    (declaration_of way.manner.widest s.path section)
 section_end way s section Finishes =
     kept_step (record s { spot = AtValues }) section.place (way.closes s.header)
 section_end way s section _ = moves_to (told s section) AtHeader
@@ -157,9 +158,9 @@ abbrev pub digits_by : Manner → List ℕ → Option (List ℕ)
 digits_by m [] = Some []
 digits_by m (b ∷ bs) = one_more (m.digit b) (digits_by m bs)
 
--- one digit or more
+-- one digit or more; of a variable that is no line it may be none
 abbrev pub vector_by : Manner → List ℕ → ValueWord
-vector_by m [] = Wrong
+vector_by m [] = if m.takes_any then Vector [] else Wrong
 vector_by m (b ∷ bs) = if m.takes_any || list_all (is_digit_by m) (b ∷ bs) then Vector (b ∷ bs) else Wrong
 
 -- what a token says between the values: `#` begins a time stamp, a digit a scalar change, `b` a
@@ -207,12 +208,20 @@ scalar_step way s place digit (Some taps) = given s place taps (digits_by way.ma
 abbrev pub is_too_wide_for : List Tap → List ℕ → Bool
 is_too_wide_for taps digits = list_any (λ (tap : Tap). nat_lt tap.width (length digits)) taps
 
+-- a vector without digits, or one of which only the first are known
+abbrev pub is_unreadable : List ℕ → Bool
+is_unreadable digits = (length digits == 0) || nat_le longest (length digits)
+
+-- the digits of a vector; one that is let pass may have none
+abbrev pub vector_digits : Manner → List ℕ → Option (List ℕ)
+vector_digits m digits = if m.takes_any && is_unreadable digits then None else digits_by m digits
+
 -- the code at a place, behind a vector at another, where the code stands for these taps
 abbrev pub vector_step : {W : Type 0} → Way W → DumpState W → ℕ → ℕ → List ℕ → Option (List Tap) → Step W
 vector_step way s place from digits None = breaks s place causes.Code
 vector_step way s place from digits (Some taps) =
     if is_too_wide_for taps digits then breaks s from causes.Width
-    else given s from taps (digits_by way.manner digits)
+    else given s from taps (vector_digits way.manner digits)
 
 -- the code behind a real number or a string, whose value is read past
 abbrev pub other_step : {W : Type 0} → DumpState W → ℕ → Option (List Tap) → Step W
@@ -236,6 +245,18 @@ value_step way s t Mark = mark_step way s t.word
 value_step way s t Section = moves_to s (InRemark (section_at t))
 value_step way s t Wrong = breaks s t.place causes.Token
 
+-- a value that may be too long for a token where any is let pass: a vector, a real number, a string
+abbrev pub may_be_long : ValueWord → Bool
+may_be_long (Vector digits) = true
+may_be_long Foreign = true
+may_be_long _ = false
+
+-- a token between values that says this; a value that may be too long counts by its first bytes
+abbrev pub word_step : {W : Type 0} → Way W → DumpState W → Token → ValueWord → Step W
+word_step way s t w =
+    if not (way.manner.takes_any && may_be_long w) && is_long t.word then breaks s t.place causes.Token
+    else value_step way s t w
+
 -- a token in a section behind the header
 abbrev pub remark_step : {W : Type 0} → DumpState W → DumpSection → Token → Step W
 remark_step s section t =
@@ -250,7 +271,7 @@ step_at way AtPreface s t =
     if is_dollar t.word then if_short s t (header_step s t (header_word t.word)) else reads_past s
 step_at way AtHeader s t = if_short s t (header_step s t (header_word t.word))
 step_at way (InSection section) s t = section_step way s section t
-step_at way AtValues s t = if_short s t (value_step way s t (value_word_by way.manner t.word))
+step_at way AtValues s t = word_step way s t (value_word_by way.manner t.word)
 step_at way (AtCode from digits) s t =
     if_short s t (vector_step way s t.place from digits (way.taps s.header t.word))
 step_at way (AtOtherCode from) s t = if_short s t (other_step s t.place (way.taps s.header t.word))

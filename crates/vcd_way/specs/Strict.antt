@@ -64,6 +64,7 @@ abbrev pub strict_manner : Manner
 strict_manner = record {
   digit = strict_digit;
   takes_any = false;
+  widest = 1000000;
   edge = edges.Rising;
   takes_first = false;
   late = [];

@@ -16,8 +16,10 @@ pub data Kept (W : Type 0) : Type 0 where
 pub record Manner : Type 0 where
   -- the digit that a byte means: 0, 1, x for unknown or z for open
   pub digit : ℕ → Option ℕ
-  -- a value of other bytes is no fault where its code stands for no line
+  -- any value is let pass of a variable that is no line
   pub takes_any : Bool
+  -- the most bits that a variable has
+  pub widest : ℕ
   pub edge : Edge
   -- a clock that is first seen behind its edge has its first edge there
   pub takes_first : Bool

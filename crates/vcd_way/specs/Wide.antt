@@ -23,6 +23,7 @@ abbrev pub wide_manner : Manner
 wide_manner = record {
   digit = wide_digit;
   takes_any = true;
+  widest = 4294967295;
   edge = edges.Rising;
   takes_first = false;
   late = [];
