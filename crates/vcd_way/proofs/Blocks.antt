@@ -6,7 +6,7 @@ use Rattle.fsb_signal.specs.declared.sample.Sample.{Sample}
 use Rattle.vcd_grammar.specs.Blocks.{Block, Change, BlockEvent, Later, Changed, blocks_from, ended}
 use Rattle.vcd_grammar.specs.Values.{Values, set_lines, values_behind, clock_of, is_rise, sample_of, samples_in}
 use Rattle.vcd_grammar.proofs.Interface.{blocks_some, ended-cons}
-use Rattle.vcd_way.specs.Pieces.{Stamp, TapChange, Happening, Comes, Gets, Stops, Piece, Changes, pieces_from, over}
+use Rattle.vcd_way.specs.Pieces.{Stamp, TapChange, Happening, Comes, Gets, Switches, Piece, Changes, pieces_from, over}
 use Rattle.vcd_way.specs.Events.{DumpEvent, Sampled, Course, course_behind, set_taps, values_after, sample_in_block}
 use Rattle.vcd_way.specs.Events.{events_from, samples_among, is_known_digit}
 use Rattle.vcd_way.specs.Strict.{strict_manner}
@@ -29,11 +29,11 @@ alike-append [] fs (h ∷ hs) js p q = absurd p
 alike-append (Later ∷ es) fs [] js p q = absurd p
 alike-append (Later ∷ es) fs (Comes stamp ∷ hs) js p q = alike-append es fs hs js p q
 alike-append (Later ∷ es) fs (Gets g ∷ hs) js p q = absurd p
-alike-append (Later ∷ es) fs (Stops lines ∷ hs) js p q = absurd p
+alike-append (Later ∷ es) fs (Switches switch lines ∷ hs) js p q = absurd p
 alike-append (Changed c ∷ es) fs [] js p q = absurd p
 alike-append (Changed c ∷ es) fs (Comes stamp ∷ hs) js p q = absurd p
 alike-append (Changed c ∷ es) fs (Gets g ∷ hs) js p q = (p.0, alike-append es fs hs js p.1 q)
-alike-append (Changed c ∷ es) fs (Stops lines ∷ hs) js p q = absurd p
+alike-append (Changed c ∷ es) fs (Switches switch lines ∷ hs) js p q = absurd p
 
 behind-snoc : (v : Values) (b : Block) (c : Change)
     → values_behind v (b ++ c ∷ []) ≡ set_lines (values_behind v b) c.lines c.digits
@@ -86,7 +86,7 @@ alike-samples block g stamp c (Later ∷ es) (Comes next ∷ hs) s o a =
     (alike-samples [] [] (Some next) (course_behind c after) es hs (unseen-behind c after) refl a)
     ∙ sym (picked c stamp after (events_from strict_manner (course_behind c after) (pieces_from (Some next) [] hs)) s)
 alike-samples block g stamp c (Later ∷ es) (Gets y ∷ hs) s o a = absurd a
-alike-samples block g stamp c (Later ∷ es) (Stops lines ∷ hs) s o a = absurd a
+alike-samples block g stamp c (Later ∷ es) (Switches switch lines ∷ hs) s o a = absurd a
 alike-samples block g stamp c (Changed x ∷ es) [] s o a = absurd a
 alike-samples block g stamp c (Changed x ∷ es) (Comes next ∷ hs) s o a = absurd a
 alike-samples block g stamp c (Changed x ∷ es) (Gets y ∷ hs) s o a =
@@ -95,14 +95,14 @@ alike-samples block g stamp c (Changed x ∷ es) (Gets y ∷ hs) s o a =
     ∙ a.0 (values_after c.values g)
     ∙ sym (after-snoc c.values g y) in
     alike-samples (block ++ x ∷ []) (g ++ y ∷ []) stamp c es hs s standing a.1
-alike-samples block g stamp c (Changed x ∷ es) (Stops lines ∷ hs) s o a = absurd a
+alike-samples block g stamp c (Changed x ∷ es) (Switches switch lines ∷ hs) s o a = absurd a
 
 -- there is a last piece
 pub pieces_some : (stamp : Option Stamp) (g : List TapChange) (hs : List Happening) → 0 < length (pieces_from stamp g hs)
 pieces_some stamp g [] = omega arith
 pieces_some stamp g (Comes next ∷ hs) = omega (arith, pieces_some (Some next) [] hs)
 pieces_some stamp g (Gets y ∷ hs) = pieces_some stamp (g ++ y ∷ []) hs
-pieces_some stamp g (Stops lines ∷ hs) = omega (arith, pieces_some stamp [] hs)
+pieces_some stamp g (Switches switch lines ∷ hs) = omega (arith, pieces_some stamp [] hs)
 
 -- a piece before others is over
 pub over-cons : (p : Piece) (ps : List Piece) → 0 < length ps → over (p ∷ ps) ≡ p ∷ over ps
@@ -129,7 +129,7 @@ alike-ended block g stamp c (Later ∷ es) (Comes next ∷ hs) s o a =
     ∙ sym (ap (λ qs. samples_among (events_from strict_manner c qs))
     (over-cons (Changes stamp g) ps (pieces_some (Some next) [] hs)))
 alike-ended block g stamp c (Later ∷ es) (Gets y ∷ hs) s o a = absurd a
-alike-ended block g stamp c (Later ∷ es) (Stops lines ∷ hs) s o a = absurd a
+alike-ended block g stamp c (Later ∷ es) (Switches switch lines ∷ hs) s o a = absurd a
 alike-ended block g stamp c (Changed x ∷ es) [] s o a = absurd a
 alike-ended block g stamp c (Changed x ∷ es) (Comes next ∷ hs) s o a = absurd a
 alike-ended block g stamp c (Changed x ∷ es) (Gets y ∷ hs) s o a =
@@ -138,7 +138,7 @@ alike-ended block g stamp c (Changed x ∷ es) (Gets y ∷ hs) s o a =
     ∙ a.0 (values_after c.values g)
     ∙ sym (after-snoc c.values g y) in
     alike-ended (block ++ x ∷ []) (g ++ y ∷ []) stamp c es hs s standing a.1
-alike-ended block g stamp c (Changed x ∷ es) (Stops lines ∷ hs) s o a = absurd a
+alike-ended block g stamp c (Changed x ∷ es) (Switches switch lines ∷ hs) s o a = absurd a
 
 -- ---- the strict way tells samples alone
 
@@ -169,8 +169,8 @@ no_holes g stamp c (Later ∷ es) (Comes next ∷ hs) a =
     plain-block c stamp after (events_from strict_manner (course_behind c after) (pieces_from (Some next) [] hs))
     (no_holes [] (Some next) (course_behind c after) es hs a)
 no_holes g stamp c (Later ∷ es) (Gets y ∷ hs) a = absurd a
-no_holes g stamp c (Later ∷ es) (Stops lines ∷ hs) a = absurd a
+no_holes g stamp c (Later ∷ es) (Switches switch lines ∷ hs) a = absurd a
 no_holes g stamp c (Changed x ∷ es) [] a = absurd a
 no_holes g stamp c (Changed x ∷ es) (Comes next ∷ hs) a = absurd a
 no_holes g stamp c (Changed x ∷ es) (Gets y ∷ hs) a = no_holes (g ++ y ∷ []) stamp c es hs a.1
-no_holes g stamp c (Changed x ∷ es) (Stops lines ∷ hs) a = absurd a
+no_holes g stamp c (Changed x ∷ es) (Switches switch lines ∷ hs) a = absurd a

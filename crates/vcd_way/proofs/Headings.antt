@@ -17,13 +17,13 @@ use Rattle.vcd_grammar.proofs.Interface.{tokens-append}
 use Rattle.vcd_way.specs.Declarations.{DumpSection, Declaration, declaration_of, with_word}
 use Rattle.vcd_way.specs.declared.tap.Tap.{Tap}
 use Rattle.vcd_way.specs.Ways.{Kept, Keeps, Refuses, Way}
-use Rattle.vcd_way.specs.Pieces.{Stamp as TimeStamp, TapChange, Happening, Comes, Gets, Stops, pieces_from, over}
+use Rattle.vcd_way.specs.Pieces.{Stamp as TimeStamp, TapChange, Happening, Comes, Gets, Switches, pieces_from, over}
 use Rattle.vcd_way.specs.Steps.{Spot, AtPreface, AtHeader, InSection, AtValues, AtCode, AtOtherCode, InRemark, DumpState}
 use Rattle.vcd_way.specs.Steps.{first_state, Step, reads_past, moves_to, breaks, if_short, header_step}
 use Rattle.vcd_way.specs.Steps.{unknown_from_here, kept_step, declared_step, section_end, is_declaring}
 use Rattle.vcd_way.specs.Steps.{digits_by, value_word_by, comes, stamp_step, given, scalar_step, is_too_wide_for, vector_step}
 use Rattle.vcd_way.specs.Steps.{other_step, mark_step, value_step, step_at, step, state_behind, happenings_in}
-use Rattle.vcd_way.specs.Steps.{is_past_header_at, vector_digits, may_be_long}
+use Rattle.vcd_way.specs.Steps.{is_past_header_at, vector_digits, may_be_long, stops, resumes}
 use Rattle.vcd_way.specs.Answers.{state_of, header_in, header_by, header_so_far_by, header_at_end_by, events_so_far_by}
 use Rattle.vcd_way.specs.Events.{course_at_first, events_from}
 
@@ -85,9 +85,10 @@ stays-other s place (Some taps) h = record { header = refl; past = refl }
 stays-mark : {W : Type 0} (way : Way W) (s : DumpState W) (word : List ℕ) → is_past_header_at s.spot ≡ true
     → Stays s (mark_step way s word)
 stays-mark way s word h =
-    stays-if s (way.manner.tells_holes && same (codes "$dumpoff") word)
-    (record { state = s; happenings = Stops (way.lines s.header) ∷ [] }) (reads_past s)
-    (record { header = refl; past = h }) (stays-same s h)
+    let on = way.manner.tells_holes && (s.is_off && same (codes "$dumpon") word) in
+    stays-if s (way.manner.tells_holes && same (codes "$dumpoff") word) (stops way s)
+    (if on then resumes way s else reads_past s) (record { header = refl; past = h })
+    (stays-if s on (resumes way s) (reads_past s) (record { header = refl; past = h }) (stays-same s h))
 
 stays-value : {W : Type 0} (way : Way W) (s : DumpState W) (t : Token) (w : ValueWord) → is_past_header_at s.spot ≡ true
     → Stays s (value_step way s t w)
@@ -382,7 +383,7 @@ done-of way ts o =
 abbrev is_change : Happening → Bool
 is_change (Comes stamp) = false
 is_change (Gets change) = true
-is_change (Stops lines) = false
+is_change (Switches switch lines) = false
 
 -- no time comes, and there is no hole
 abbrev Calm : List Happening → Type 0
@@ -470,7 +471,7 @@ calm-append : (a b : List Happening) → Calm a → Calm b → Calm (a ++ b)
 calm-append [] b p q = q
 calm-append (Comes stamp ∷ a) b p q = cc p
 calm-append (Gets change ∷ a) b p q = calm-append a b p q
-calm-append (Stops lines ∷ a) b p q = cc p
+calm-append (Switches switch lines ∷ a) b p q = cc p
 
 -- the header stays over
 over-behind : (ts : List Token) → is_over (heading_behind Over ts) ≡ true
@@ -504,7 +505,7 @@ none_over : (stamp : Option TimeStamp) (block : List TapChange) (hs : List Happe
 none_over stamp block [] h = refl
 none_over stamp block (Comes next ∷ hs) h = cc h
 none_over stamp block (Gets change ∷ hs) h = none_over stamp (block ++ change ∷ []) hs h
-none_over stamp block (Stops lines ∷ hs) h = cc h
+none_over stamp block (Switches switch lines ∷ hs) h = cc h
 
 -- ---- what first bytes show
 

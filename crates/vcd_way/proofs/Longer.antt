@@ -4,8 +4,9 @@ use Rattle.std.proofs.Common.{length, append_assoc, append-nil, Option, Some, No
 use Rattle.vcd_grammar.specs.declared.fault.VcdFault.{VcdFault}
 use Rattle.vcd_grammar.specs.Tokens.{Token, open_run, ended_at, tokens_from, tokens_of, tokens_so_far}
 use Rattle.vcd_way.specs.Ways.{Manner, Way}
-use Rattle.vcd_way.specs.Pieces.{Stamp, TapChange, Happening, Comes, Gets, Stops, Piece, Changes, Gap, pieces_from, over}
-use Rattle.vcd_way.specs.Events.{DumpEvent, Hole, Course, course_at_first, course_behind, values_after, unknown_in}
+use Rattle.vcd_way.specs.Pieces.{Stamp, TapChange, Happening, Comes, Gets, Switches, Piece, Changes, Switched}
+use Rattle.vcd_way.specs.Pieces.{pieces_from, over}
+use Rattle.vcd_way.specs.Events.{DumpEvent, switch_event, Course, course_at_first, course_behind, values_after, unknown_in}
 use Rattle.vcd_way.specs.Events.{sample_in_block, events_from}
 use Rattle.vcd_way.specs.Steps.{DumpState, Step, first_state, reads_past, step, state_behind, happenings_in}
 use Rattle.vcd_way.specs.Steps.{is_past_header_at, hides_stamp}
@@ -43,17 +44,17 @@ open-last m c stamp block (Comes next ∷ hs) =
     (goes-on-behind here (events_from m (course_behind c after) (over ps)) (events_from m (course_behind c after) ps)
     (open-last m (course_behind c after) (Some next) [] hs))
 open-last m c stamp block (Gets change ∷ hs) = open-last m c stamp (block ++ change ∷ []) hs
-open-last m c stamp block (Stops lines ∷ hs) =
+open-last m c stamp block (Switches switch lines ∷ hs) =
     let after = values_after c.values block in
     let ps = pieces_from stamp [] hs in
     let here = sample_in_block m c stamp after in
     let there = record (course_behind c after) { values = unknown_in after lines } in
     let rest = pieces_some stamp [] hs in
-    subst (λ x. GoesOnFrom x (here ++ Hole stamp ∷ events_from m there ps))
-    (sym (over-first m c (Changes stamp block) (Gap stamp lines ∷ ps) (omega (arith, rest))
-    ∙ ap (λ x. here ++ x) (over-first m (course_behind c after) (Gap stamp lines) ps rest)))
-    (goes-on-behind here (Hole stamp ∷ events_from m there (over ps)) (Hole stamp ∷ events_from m there ps)
-    (goes-on-behind (Hole stamp ∷ []) (events_from m there (over ps)) (events_from m there ps)
+    subst (λ x. GoesOnFrom x (here ++ switch_event switch stamp ∷ events_from m there ps))
+    (sym (over-first m c (Changes stamp block) (Switched switch stamp lines ∷ ps) (omega (arith, rest))
+    ∙ ap (λ x. here ++ x) (over-first m (course_behind c after) (Switched switch stamp lines) ps rest)))
+    (goes-on-behind here (switch_event switch stamp ∷ events_from m there (over ps)) (switch_event switch stamp ∷ events_from m there ps)
+    (goes-on-behind (switch_event switch stamp ∷ []) (events_from m there (over ps)) (events_from m there ps)
     (open-last m there stamp [] hs)))
 
 -- what the pieces tell that are over behind some happenings, those tell first that are over behind more
@@ -74,7 +75,7 @@ more-over m c stamp block (Comes next ∷ hs) js =
     (goes-on-behind here (events_from m next_course (over few)) (events_from m next_course (over many))
     (more-over m next_course (Some next) [] hs js)))
 more-over m c stamp block (Gets change ∷ hs) js = more-over m c stamp (block ++ change ∷ []) hs js
-more-over m c stamp block (Stops lines ∷ hs) js =
+more-over m c stamp block (Switches switch lines ∷ hs) js =
     let after = values_after c.values block in
     let few = pieces_from stamp [] hs in
     let many = pieces_from stamp [] (hs ++ js) in
@@ -82,14 +83,14 @@ more-over m c stamp block (Stops lines ∷ hs) js =
     let there = record (course_behind c after) { values = unknown_in after lines } in
     let some_few = pieces_some stamp [] hs in
     let some_many = pieces_some stamp [] (hs ++ js) in
-    subst (λ x. GoesOnFrom x (events_from m c (over (Changes stamp block ∷ Gap stamp lines ∷ many))))
-    (sym (over-first m c (Changes stamp block) (Gap stamp lines ∷ few) (omega (arith, some_few))
-    ∙ ap (λ x. here ++ x) (over-first m (course_behind c after) (Gap stamp lines) few some_few)))
-    (subst (λ x. GoesOnFrom (here ++ Hole stamp ∷ events_from m there (over few)) x)
-    (sym (over-first m c (Changes stamp block) (Gap stamp lines ∷ many) (omega (arith, some_many))
-    ∙ ap (λ x. here ++ x) (over-first m (course_behind c after) (Gap stamp lines) many some_many)))
-    (goes-on-behind here (Hole stamp ∷ events_from m there (over few)) (Hole stamp ∷ events_from m there (over many))
-    (goes-on-behind (Hole stamp ∷ []) (events_from m there (over few)) (events_from m there (over many))
+    subst (λ x. GoesOnFrom x (events_from m c (over (Changes stamp block ∷ Switched switch stamp lines ∷ many))))
+    (sym (over-first m c (Changes stamp block) (Switched switch stamp lines ∷ few) (omega (arith, some_few))
+    ∙ ap (λ x. here ++ x) (over-first m (course_behind c after) (Switched switch stamp lines) few some_few)))
+    (subst (λ x. GoesOnFrom (here ++ switch_event switch stamp ∷ events_from m there (over few)) x)
+    (sym (over-first m c (Changes stamp block) (Switched switch stamp lines ∷ many) (omega (arith, some_many))
+    ∙ ap (λ x. here ++ x) (over-first m (course_behind c after) (Switched switch stamp lines) many some_many)))
+    (goes-on-behind here (switch_event switch stamp ∷ events_from m there (over few)) (switch_event switch stamp ∷ events_from m there (over many))
+    (goes-on-behind (switch_event switch stamp ∷ []) (events_from m there (over few)) (events_from m there (over many))
     (more-over m there stamp [] hs js))))
 
 happenings-append : {W : Type 0} (way : Way W) (s : DumpState W) (ts us : List Token)

@@ -16,7 +16,7 @@ use Rattle.vcd_way.specs.declared.tap.Tap.{Tap}
 use Rattle.vcd_way.specs.declared.tap.Edge.TheVariants as sides
 use Rattle.vcd_way.specs.Ways.{Keeps, Manner, Way}
 use Rattle.vcd_way.specs.Pieces.{line_number}
-use Rattle.vcd_way.specs.Events.{DumpEvent, Sampled, Hole, with_part}
+use Rattle.vcd_way.specs.Events.{DumpEvent, Sampled, Hole, Resumed, with_part}
 use Rattle.vcd_way.specs.Steps.{value_word_by, step}
 use Rattle.vcd_way.specs.Answers.{EarlyEnd, state_of, first_fault_by, early_end_by, events_so_far_by, events_by, header_by}
 use Rattle.vcd_way.specs.Wide.{wide_digit, wide_manner}
@@ -56,12 +56,14 @@ row_way manner = record {
 abbrev wide : Way (List Declaration)
 wide = row_way wide_manner
 
--- the time of an event, and of a sample the control lines, the address, and of each what is unknown
+-- the time of an event, of the end of a hole a 1, and of a sample the control lines, the address, and of each what is unknown
 abbrev numbers_of : DumpEvent → List ℕ
 numbers_of (Sampled s (Some stamp)) = stamp.time ∷ s.lines.0 ∷ s.unknown.0 ∷ s.addr.bits ∷ s.addr.unknown ∷ []
 numbers_of (Sampled s None) = s.lines.0 ∷ s.unknown.0 ∷ s.addr.bits ∷ s.addr.unknown ∷ []
 numbers_of (Hole (Some stamp)) = stamp.time ∷ []
 numbers_of (Hole None) = []
+numbers_of (Resumed (Some stamp)) = stamp.time ∷ 1 ∷ []
+numbers_of (Resumed None) = 1 ∷ []
 
 abbrev header : List ℕ
 header =
@@ -79,6 +81,7 @@ pub told : map numbers_of (events_by wide text)
     ≡ (5 ∷ 0 ∷ 128 ∷ 5 ∷ 0 ∷ [])
     ∷ (15 ∷ 128 ∷ 0 ∷ 5 ∷ 0 ∷ [])
     ∷ (15 ∷ [])
+    ∷ (30 ∷ 1 ∷ [])
     ∷ (35 ∷ 128 ∷ 0 ∷ 0 ∷ 8589934591 ∷ []) ∷ []
 unfolding first_fault_by events_by events_so_far_by ended_at grown_at number_up_to time_in extended header_word
     value_word_by is_read_past level_of control_of bits_without sample_at step declaration_of wide_digit
@@ -124,6 +127,15 @@ pub hole : map numbers_of
 unfolding first_fault_by events_by events_so_far_by ended_at grown_at number_up_to time_in extended header_word
     value_word_by is_read_past level_of control_of bits_without sample_at step declaration_of wide_digit
 hole = refl
+
+-- changes of the hole's own time that stand behind it: the clock does not rise out of it
+pub resumed : map numbers_of
+    (events_by wide
+    (header ++ codes "#0 0! 0a b0 A\n#5 1!\n#20 $dumpoff x! xa $end 0!\n#35 $dumpon 1! 1a $end\n#40 0!\n#45 1!\n"))
+    ≡ (5 ∷ 0 ∷ 0 ∷ 0 ∷ 0 ∷ []) ∷ (20 ∷ []) ∷ (35 ∷ 1 ∷ []) ∷ (45 ∷ 128 ∷ 0 ∷ 0 ∷ 8589934591 ∷ []) ∷ []
+unfolding first_fault_by events_by events_so_far_by ended_at grown_at number_up_to time_in extended header_word
+    value_word_by is_read_past level_of control_of bits_without sample_at step declaration_of wide_digit
+resumed = refl
 
 -- the block that stands open at an early end does not count
 pub early : events_by wide (header ++ codes "#0 0! 0a b0 A\n#5 1! b10") ≡ []

@@ -12,7 +12,7 @@ use Rattle.vcd_way.specs.declared.tap.Tap.{Tap}
 use Rattle.vcd_way.specs.declared.tap.Edge.{Edge}
 use Rattle.vcd_way.specs.declared.tap.Edge.TheVariants as edges
 use Rattle.vcd_way.specs.Ways.{Manner}
-use Rattle.vcd_way.specs.Pieces.{Stamp, TapChange, Piece, Changes, Gap}
+use Rattle.vcd_way.specs.Pieces.{Stamp, TapChange, DumpSwitch, Off, On, Piece, Changes, Switched}
 
 -- the tap of a variable that is the line of this number
 abbrev pub whole : ℕ → Tap
@@ -95,10 +95,16 @@ abbrev pub sampled : List ℕ → Values → Values → Values
 sampled [] before after = before
 sampled (number ∷ late) before after = slice_set (sampled late before after) number (digits_at after number)
 
--- what a dump tells, each with the last stamp: a sample; or that it stops for a time
+-- what a dump tells, each with the last stamp: a sample; that it stops for a time; or that it goes on
 pub data DumpEvent : Type 0 where
   Sampled : Sample → Option Stamp → DumpEvent
   Hole : Option Stamp → DumpEvent
+  Resumed : Option Stamp → DumpEvent
+
+-- the begin of a hole, or its end
+abbrev pub switch_event : DumpSwitch → Option Stamp → DumpEvent
+switch_event Off stamp = Hole stamp
+switch_event On stamp = Resumed stamp
 
 -- the sample of a block that leaves these values: one where the clock has its edge in it
 abbrev pub sample_in_block : Manner → Course → Option Stamp → Values → List DumpEvent
@@ -109,17 +115,19 @@ sample_in_block m c stamp after =
     Sampled (sample_of after) stamp ∷ []
     else [])
 
--- what pieces tell, the first of which begins with these values
+-- what pieces tell, the first of which begins with these values. Where the dump stops, and where it
+-- goes on, all lines are unknown: some tools write changes of that time behind `$dumpoff`
 abbrev pub events_from : Manner → Course → List Piece → List DumpEvent
 events_from m c [] = []
 events_from m c (Changes stamp block ∷ pieces) =
     let after = values_after c.values block in
     sample_in_block m c stamp after ++ events_from m (course_behind c after) pieces
-events_from m c (Gap stamp lines ∷ pieces) =
-    Hole stamp ∷ events_from m (record c { values = unknown_in c.values lines }) pieces
+events_from m c (Switched switch stamp lines ∷ pieces) =
+    switch_event switch stamp ∷ events_from m (record c { values = unknown_in c.values lines }) pieces
 
 -- the samples among events
 abbrev pub samples_among : List DumpEvent → List Sample
 samples_among [] = []
 samples_among (Sampled sample stamp ∷ events) = sample ∷ samples_among events
 samples_among (Hole stamp ∷ events) = samples_among events
+samples_among (Resumed stamp ∷ events) = samples_among events

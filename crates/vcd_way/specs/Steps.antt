@@ -12,7 +12,7 @@ use Rattle.vcd_grammar.specs.Words.{same, is_end, is_read_past}
 use Rattle.vcd_way.specs.Declarations.{DumpSection, Declaration, declaration_of, with_word, word_of_section}
 use Rattle.vcd_way.specs.declared.tap.Tap.{Tap}
 use Rattle.vcd_way.specs.Ways.{Kept, Keeps, Refuses, Manner, Way}
-use Rattle.vcd_way.specs.Pieces.{Happening, Comes, Gets, Stops}
+use Rattle.vcd_way.specs.Pieces.{Off, On, Happening, Comes, Gets, Switches}
 use Rattle.vcd_way.specs.Events.{whole}
 
 -- where the next token stands
@@ -33,14 +33,15 @@ pub data Spot : Type 0 where
   InRemark : DumpSection → Spot
 
 -- what is known behind some tokens: the first fault; where the next token stands; the scopes that
--- are open, the outermost first; what the way keeps of the header; the last time; and the sections
--- that say nothing of the lines
+-- are open, the outermost first; what the way keeps of the header; the last time; whether
+-- the dump has stopped for a time; and the sections that were read past
 pub record DumpState (W : Type 0) : Type 0 where
   pub fault : Option VcdFault
   pub spot : Spot
   pub path : List (List ℕ)
   pub header : W
   pub time : Option ℕ
+  pub is_off : Bool
   pub remarks : List DumpSection
 
 -- before the first token
@@ -51,6 +52,7 @@ first_state way = record {
   path = [];
   header = way.start;
   time = None;
+  is_off = false;
   remarks = [];
 }
 
@@ -228,12 +230,23 @@ abbrev pub other_step : {W : Type 0} → DumpState W → ℕ → Option (List Ta
 other_step s place None = breaks s place causes.Code
 other_step s place (Some taps) = moves_to s AtValues
 
--- a word behind which changes stand, or the end of them; `$dumpoff` may be a hole
+-- the dump stops for a time
+abbrev pub stops : {W : Type 0} → Way W → DumpState W → Step W
+stops way s =
+    record { state = record s { is_off = true }; happenings = Switches Off (way.lines s.header) ∷ [] }
+
+-- the dump goes on
+abbrev pub resumes : {W : Type 0} → Way W → DumpState W → Step W
+resumes way s =
+    record { state = record s { is_off = false }; happenings = Switches On (way.lines s.header) ∷ [] }
+
+-- a word behind which changes stand, or the end of them: `$dumpoff` may begin a hole, and `$dumpon`
+-- ends it
 abbrev pub mark_step : {W : Type 0} → Way W → DumpState W → List ℕ → Step W
 mark_step way s word =
-    if way.manner.tells_holes && same (codes "$dumpoff") word then
-    record { state = s; happenings = Stops (way.lines s.header) ∷ [] }
-    else reads_past s
+    if way.manner.tells_holes && same (codes "$dumpoff") word then stops way s
+    else (if way.manner.tells_holes && (s.is_off && same (codes "$dumpon") word) then resumes way s
+    else reads_past s)
 
 -- a token between values
 abbrev pub value_step : {W : Type 0} → Way W → DumpState W → Token → ValueWord → Step W

@@ -27,7 +27,7 @@ pub record Manner : Type 0 where
   pub late : List ℕ
   -- words before the first `$` are read past
   pub skips_preface : Bool
-  -- where the dump stops for a time, this is told, and all lines are unknown
+  -- where the dump stops for a time, and where it goes on, this is told, and all lines are unknown
   pub tells_holes : Bool
   -- a last token that is a fault, behind which the text ends, ends it early
   pub ends_early : Bool
