@@ -1,6 +1,6 @@
 -- Small dumps of other kinds, with what they tell, worked out by hand: what the definitions make of them is that.
 use Rattle.std.specs.Prelude.{◌≡◌, ℕ, ◌+◌, ◌-◌, ◌++◌, [], ◌∷◌, length, map, List, true, false, if◌then◌else◌, Option, Some}
-use Rattle.std.specs.Prelude.{None, codes, option_map, replicate}
+use Rattle.std.specs.Prelude.{None, codes, option_map, replicate, ℤ, pos, neg_ℤ}
 use Rattle.std.proofs.Common.{refl}
 use Rattle.vcd_grammar.specs.declared.fault.VcdFault.{VcdFault}
 use Rattle.vcd_grammar.specs.declared.fault.VcdCause.TheVariants as causes
@@ -9,7 +9,8 @@ use Rattle.vcd_grammar.specs.Digits.{number_up_to, time_in, extended}
 use Rattle.vcd_grammar.specs.Words.{same, header_word, is_read_past, name_in}
 use Rattle.vcd_grammar.specs.Levels.{level_of, control_of, bits_without}
 use Rattle.vcd_grammar.specs.Values.{sample_at}
-use Rattle.vcd_way.specs.Declarations.{Declaration, declaration_of, range_of, timescale_in}
+use Rattle.vcd_way.specs.Declarations.{Declaration, Ends, Range, NoRange, Ranges, Unreadable, RangedName}
+use Rattle.vcd_way.specs.Declarations.{declaration_of, ranged_name, timescale_in}
 use Rattle.vcd_way.specs.declared.tap.BitRun.{BitRun}
 use Rattle.vcd_way.specs.declared.tap.Part.TheVariants as pieces
 use Rattle.vcd_way.specs.declared.tap.Tap.{Tap}
@@ -106,10 +107,58 @@ unfolding header_by ended_at grown_at number_up_to time_in extended header_word 
     declaration_of wide_digit
 scopes = refl
 
-pub ranges : map range_of (header_by wide text) ≡ [] ∷ [] ∷ codes "[35:0]" ∷ codes "[7:0]" ∷ []
-unfolding header_by ended_at grown_at number_up_to time_in extended header_word value_word_by is_read_past step
+-- a name without a range; and with the range of these ends
+abbrev plain : List ℕ → RangedName
+plain name = record { name = name; range = NoRange }
+
+abbrev from_to : List ℕ → ℤ → ℤ → RangedName
+from_to name first last = record { name = name; range = Ranges (record { first = first; last = last }) }
+
+pub ranges : map ranged_name (header_by wide text)
+    ≡ plain (codes "clk") ∷ plain (codes "ads") ∷ from_to (codes "addr") (pos 35) (pos 0)
+    ∷ from_to (codes "state") (pos 7) (pos 0) ∷ []
+unfolding ranged_name header_by ended_at grown_at number_up_to time_in extended header_word value_word_by is_read_past step
     declaration_of wide_digit
 ranges = refl
+
+-- a variable of this reference, with these words after it
+abbrev referred : List ℕ → List (List ℕ) → Declaration
+referred reference after = record {
+  place = 0;
+  kind = codes "wire";
+  width = 1;
+  code = codes "!";
+  reference = reference;
+  after = after;
+  path = [];
+}
+
+-- as Icarus, GHDL and Yosys write them
+pub names : map ranged_name
+    (referred (92 ∷ codes "gen[0].ADS_n") []
+    ∷ referred (92 ∷ codes "A_n[1]") (codes "[32:0]" ∷ [])
+    ∷ referred (92 ∷ codes "D_n[3]" ++ 92 ∷ []) []
+    ∷ referred (92 ∷ codes "ADS_n" ++ 92 ∷ []) []
+    ∷ referred (codes "neg") (codes "[-1:-4]" ∷ [])
+    ∷ referred (codes "a_n[6:3]") []
+    ∷ referred (codes "A_n[3][0:0]") []
+    ∷ referred (codes "A_n") (codes "[34" ∷ codes ":" ∷ codes "-1]" ∷ [])
+    ∷ referred (codes "A_n") (codes "[W:0]" ∷ [])
+    ∷ referred (codes "A_n[W:0]") []
+    ∷ referred (codes "clk") (codes "wire" ∷ []) ∷ [])
+    ≡ plain (92 ∷ codes "gen[0].ADS_n")
+    ∷ from_to (92 ∷ codes "A_n[1]") (pos 32) (pos 0)
+    ∷ from_to (92 ∷ codes "D_n") (pos 3) (pos 3)
+    ∷ plain (92 ∷ codes "ADS_n")
+    ∷ from_to (codes "neg") (neg_ℤ (pos 1)) (neg_ℤ (pos 4))
+    ∷ from_to (codes "a_n") (pos 6) (pos 3)
+    ∷ from_to (codes "A_n[3]") (pos 0) (pos 0)
+    ∷ from_to (codes "A_n") (pos 34) (neg_ℤ (pos 1))
+    ∷ record { name = codes "A_n"; range = Unreadable }
+    ∷ plain (codes "A_n[W:0]")
+    ∷ plain (codes "clk") ∷ []
+unfolding ranged_name
+names = refl
 
 pub unit : timescale_in (state_of wide (tokens_of header)).remarks ≡ Some (codes "1ns")
 unfolding ended_at grown_at number_up_to time_in extended header_word value_word_by is_read_past step declaration_of
