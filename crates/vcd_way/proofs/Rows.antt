@@ -16,7 +16,7 @@ use Rattle.vcd_way.specs.declared.tap.Part.TheVariants as pieces
 use Rattle.vcd_way.specs.declared.tap.Tap.{Tap}
 use Rattle.vcd_way.specs.declared.tap.Edge.TheVariants as sides
 use Rattle.vcd_way.specs.Ways.{Keeps, Manner, Way}
-use Rattle.vcd_way.specs.Pieces.{line_number}
+use Rattle.vcd_way.specs.Pieces.{time_at, line_number}
 use Rattle.vcd_way.specs.Events.{DumpEvent, Sampled, Hole, Resumed, with_part}
 use Rattle.vcd_way.specs.Steps.{value_word_by, step}
 use Rattle.vcd_way.specs.Answers.{EarlyEnd, state_of, first_fault_by, early_end_by, events_so_far_by, events_by, header_by}
@@ -59,12 +59,9 @@ wide = row_way wide_manner
 
 -- the time of an event, of the end of a hole a 1, and of a sample the control lines, the address, and of each what is unknown
 abbrev numbers_of : DumpEvent → List ℕ
-numbers_of (Sampled s (Some stamp)) = stamp.time ∷ s.lines.0 ∷ s.unknown.0 ∷ s.addr.bits ∷ s.addr.unknown ∷ []
-numbers_of (Sampled s None) = s.lines.0 ∷ s.unknown.0 ∷ s.addr.bits ∷ s.addr.unknown ∷ []
-numbers_of (Hole (Some stamp)) = stamp.time ∷ []
-numbers_of (Hole None) = []
-numbers_of (Resumed (Some stamp)) = stamp.time ∷ 1 ∷ []
-numbers_of (Resumed None) = 1 ∷ []
+numbers_of (Sampled s stamp) = time_at stamp ∷ s.lines.0 ∷ s.unknown.0 ∷ s.addr.bits ∷ s.addr.unknown ∷ []
+numbers_of (Hole stamp) = time_at stamp ∷ []
+numbers_of (Resumed stamp) = time_at stamp ∷ 1 ∷ []
 
 abbrev header : List ℕ
 header =
@@ -273,6 +270,16 @@ pub edges : map (λ m. map numbers_of (events_by (row_way m) clocked)) manners
 unfolding first_fault_by events_by events_so_far_by ended_at grown_at number_up_to time_in extended header_word
     value_word_by is_read_past level_of control_of bits_without sample_at step declaration_of wide_digit
 edges = refl
+
+-- with the first edge: a clock that is x before it, of ADS# and the address the one known before and the other not; and a
+-- dump without a stamp before its first block, which is at time 0
+pub first_edges : map (λ more. map numbers_of (events_by (row_way (record wide_manner { takes_first = true })) (header ++ more)))
+    (codes "#0 x! 0a\n#5 1! 1a b1000 A\n#10 0!\n#15 1!\n" ∷ codes "1! 0a b0 A\n#5 0!\n#10 1! 1a\n" ∷ [])
+    ≡ ((5 ∷ 0 ∷ 0 ∷ 1 ∷ 0 ∷ []) ∷ (15 ∷ 128 ∷ 0 ∷ 1 ∷ 0 ∷ []) ∷ [])
+    ∷ ((0 ∷ 0 ∷ 0 ∷ 0 ∷ 0 ∷ []) ∷ (10 ∷ 0 ∷ 0 ∷ 0 ∷ 0 ∷ []) ∷ []) ∷ []
+unfolding first_fault_by events_by events_so_far_by ended_at grown_at number_up_to time_in extended header_word
+    value_word_by is_read_past level_of control_of bits_without sample_at step declaration_of wide_digit
+first_edges = refl
 
 -- ---- parts of a line
 

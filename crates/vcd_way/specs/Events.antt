@@ -3,7 +3,7 @@ use Rattle.std.specs.Prelude.{ℕ, ◌+◌, ◌-◌, Bool, false, not, ◌&&◌,
 use Rattle.std.specs.Option.{option_map_or}
 use Rattle.fsb_signal.specs.declared.sample.Sample.{Sample}
 use Rattle.fsb_signal.specs.DumpText.{width_of}
-use Rattle.vcd_grammar.specs.Digits.{extended}
+use Rattle.vcd_grammar.specs.Digits.{is_unknown, extended}
 use Rattle.vcd_grammar.specs.Values.{Values, at_first, clock_of, is_rise, sample_of}
 use Rattle.vcd_way.specs.declared.tap.BitRun.{BitRun}
 use Rattle.vcd_way.specs.declared.tap.Part.{Part}
@@ -12,7 +12,7 @@ use Rattle.vcd_way.specs.declared.tap.Tap.{Tap}
 use Rattle.vcd_way.specs.declared.tap.Edge.{Edge}
 use Rattle.vcd_way.specs.declared.tap.Edge.TheVariants as edges
 use Rattle.vcd_way.specs.Ways.{Manner}
-use Rattle.vcd_way.specs.Pieces.{Stamp, TapChange, DumpSwitch, Off, On, Piece, Changes, Switched}
+use Rattle.vcd_way.specs.Pieces.{Stamp, time_at, TapChange, DumpSwitch, Off, On, Piece, Changes, Switched}
 
 -- the tap of a variable that is the line of this number
 abbrev pub whole : ℕ → Tap
@@ -95,6 +95,17 @@ abbrev pub sampled : List ℕ → Values → Values → Values
 sampled [] before after = before
 sampled (number ∷ late) before after = slice_set (sampled late before after) number (digits_at after number)
 
+-- the digits of a line at the first edge: each is the one before it; where that is unknown, the one
+-- after it
+abbrev pub settled_digits : List ℕ → List ℕ → List ℕ
+settled_digits (b ∷ before) (a ∷ after) = (if is_unknown b then a else b) ∷ settled_digits before after
+settled_digits before after = before
+
+-- the values at the first edge, from those before its block and those after it
+abbrev pub settled : Values → Values → Values
+settled (b ∷ before) (a ∷ after) = settled_digits b a ∷ settled before after
+settled before after = before
+
 -- what a dump tells, each with the last stamp: a sample; that it stops for a time; or that it goes on
 pub data DumpEvent : Type 0 where
   Sampled : Sample → Option Stamp → DumpEvent
@@ -106,13 +117,19 @@ abbrev pub switch_event : DumpSwitch → Option Stamp → DumpEvent
 switch_event Off stamp = Hole stamp
 switch_event On stamp = Resumed stamp
 
+-- the time of an event
+abbrev pub time_of : DumpEvent → ℕ
+time_of (Sampled sample stamp) = time_at stamp
+time_of (Hole stamp) = time_at stamp
+time_of (Resumed stamp) = time_at stamp
+
 -- the sample of a block that leaves these values: one where the clock has its edge in it
 abbrev pub sample_in_block : Manner → Course → Option Stamp → Values → List DumpEvent
 sample_in_block m c stamp after =
     if c.is_seen && is_edge m.edge (clock_of c.values) (clock_of after) then
     Sampled (sample_of (sampled m.late c.values after)) stamp ∷ []
     else (if m.takes_first && not c.is_seen && (clock_of after == digit_behind m.edge) then
-    Sampled (sample_of after) stamp ∷ []
+    Sampled (sample_of (sampled m.late (settled c.values after) after)) stamp ∷ []
     else [])
 
 -- what pieces tell, the first of which begins with these values. Where the dump stops, and where it

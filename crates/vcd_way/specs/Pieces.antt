@@ -1,12 +1,17 @@
 -- What the tokens behind the header do, in any way to read a dump, and the pieces that it makes of
 -- a dump.
 use Rattle.std.specs.Prelude.{ℕ, ◌+◌, ◌-◌, ◌==◌, count_by, List, [], ◌∷◌, ◌++◌, length, take, Option, Some, None}
+use Rattle.std.specs.Option.{option_map_or}
 use Rattle.vcd_way.specs.declared.tap.Tap.{Tap}
 
 -- a time, and the place of its stamp in the text
 pub record Stamp : Type 0 where
   pub time : ℕ
   pub place : ℕ
+
+-- the time of a stamp; before the first one it is 0
+abbrev pub time_at : Option Stamp → ℕ
+time_at stamp = option_map_or (λ (s : Stamp). s.time) stamp 0
 
 -- the number of the line of a text in which the byte of this place stands, from 1 on
 abbrev pub line_number : List ℕ → ℕ → ℕ

@@ -21,7 +21,7 @@ pub record Manner : Type 0 where
   -- the most bits that a variable has
   pub widest : ℕ
   pub edge : Edge
-  -- a clock that is first seen behind its edge has its first edge there
+  -- a clock whose first known digit is the one after an edge has an edge there
   pub takes_first : Bool
   -- the lines that are sampled behind the changes of the edge's own time
   pub late : List ℕ
