@@ -22,7 +22,7 @@ use Rattle.vcd_way.specs.Steps.{Spot, AtPreface, AtHeader, InSection, AtValues, 
 use Rattle.vcd_way.specs.Steps.{first_state, Step, reads_past, moves_to, breaks, if_short, header_step}
 use Rattle.vcd_way.specs.Steps.{unknown_from_here, kept_step, declared_step, section_end, is_declaring}
 use Rattle.vcd_way.specs.Steps.{digits_by, value_word_by, comes, stamp_step, given, scalar_step, is_too_wide_for, vector_step}
-use Rattle.vcd_way.specs.Steps.{other_step, mark_step, value_step, step_at, step, state_behind, happenings_in}
+use Rattle.vcd_way.specs.Steps.{other_step, mark_step, value_step, step_at, step, state_after, happenings_in}
 use Rattle.vcd_way.specs.Steps.{is_past_header_at, vector_digits, may_be_long, stops, resumes}
 use Rattle.vcd_way.specs.Answers.{state_of, header_in, header_by, header_so_far_by, header_at_end_by, events_so_far_by}
 use Rattle.vcd_way.specs.Events.{course_at_first, events_from}
@@ -67,15 +67,15 @@ stays-given s place (tap ∷ taps) None h = stays-breaks s place causes.Token h
 stays-scalar : {W : Type 0} (way : Way W) (s : DumpState W) (place digit : ℕ) (taps : Option (List Tap))
     → is_past_header_at s.spot ≡ true → Stays s (scalar_step way s place digit taps)
 stays-scalar way s place digit None h = stays-breaks s place causes.Code h
-stays-scalar way s place digit (Some taps) h = stays-given s place taps (digits_by way.manner (digit ∷ [])) h
+stays-scalar way s place digit (Some taps) h = stays-given s place taps (digits_by way.rules (digit ∷ [])) h
 
 stays-vector : {W : Type 0} (way : Way W) (s : DumpState W) (place from : ℕ) (digits : List ℕ) (taps : Option (List Tap))
     → is_past_header_at s.spot ≡ true → Stays s (vector_step way s place from digits taps)
 stays-vector way s place from digits None h = stays-breaks s place causes.Code h
 stays-vector way s place from digits (Some taps) h =
     stays-if s (is_too_wide_for taps digits) (breaks s from causes.Width)
-    (given s from taps (vector_digits way.manner digits)) (stays-breaks s from causes.Width h)
-    (stays-given s from taps (vector_digits way.manner digits) h)
+    (given s from taps (vector_digits way.rules digits)) (stays-breaks s from causes.Width h)
+    (stays-given s from taps (vector_digits way.rules digits) h)
 
 stays-other : {W : Type 0} (s : DumpState W) (place : ℕ) (taps : Option (List Tap)) → is_past_header_at s.spot ≡ true
     → Stays s (other_step s place taps)
@@ -85,8 +85,8 @@ stays-other s place (Some taps) h = record { header = refl; past = refl }
 stays-mark : {W : Type 0} (way : Way W) (s : DumpState W) (word : List ℕ) → is_past_header_at s.spot ≡ true
     → Stays s (mark_step way s word)
 stays-mark way s word h =
-    let on = way.manner.tells_holes && (s.is_off && same (codes "$dumpon") word) in
-    stays-if s (way.manner.tells_holes && same (codes "$dumpoff") word) (stops way s)
+    let on = way.rules.tells_holes && (s.is_off && same (codes "$dumpon") word) in
+    stays-if s (way.rules.tells_holes && same (codes "$dumpoff") word) (stops way s)
     (if on then resumes way s else reads_past s) (record { header = refl; past = h })
     (stays-if s on (resumes way s) (reads_past s) (record { header = refl; past = h }) (stays-same s h))
 
@@ -110,8 +110,8 @@ stays-at way AtPreface s t h = cc h
 stays-at way AtHeader s t h = cc h
 stays-at way (InSection section) s t h = cc h
 stays-at way AtValues s t h =
-    let w = value_word_by way.manner t.word in
-    stays-if (placed s AtValues) (not (way.manner.takes_any && may_be_long w) && is_long t.word)
+    let w = value_word_by way.rules t.word in
+    stays-if (placed s AtValues) (not (way.rules.takes_any && may_be_long w) && is_long t.word)
     (breaks (placed s AtValues) t.place causes.Token) (value_step way (placed s AtValues) t w)
     (stays-breaks (placed s AtValues) t.place causes.Token refl) (stays-value way (placed s AtValues) t w refl)
 stays-at way (AtCode from digits) s t h =
@@ -158,7 +158,7 @@ done-step way s t d =
     done-if s (step_at way s.spot s t) (is_some s.fault) refl
     (λ e. stays-at way s.spot s t (or-second (is_some s.fault) (is_past_header_at s.spot) e d)) d
 
-done-behind : {W : Type 0} (way : Way W) (s : DumpState W) (ts : List Token) → Done s → StaysDone s (state_behind way s ts)
+done-behind : {W : Type 0} (way : Way W) (s : DumpState W) (ts : List Token) → Done s → StaysDone s (state_after way s ts)
 done-behind way s [] d = record { header = refl; done = d }
 done-behind way s (t ∷ ts) d =
     let p = done-step way s t d in
@@ -268,7 +268,7 @@ section-heading : {W : Type 0} (way : Way W) (s : DumpState W) (section : DumpSe
 section-heading way s section t Declares true true e f g = let wrong = g refl in cc wrong
 section-heading way s section t Declares true false e f g = ap heading_at f ∙ ap section_heading e
 section-heading way s section t Declares false true e f g =
-    declared-heading way (placed s AtHeader) section.place (declaration_of way.manner.widest s.path section)
+    declared-heading way (placed s AtHeader) section.place (declaration_of way.rules.widest s.path section)
 section-heading way s section t Declares false false e f g = ap section_heading e
 section-heading way s section t Finishes true true e f g = kept-heading (placed s AtValues) section.place (way.closes s.header)
 section-heading way s section t Finishes false true e f g =
@@ -338,12 +338,12 @@ heads-step way s t h p =
     (λ n. heading-at way s.spot s t ∙ ap (λ x. behind_token x t) (p n))
 
 heads-behind : {W : Type 0} (way : Way W) (s : DumpState W) (ts : List Token) (h : Heading) → Heads s h
-    → Heads (state_behind way s ts) (heading_behind h ts)
+    → Heads (state_after way s ts) (heading_behind h ts)
 heads-behind way s [] h p = p
 heads-behind way s (t ∷ ts) h p = heads-behind way (step way s t).state ts (behind_token h t) (heads-step way s t h p)
 
 first-heads : {W : Type 0} (way : Way W) → Heads (first_state way) Between
-first-heads way n = by way.manner.skips_preface
+first-heads way n = by way.rules.skips_preface
   where
     by : (b : Bool) → heading_at (if b then AtPreface else AtHeader) ≡ Between
     by true = refl
@@ -420,7 +420,7 @@ calm-short s t y p = calm-if (is_long t.word) (breaks s t.place causes.Token) y 
 calm-end : {W : Type 0} (way : Way W) (s : DumpState W) (section : DumpSection) (w : HeaderWord)
     → Calm (section_end way s section w).happenings
 calm-end way s section Declares =
-    calm-declared way (placed s AtHeader) section.place (declaration_of way.manner.widest s.path section)
+    calm-declared way (placed s AtHeader) section.place (declaration_of way.rules.widest s.path section)
 calm-end way s section Finishes = calm-kept (placed s AtValues) section.place (way.closes s.header)
 calm-end way s section Ends = refl
 calm-end way s section Opens = refl
@@ -523,12 +523,12 @@ unfolding header_so_far_by events_so_far_by
 header-first way fed e =
     let tokens = tokens_so_far fed in
     let before = no_header (is_header_over tokens) (state_of way tokens).header e in
-    ap (λ ps. events_from way.manner course_at_first ps)
+    ap (λ ps. events_from way.rules course_at_first ps)
     (none_over None [] (happenings_in way (first_state way) tokens)
     (calm-behind way (first_state way) tokens Between (first-heads way) before))
 
 pub state-append : {W : Type 0} (way : Way W) (s : DumpState W) (ts us : List Token)
-    → state_behind way s (ts ++ us) ≡ state_behind way (state_behind way s ts) us
+    → state_after way s (ts ++ us) ≡ state_after way (state_after way s ts) us
 state-append way s [] us = refl
 state-append way s (t ∷ ts) us = state-append way (step way s t).state ts us
 

@@ -15,27 +15,27 @@ use Rattle.vcd_way.specs.declared.tap.BitRun.{BitRun}
 use Rattle.vcd_way.specs.declared.tap.Part.TheVariants as pieces
 use Rattle.vcd_way.specs.declared.tap.Tap.{Tap}
 use Rattle.vcd_way.specs.declared.tap.Edge.TheVariants as sides
-use Rattle.vcd_way.specs.Ways.{Keeps, Manner, Way}
+use Rattle.vcd_way.specs.Ways.{Keeps, ValueRules, Way}
 use Rattle.vcd_way.specs.Pieces.{time_at, line_number}
 use Rattle.vcd_way.specs.Events.{DumpEvent, Sampled, Hole, Resumed, with_part}
 use Rattle.vcd_way.specs.Steps.{value_word_by, step}
 use Rattle.vcd_way.specs.Answers.{EarlyEnd, state_of, first_fault_by, early_end_by, events_so_far_by, events_by, header_by}
-use Rattle.vcd_way.specs.Wide.{wide_digit, wide_manner}
+use Rattle.vcd_way.specs.Wide.{wide_digit, wide_rules}
 
 -- a way for these rows: `clk` is the clock; `ads` is ADS_n, active high; `addr` has 36 bits, active high, of which all but
 -- the lowest three are A_n
 abbrev taps_for : Declaration → List Tap
 taps_for d =
     if same (codes "clk") (name_in d.reference) then
-    record { line = 0; width = d.width; part = pieces.Whole; is_high = false } ∷ []
+    record { line = 0; width = d.width; part = pieces.Whole; inverted = false } ∷ []
     else (if same (codes "ads") (name_in d.reference) then
-    record { line = 8; width = d.width; part = pieces.Whole; is_high = true } ∷ []
+    record { line = 8; width = d.width; part = pieces.Whole; inverted = true } ∷ []
     else (if same (codes "addr") (name_in d.reference) then
     record {
       line = 10;
       width = d.width;
       part = pieces.Bits (record { count = 33; low = 3; lowest = 0; is_turned = false });
-      is_high = true;
+      inverted = true;
     } ∷ []
     else []))
 
@@ -44,18 +44,18 @@ abbrev taps_in : List Declaration → List ℕ → Option (List Tap)
 taps_in [] code = None
 taps_in (d ∷ ds) code = if same code d.code then Some (taps_for d) else taps_in ds code
 
-abbrev row_way : Manner → Way (List Declaration)
-row_way manner = record {
+abbrev row_way : ValueRules → Way (List Declaration)
+row_way rules = record {
   start = [];
   declares = λ ds d. Keeps (ds ++ d ∷ []) [];
   closes = λ ds. Keeps ds (0 ∷ 8 ∷ 10 ∷ []);
   lines = λ ds. 0 ∷ 8 ∷ 10 ∷ [];
   taps = taps_in;
-  manner = manner;
+  rules = rules;
 }
 
 abbrev wide : Way (List Declaration)
-wide = row_way wide_manner
+wide = row_way wide_rules
 
 -- the time of an event, of the end of a hole a 1, and of a sample the control lines, the address, and of each what is unknown
 abbrev numbers_of : DumpEvent → List ℕ
@@ -258,11 +258,11 @@ abbrev clocked : List ℕ
 clocked = header ++ codes "#0 1! 0a b0 A\n#5 0!\n#10 1! 1a\n#15 0!\n"
 
 -- by default; with its first edge; with ADS# behind the edge; and by the falling edge
-abbrev manners : List Manner
-manners = wide_manner ∷ record wide_manner { takes_first = true } ∷ record wide_manner { late = 8 ∷ [] }
-    ∷ record wide_manner { edge = sides.Falling } ∷ []
+abbrev rulings : List ValueRules
+rulings = wide_rules ∷ record wide_rules { takes_first = true } ∷ record wide_rules { late = 8 ∷ [] }
+    ∷ record wide_rules { edge = sides.Falling } ∷ []
 
-pub edges : map (λ m. map numbers_of (events_by (row_way m) clocked)) manners
+pub edges : map (λ m. map numbers_of (events_by (row_way m) clocked)) rulings
     ≡ ((10 ∷ 0 ∷ 0 ∷ 0 ∷ 0 ∷ []) ∷ [])
     ∷ ((0 ∷ 0 ∷ 0 ∷ 0 ∷ 0 ∷ []) ∷ (10 ∷ 0 ∷ 0 ∷ 0 ∷ 0 ∷ []) ∷ [])
     ∷ ((10 ∷ 128 ∷ 0 ∷ 0 ∷ 0 ∷ []) ∷ [])
@@ -273,7 +273,7 @@ edges = refl
 
 -- with the first edge: a clock that is x before it, of ADS# and the address the one known before and the other not; and a
 -- dump without a stamp before its first block, which is at time 0
-pub first_edges : map (λ more. map numbers_of (events_by (row_way (record wide_manner { takes_first = true })) (header ++ more)))
+pub first_edges : map (λ more. map numbers_of (events_by (row_way (record wide_rules { takes_first = true })) (header ++ more)))
     (codes "#0 x! 0a\n#5 1! 1a b1000 A\n#10 0!\n#15 1!\n" ∷ codes "1! 0a b0 A\n#5 0!\n#10 1! 1a\n" ∷ [])
     ≡ ((5 ∷ 0 ∷ 0 ∷ 1 ∷ 0 ∷ []) ∷ (15 ∷ 128 ∷ 0 ∷ 1 ∷ 0 ∷ []) ∷ [])
     ∷ ((0 ∷ 0 ∷ 0 ∷ 0 ∷ 0 ∷ []) ∷ (10 ∷ 0 ∷ 0 ∷ 0 ∷ 0 ∷ []) ∷ []) ∷ []

@@ -8,11 +8,11 @@ use Rattle.vcd_grammar.specs.Heading.{is_header_over}
 use Rattle.vcd_way.specs.Ways.{Way}
 use Rattle.vcd_way.specs.Pieces.{Piece, pieces_of, over}
 use Rattle.vcd_way.specs.Events.{DumpEvent, course_at_first, events_from}
-use Rattle.vcd_way.specs.Steps.{Spot, AtValues, DumpState, first_state, state_behind, happenings_in, is_past_header_at, open_from, hides_stamp}
+use Rattle.vcd_way.specs.Steps.{Spot, AtValues, DumpState, first_state, state_after, happenings_in, is_past_header_at, open_from, hides_stamp}
 
--- what is known behind the first tokens of a text
+-- what is known after the first tokens of a text
 abbrev pub state_of : {W : Type 0} → Way W → List Token → DumpState W
-state_of way tokens = state_behind way (first_state way) tokens
+state_of way tokens = state_after way (first_state way) tokens
 
 -- the pieces of the first tokens of a text
 abbrev pub pieces_in : {W : Type 0} → Way W → List Token → List Piece
@@ -20,7 +20,7 @@ pieces_in way tokens = pieces_of (happenings_in way (first_state way) tokens)
 
 -- what pieces tell from the first one on
 abbrev pub events_in_pieces : {W : Type 0} → Way W → List Piece → List DumpEvent
-events_in_pieces way pieces = events_from way.manner course_at_first pieces
+events_in_pieces way pieces = events_from way.rules course_at_first pieces
 
 -- the fault of a text that ends here: it may end between values alone
 abbrev pub cut_at : Spot → ℕ → Option VcdFault
@@ -44,7 +44,7 @@ whole_fault way text =
 abbrev pub is_early : {W : Type 0} → Way W → List ℕ → Bool
 is_early way text =
     let s = state_of way (tokens_so_far text) in
-    way.manner.ends_early && not (is_some s.fault)
+    way.rules.ends_early && not (is_some s.fault)
     && (is_past_header_at s.spot && not (hides_stamp (state_of way (tokens_of text)).spot))
     && is_some (whole_fault way text)
 
@@ -86,7 +86,7 @@ events_before_end_by way text = events_in_pieces way (over (pieces_in way (token
 unfoldable pub fault_so_far_by : {W : Type 0} → Way W → List ℕ → Option VcdFault
 fault_so_far_by way fed = (state_of way (tokens_so_far fed)).fault
 
--- what a way keeps of a header, once it is over among the first tokens of a text; behind a fault no
+-- what a way keeps of a header, once it is over among the first tokens of a text; after a fault no
 -- more is kept
 abbrev pub header_in : {W : Type 0} → Way W → List Token → Option W
 header_in way tokens = if is_header_over tokens then Some (state_of way tokens).header else None

@@ -5,7 +5,7 @@ use Rattle.std.specs.Option.{option_map_or}
 use Rattle.vcd_grammar.specs.Digits.{is_number, number_from, number_up_to}
 use Rattle.vcd_grammar.specs.Words.{same, is_code_word}
 
--- a section so far: the word that opens it, its place, and the words behind it
+-- a section so far: the word that opens it, its place, and the words after it
 pub record DumpSection : Type 0 where
   pub place : ℕ
   pub keyword : List ℕ
@@ -15,7 +15,7 @@ pub record DumpSection : Type 0 where
 abbrev pub with_word : DumpSection → List ℕ → DumpSection
 with_word section word = record section { words = section.words ++ word ∷ [] }
 
--- the word of this number behind the keyword, from 0 on; there is none past the last one
+-- the word of this number after the keyword, from 0 on; there is none past the last one
 abbrev pub word_of_section : DumpSection → ℕ → List ℕ
 word_of_section section number = option_map_or (λ word. word) (slice_get section.words number) []
 

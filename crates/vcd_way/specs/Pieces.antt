@@ -1,4 +1,4 @@
--- What the tokens behind the header do, in any way to read a dump, and the pieces that it makes of
+-- What the tokens after the header do, in any way to read a dump, and the pieces that it makes of
 -- a dump.
 use Rattle.std.specs.Prelude.{ℕ, ◌+◌, ◌-◌, ◌==◌, count_by, List, [], ◌∷◌, ◌++◌, length, take, Option, Some, None}
 use Rattle.std.specs.Option.{option_map_or}
@@ -13,11 +13,11 @@ pub record Stamp : Type 0 where
 abbrev pub time_at : Option Stamp → ℕ
 time_at stamp = option_map_or (λ (s : Stamp). s.time) stamp 0
 
--- the number of the line of a text in which the byte of this place stands, from 1 on
+-- the number, from 1, of the text line with the byte at this place
 abbrev pub line_number : List ℕ → ℕ → ℕ
 line_number text place = 1 + count_by (λ b. b == 10) (take place text)
 
--- what these taps lead to gets these digits
+-- these taps get these digits
 pub record TapChange : Type 0 where
   pub taps : List Tap
   pub digits : List ℕ
@@ -40,8 +40,8 @@ pub data Piece : Type 0 where
   Changes : Option Stamp → List TapChange → Piece
   Switched : DumpSwitch → Option Stamp → List ℕ → Piece
 
--- the pieces of what happens behind some changes of a block that stands open; the last one is the
--- block that stands open behind it. A stamp ends a block,
+-- the pieces of what happens after some changes of a block that stands open; the last one is the
+-- block that stands open after it. A stamp ends a block,
 -- and so do the begin and the end of a hole
 abbrev pub pieces_from : Option Stamp → List TapChange → List Happening → List Piece
 pieces_from stamp block [] = Changes stamp block ∷ []
