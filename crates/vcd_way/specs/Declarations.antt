@@ -84,7 +84,8 @@ whole_number word = if is_number word then Some (number_from 0 word) else None
 abbrev pub signed_number : List ℕ → Option ℤ
 signed_number [] = None
 signed_number (b ∷ bs) =
-    if b == 45 then option_map (λ n. neg_ℤ (pos n)) (whole_number bs) else option_map pos (whole_number (b ∷ bs))
+    if b == 45 then option_map (λ n. neg_ℤ (pos n)) (whole_number bs)
+    else option_map pos (whole_number (b ∷ bs))
 
 -- two ends, where both are numbers
 abbrev pub ends_with : Option ℤ → Option ℤ → Option Ends
@@ -107,19 +108,21 @@ abbrev pub ends_at_end : List ℕ → Option Ends
 ends_at_end text =
     let last = after_bracket text in
     let count = length last - 1 in
-    if nat_lt (length last) (length text) && same (codes "]") (drop count last) then ends_in (take count last)
-    else None
+    let has_both = nat_lt (length last) (length text) && same (codes "]") (drop count last) in
+    if has_both then ends_in (take count last) else None
 
 -- a text without the backslash at its very end
 abbrev pub without_backslash : List ℕ → List ℕ
 without_backslash text =
-    let count = length text - 1 in if same (92 ∷ []) (drop count text) then take count text else text
+    let count = length text - 1 in
+    if same (92 ∷ []) (drop count text) then take count text else text
 
 -- the name and the range of a text with these ends at its end; without them the whole is the name
 abbrev pub ranged : List ℕ → Option Ends → RangedName
 ranged text None = record { name = text; range = NoRange }
 ranged text (Some ends) =
-    record { name = take (length text - (length (after_bracket text) + 1)) text; range = Ranges ends }
+    let count = length text - (length (after_bracket text) + 1) in
+    record { name = take count text; range = Ranges ends }
 
 -- the same, where the words after a reference are to be the range
 abbrev pub ranged_by_words : List ℕ → List ℕ → Option Ends → RangedName

@@ -98,7 +98,8 @@ sampled (number ∷ late) before after = slice_set (sampled late before after) n
 -- the digits of a line at the first edge: each is the one before it; where that is unknown, the one
 -- after it
 abbrev pub settled_digits : List ℕ → List ℕ → List ℕ
-settled_digits (b ∷ before) (a ∷ after) = (if is_unknown b then a else b) ∷ settled_digits before after
+settled_digits (b ∷ before) (a ∷ after) =
+    (if is_unknown b then a else b) ∷ settled_digits before after
 settled_digits before after = before
 
 -- the values at the first edge, from those before its block and those after it
@@ -106,7 +107,8 @@ abbrev pub settled : Values → Values → Values
 settled (b ∷ before) (a ∷ after) = settled_digits b a ∷ settled before after
 settled before after = before
 
--- what a dump tells, each with the last stamp: a sample; that it stops for a time; or that it goes on
+-- what a dump tells, each with the last stamp: a sample; that it stops for a time; or that it
+-- goes on
 pub data DumpEvent : Type 0 where
   Sampled : Sample → Option Stamp → DumpEvent
   Hole : Option Stamp → DumpEvent

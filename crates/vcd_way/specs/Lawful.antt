@@ -27,7 +27,9 @@ is_part_within (parts.Bits run) width line_width =
 
 -- a tap of a variable that has bits, for a line of the table, with bits that both have
 abbrev pub is_lawful_tap : Tap → Bool
-is_lawful_tap tap = is_line tap.line && (nat_le 1 tap.width && is_part_within tap.part tap.width (width_of tap.line))
+is_lawful_tap tap =
+    is_line tap.line
+    && (nat_le 1 tap.width && is_part_within tap.part tap.width (width_of tap.line))
 
 abbrev pub IsLawfulTap : Tap → Type 0
 IsLawfulTap tap = is_lawful_tap tap ≡ true
@@ -41,24 +43,27 @@ is_lawfully_kept holds (Refuses cause) = true
 -- taps are lawful, and each of them leads to a line that was declared
 pub record IsLawfulWay {W : Type 0} (way : Way W) (holds : W → Bool) : Type 0 where
   pub start : holds way.start ≡ true
-  pub declares : (h : W) (d : Declaration) → holds h ≡ true → is_lawfully_kept holds (way.declares h d) ≡ true
+  pub declares : (h : W) (d : Declaration) → holds h ≡ true
+      → is_lawfully_kept holds (way.declares h d) ≡ true
   pub closes : (h : W) → holds h ≡ true → is_lawfully_kept holds (way.closes h) ≡ true
   pub lines : (h : W) → holds h ≡ true → list_all is_line (way.lines h) ≡ true
-  pub taps : (h : W) (code : List ℕ) (taps : List Tap) → holds h ≡ true → way.taps h code ≡ Some taps
-      → list_all is_lawful_tap taps ≡ true
-  pub declared : (h : W) (code : List ℕ) (taps : List Tap) → holds h ≡ true → way.taps h code ≡ Some taps
-      → list_all (λ (tap : Tap). is_declared (way.lines h) tap.line) taps ≡ true
+  pub taps : (h : W) (code : List ℕ) (taps : List Tap) → holds h ≡ true
+      → way.taps h code ≡ Some taps → list_all is_lawful_tap taps ≡ true
+  pub declared : (h : W) (code : List ℕ) (taps : List Tap) → holds h ≡ true
+      → way.taps h code ≡ Some taps → list_all (λ (tap : Tap). is_declared (way.lines h) tap.line) taps ≡ true
 
 -- the values of the lines after what happens
 abbrev pub values_through : Values → List Happening → Values
 values_through values [] = values
 values_through values (Comes stamp ∷ hs) = values_through values hs
-values_through values (Gets change ∷ hs) = values_through (set_taps values change.taps change.digits) hs
+values_through values (Gets change ∷ hs) =
+    values_through (set_taps values change.taps change.digits) hs
 values_through values (Switches switch lines ∷ hs) = values_through (unknown_in values lines) hs
 
 -- the values of the lines after the first bytes of a text
 unfoldable pub values_so_far_by : {W : Type 0} → Way W → List ℕ → Values
-values_so_far_by way fed = values_through at_first (happenings_in way (first_state way) (tokens_so_far fed))
+values_so_far_by way fed =
+    values_through at_first (happenings_in way (first_state way) (tokens_so_far fed))
 
 -- each line has as many digits as the table says
 abbrev pub HasWidths : Values → Type 0

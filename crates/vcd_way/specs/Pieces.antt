@@ -33,16 +33,15 @@ pub data Happening : Type 0 where
   Gets : TapChange → Happening
   Switches : DumpSwitch → List ℕ → Happening
 
--- a block, which is all changes at one time, with its stamp; or the begin or the end of a hole, with
--- the stamp before it and the lines that are unknown after it. What stands before the first stamp
--- has none
+-- a block, which is all changes at one time, with its stamp; or the begin or the end of a hole,
+-- with the stamp before it and the lines that are unknown after it. What stands before the first
+-- stamp has none
 pub data Piece : Type 0 where
   Changes : Option Stamp → List TapChange → Piece
   Switched : DumpSwitch → Option Stamp → List ℕ → Piece
 
 -- the pieces of what happens after some changes of a block that stands open; the last one is the
--- block that stands open after it. A stamp ends a block,
--- and so do the begin and the end of a hole
+-- block that stands open after it. A stamp ends a block, and so do the begin and the end of a hole
 abbrev pub pieces_from : Option Stamp → List TapChange → List Happening → List Piece
 pieces_from stamp block [] = Changes stamp block ∷ []
 pieces_from stamp block (Comes next ∷ hs) = Changes stamp block ∷ pieces_from (Some next) [] hs

@@ -233,12 +233,14 @@ other_step s place (Some taps) = moves_to s AtValues
 -- the dump stops for a time
 abbrev pub stops : {W : Type 0} → Way W → DumpState W → Step W
 stops way s =
-    record { state = record s { is_off = true }; happenings = Switches Off (way.lines s.header) ∷ [] }
+    let lines = way.lines s.header in
+    record { state = record s { is_off = true }; happenings = Switches Off lines ∷ [] }
 
 -- the dump goes on
 abbrev pub resumes : {W : Type 0} → Way W → DumpState W → Step W
 resumes way s =
-    record { state = record s { is_off = false }; happenings = Switches On (way.lines s.header) ∷ [] }
+    let lines = way.lines s.header in
+    record { state = record s { is_off = false }; happenings = Switches On lines ∷ [] }
 
 -- a word after which changes stand, or the end of them: `$dumpoff` may begin a hole, and `$dumpon`
 -- ends it
@@ -267,8 +269,8 @@ may_be_long _ = false
 -- a token between values that says this; a value that may be too long counts by its first bytes
 abbrev pub word_step : {W : Type 0} → Way W → DumpState W → Token → ValueWord → Step W
 word_step way s t w =
-    if not (way.rules.takes_any && may_be_long w) && is_long t.word then breaks s t.place causes.Token
-    else value_step way s t w
+    let is_let_pass = way.rules.takes_any && may_be_long w in
+    if not is_let_pass && is_long t.word then breaks s t.place causes.Token else value_step way s t w
 
 -- a token in a section after the header
 abbrev pub remark_step : {W : Type 0} → DumpState W → DumpSection → Token → Step W

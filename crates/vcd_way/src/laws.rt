@@ -48,7 +48,7 @@ pub fn one_answer<W>()
 {}
 
 /// In each way what is kept of the header is known exactly once its `$enddefinitions` has its
-/// `$end`, also behind a fault. It comes before the first event, and stays: what the first bytes of
+/// `$end`, also after a fault. It comes before the first event, and stays: what the first bytes of
 /// a text show, the whole text has.
 pub fn header_comes_first<W>()
     ensures over { (way : Way W) (fed : List ℕ) →
@@ -65,8 +65,8 @@ pub fn header_comes_first<W>()
         header_by way (fed ++ more) ≡ h }
 {}
 
-/// In each way the events of the first bytes are the first events of the text. A fault among them is
-/// its first fault.
+/// In each way the events of the first bytes are the first events of the text. A fault among them
+/// is its first fault.
 pub fn first_bytes_stay<W>()
     ensures so_far { (way : Way W) (fed more : List ℕ) →
         (rest : List DumpEvent)
