@@ -9,7 +9,7 @@ use Rattle.vcd_grammar.specs.Digits.{number_up_to, time_in, extended}
 use Rattle.vcd_grammar.specs.Words.{same, header_word, is_read_past, name_in}
 use Rattle.vcd_grammar.specs.Levels.{level_of, control_of, bits_without}
 use Rattle.vcd_grammar.specs.Values.{sample_at}
-use Rattle.vcd_way.specs.Declarations.{Declaration, Ends, Range, NoRange, Ranges, Unreadable, RangedName}
+use Rattle.vcd_way.specs.Declarations.{Declaration, NoRange, Ranges, Unreadable, RangedName}
 use Rattle.vcd_way.specs.Declarations.{declaration_of, ranged_name, timescale_in}
 use Rattle.vcd_way.specs.declared.tap.BitRun.{BitRun}
 use Rattle.vcd_way.specs.declared.tap.Part.TheVariants as pieces

@@ -1,5 +1,5 @@
 -- In a lawful way each line keeps its width.
-use Rattle.std.proofs.Common.{◌≡◌, ℕ, ◌+◌, ◌-◌, ◌≤◌, Bool, true, false, not, ◌&&◌, ◌||◌, ◌==◌, if◌then◌else◌, is_some, nat_le, nat_lt, min}
+use Rattle.std.proofs.Common.{◌≡◌, ℕ, ◌+◌, ◌-◌, ◌≤◌, Bool, true, false, not, ◌&&◌, ◌==◌, if◌then◌else◌, is_some, nat_le, nat_lt, min}
 use Rattle.std.proofs.Common.{List, [], ◌∷◌, ◌++◌, length, take, drop, map, reverse, replicate, slice_get, slice_set, slice_index}
 use Rattle.std.proofs.Common.{Option, Some, None, codes, refl, sym, ap, ◌∙◌, arith, suc, zero}
 use Rattle.std.specs.List.{list_all}
@@ -8,7 +8,6 @@ use Rattle.std.proofs.lemmas.Bool.{leb-true, ltb-true, ltb-false, lt-ltb, le-leb
 use Rattle.std.proofs.lemmas.List.{length-take, length-drop, length-append, length-map, length-replicate, length-reverse}
 use Rattle.fsb_signal.specs.Table.{TableEntry, table}
 use Rattle.fsb_signal.specs.DumpText.{width_of}
-use Rattle.vcd_grammar.specs.declared.fault.VcdCause.{VcdCause}
 use Rattle.vcd_grammar.specs.declared.fault.VcdCause.TheVariants as causes
 use Rattle.vcd_grammar.specs.Tokens.{Token, is_long, tokens_so_far}
 use Rattle.vcd_grammar.specs.Digits.{pad_of, extended}
@@ -24,11 +23,11 @@ use Rattle.vcd_way.specs.Ways.{Kept, Keeps, Refuses, ValueRules, Way}
 use Rattle.vcd_way.specs.Pieces.{Happening, Comes, Gets, Switches}
 use Rattle.vcd_way.specs.Events.{whole, inverted_digit, inverted_if, run_of, with_part, digits_at, set_tap, set_taps, unknown_in}
 use Rattle.vcd_way.specs.Steps.{Spot, AtPreface, AtHeader, InSection, AtValues, AtCode, AtOtherCode, InRemark, DumpState}
-use Rattle.vcd_way.specs.Steps.{first_state, Step, reads_past, moves_to, breaks, if_short, header_step, unknown_from_here}
+use Rattle.vcd_way.specs.Steps.{first_state, Step, reads_past, moves_to, breaks, if_short, header_step}
 use Rattle.vcd_way.specs.Steps.{kept_step, declared_step, section_end, section_step, is_declaring, one_more, digits_by}
 use Rattle.vcd_way.specs.Steps.{value_word_by, comes, stamp_step, given, scalar_step, is_too_wide_for, is_unreadable}
 use Rattle.vcd_way.specs.Steps.{vector_digits, vector_step, other_step, stops, resumes, mark_step, value_step, may_be_long}
-use Rattle.vcd_way.specs.Steps.{word_step, remark_step, step_at, step, happenings_in}
+use Rattle.vcd_way.specs.Steps.{remark_step, step_at, step, happenings_in}
 use Rattle.vcd_way.specs.Lawful.{is_line, is_part_within, is_lawful_tap, is_lawfully_kept, IsLawfulWay, values_through}
 use Rattle.vcd_way.specs.Lawful.{values_so_far_by, HasWidths}
 
