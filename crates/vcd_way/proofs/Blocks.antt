@@ -6,10 +6,10 @@ use Rattle.fsb_signal.specs.declared.sample.Sample.{Sample}
 use Rattle.vcd_grammar.specs.Blocks.{Block, Change, BlockEvent, Later, Changed, blocks_from, ended}
 use Rattle.vcd_grammar.specs.Values.{Values, set_lines, values_behind, clock_of, is_rise, sample_of, samples_in}
 use Rattle.vcd_grammar.proofs.Interface.{blocks_some, ended-cons}
-use Rattle.vcd_way.specs.Pieces.{Stamp, TapChange, Happening, Comes, Gets, Stops, Piece, Changes, pieces_from, over}
-use Rattle.vcd_way.specs.Events.{DumpEvent, Sampled, Course, course_behind, set_taps, values_after, sample_in_block}
+use Rattle.vcd_way.specs.Pieces.{Stamp, TapChange, Happening, Comes, Gets, Switches, Piece, Changes, pieces_from, over}
+use Rattle.vcd_way.specs.Events.{DumpEvent, Sampled, Course, course_after, set_taps, values_after, sample_in_block}
 use Rattle.vcd_way.specs.Events.{events_from, samples_among, is_known_digit}
-use Rattle.vcd_way.specs.Strict.{strict_manner}
+use Rattle.vcd_way.specs.Strict.{strict_rules}
 
 -- a change of lines and one of taps do the same
 abbrev pub SameChange : Change → TapChange → Type 0
@@ -29,11 +29,11 @@ alike-append [] fs (h ∷ hs) js p q = absurd p
 alike-append (Later ∷ es) fs [] js p q = absurd p
 alike-append (Later ∷ es) fs (Comes stamp ∷ hs) js p q = alike-append es fs hs js p q
 alike-append (Later ∷ es) fs (Gets g ∷ hs) js p q = absurd p
-alike-append (Later ∷ es) fs (Stops lines ∷ hs) js p q = absurd p
+alike-append (Later ∷ es) fs (Switches switch lines ∷ hs) js p q = absurd p
 alike-append (Changed c ∷ es) fs [] js p q = absurd p
 alike-append (Changed c ∷ es) fs (Comes stamp ∷ hs) js p q = absurd p
 alike-append (Changed c ∷ es) fs (Gets g ∷ hs) js p q = (p.0, alike-append es fs hs js p.1 q)
-alike-append (Changed c ∷ es) fs (Stops lines ∷ hs) js p q = absurd p
+alike-append (Changed c ∷ es) fs (Switches switch lines ∷ hs) js p q = absurd p
 
 behind-snoc : (v : Values) (b : Block) (c : Change)
     → values_behind v (b ++ c ∷ []) ≡ set_lines (values_behind v b) c.lines c.digits
@@ -49,7 +49,7 @@ after-snoc v (x ∷ b) c = after-snoc (set_taps v x.taps x.digits) b c
 abbrev pub Unseen : Course → Type 0
 Unseen c = c.is_seen ≡ false → (clock_of c.values == 48) ≡ false
 
-unseen-behind : (c : Course) (after : Values) → Unseen (course_behind c after)
+unseen-behind : (c : Course) (after : Values) → Unseen (course_after c after)
 unseen-behind c after h =
     (or_parts (clock_of after == 48) (clock_of after == 49) (or_parts c.is_seen (is_known_digit (clock_of after)) h).1).0
 
@@ -66,7 +66,7 @@ pick false true a stamp rest h = let wrong = h refl in cc wrong
 pick false false a stamp rest h = refl
 
 picked : (c : Course) (stamp : Option Stamp) (after : Values) (rest : List DumpEvent) → Unseen c
-    → samples_among (sample_in_block strict_manner c stamp after ++ rest) ≡ rise_sample c.values after ++ samples_among rest
+    → samples_among (sample_in_block strict_rules c stamp after ++ rest) ≡ rise_sample c.values after ++ samples_among rest
 picked c stamp after rest h =
     pick c.is_seen (is_rise (clock_of c.values) (clock_of after)) (sample_of c.values) stamp rest
     (λ e. ap (λ x. x && (clock_of after == 49)) (h e))
@@ -74,7 +74,7 @@ picked c stamp after rest h =
 -- the samples of blocks and of pieces, of which the first stands open
 pub alike-samples : (block : Block) (g : List TapChange) (stamp : Option Stamp) (c : Course) (es : List BlockEvent)
     (hs : List Happening) → Unseen c → values_behind c.values block ≡ values_after c.values g → Alike es hs
-    → samples_in c.values (blocks_from block es) ≡ samples_among (events_from strict_manner c (pieces_from stamp g hs))
+    → samples_in c.values (blocks_from block es) ≡ samples_among (events_from strict_rules c (pieces_from stamp g hs))
 alike-samples block g stamp c [] [] s o a =
     ap (λ w. rise_sample c.values w ++ []) o ∙ sym (picked c stamp (values_after c.values g) [] s)
 alike-samples block g stamp c [] (h ∷ hs) s o a = absurd a
@@ -83,10 +83,10 @@ alike-samples block g stamp c (Later ∷ es) (Comes next ∷ hs) s o a =
     let after = values_after c.values g in
     ap (λ w. rise_sample c.values w ++ samples_in w (blocks_from [] es)) o
     ∙ ap (λ ss. rise_sample c.values after ++ ss)
-    (alike-samples [] [] (Some next) (course_behind c after) es hs (unseen-behind c after) refl a)
-    ∙ sym (picked c stamp after (events_from strict_manner (course_behind c after) (pieces_from (Some next) [] hs)) s)
+    (alike-samples [] [] (Some next) (course_after c after) es hs (unseen-behind c after) refl a)
+    ∙ sym (picked c stamp after (events_from strict_rules (course_after c after) (pieces_from (Some next) [] hs)) s)
 alike-samples block g stamp c (Later ∷ es) (Gets y ∷ hs) s o a = absurd a
-alike-samples block g stamp c (Later ∷ es) (Stops lines ∷ hs) s o a = absurd a
+alike-samples block g stamp c (Later ∷ es) (Switches switch lines ∷ hs) s o a = absurd a
 alike-samples block g stamp c (Changed x ∷ es) [] s o a = absurd a
 alike-samples block g stamp c (Changed x ∷ es) (Comes next ∷ hs) s o a = absurd a
 alike-samples block g stamp c (Changed x ∷ es) (Gets y ∷ hs) s o a =
@@ -95,14 +95,14 @@ alike-samples block g stamp c (Changed x ∷ es) (Gets y ∷ hs) s o a =
     ∙ a.0 (values_after c.values g)
     ∙ sym (after-snoc c.values g y) in
     alike-samples (block ++ x ∷ []) (g ++ y ∷ []) stamp c es hs s standing a.1
-alike-samples block g stamp c (Changed x ∷ es) (Stops lines ∷ hs) s o a = absurd a
+alike-samples block g stamp c (Changed x ∷ es) (Switches switch lines ∷ hs) s o a = absurd a
 
 -- there is a last piece
 pub pieces_some : (stamp : Option Stamp) (g : List TapChange) (hs : List Happening) → 0 < length (pieces_from stamp g hs)
 pieces_some stamp g [] = omega arith
 pieces_some stamp g (Comes next ∷ hs) = omega (arith, pieces_some (Some next) [] hs)
 pieces_some stamp g (Gets y ∷ hs) = pieces_some stamp (g ++ y ∷ []) hs
-pieces_some stamp g (Stops lines ∷ hs) = omega (arith, pieces_some stamp [] hs)
+pieces_some stamp g (Switches switch lines ∷ hs) = omega (arith, pieces_some stamp [] hs)
 
 -- a piece before others is over
 pub over-cons : (p : Piece) (ps : List Piece) → 0 < length ps → over (p ∷ ps) ≡ p ∷ over ps
@@ -114,7 +114,7 @@ over-cons p ps some =
 pub alike-ended : (block : Block) (g : List TapChange) (stamp : Option Stamp) (c : Course) (es : List BlockEvent)
     (hs : List Happening) → Unseen c → values_behind c.values block ≡ values_after c.values g → Alike es hs
     → samples_in c.values (ended (blocks_from block es))
-    ≡ samples_among (events_from strict_manner c (over (pieces_from stamp g hs)))
+    ≡ samples_among (events_from strict_rules c (over (pieces_from stamp g hs)))
 alike-ended block g stamp c [] [] s o a = refl
 alike-ended block g stamp c [] (h ∷ hs) s o a = absurd a
 alike-ended block g stamp c (Later ∷ es) [] s o a = absurd a
@@ -124,12 +124,12 @@ alike-ended block g stamp c (Later ∷ es) (Comes next ∷ hs) s o a =
     ap (samples_in c.values) (ended-cons block (blocks_from [] es) (blocks_some [] es))
     ∙ ap (λ w. rise_sample c.values w ++ samples_in w (ended (blocks_from [] es))) o
     ∙ ap (λ ss. rise_sample c.values after ++ ss)
-    (alike-ended [] [] (Some next) (course_behind c after) es hs (unseen-behind c after) refl a)
-    ∙ sym (picked c stamp after (events_from strict_manner (course_behind c after) (over ps)) s)
-    ∙ sym (ap (λ qs. samples_among (events_from strict_manner c qs))
+    (alike-ended [] [] (Some next) (course_after c after) es hs (unseen-behind c after) refl a)
+    ∙ sym (picked c stamp after (events_from strict_rules (course_after c after) (over ps)) s)
+    ∙ sym (ap (λ qs. samples_among (events_from strict_rules c qs))
     (over-cons (Changes stamp g) ps (pieces_some (Some next) [] hs)))
 alike-ended block g stamp c (Later ∷ es) (Gets y ∷ hs) s o a = absurd a
-alike-ended block g stamp c (Later ∷ es) (Stops lines ∷ hs) s o a = absurd a
+alike-ended block g stamp c (Later ∷ es) (Switches switch lines ∷ hs) s o a = absurd a
 alike-ended block g stamp c (Changed x ∷ es) [] s o a = absurd a
 alike-ended block g stamp c (Changed x ∷ es) (Comes next ∷ hs) s o a = absurd a
 alike-ended block g stamp c (Changed x ∷ es) (Gets y ∷ hs) s o a =
@@ -138,7 +138,7 @@ alike-ended block g stamp c (Changed x ∷ es) (Gets y ∷ hs) s o a =
     ∙ a.0 (values_after c.values g)
     ∙ sym (after-snoc c.values g y) in
     alike-ended (block ++ x ∷ []) (g ++ y ∷ []) stamp c es hs s standing a.1
-alike-ended block g stamp c (Changed x ∷ es) (Stops lines ∷ hs) s o a = absurd a
+alike-ended block g stamp c (Changed x ∷ es) (Switches switch lines ∷ hs) s o a = absurd a
 
 -- ---- the strict way tells samples alone
 
@@ -152,25 +152,25 @@ plain false rise a stamp rest h = h
 
 plain-block : (c : Course) (stamp : Option Stamp) (after : Values) (rest : List DumpEvent)
     → length (samples_among rest) ≡ length rest
-    → length (samples_among (sample_in_block strict_manner c stamp after ++ rest))
-    ≡ length (sample_in_block strict_manner c stamp after ++ rest)
+    → length (samples_among (sample_in_block strict_rules c stamp after ++ rest))
+    ≡ length (sample_in_block strict_rules c stamp after ++ rest)
 plain-block c stamp after rest h =
     plain c.is_seen (is_rise (clock_of c.values) (clock_of after)) (sample_of c.values) stamp rest h
 
 pub no_holes : (g : List TapChange) (stamp : Option Stamp) (c : Course) (es : List BlockEvent) (hs : List Happening)
     → Alike es hs
-    → length (samples_among (events_from strict_manner c (pieces_from stamp g hs)))
-    ≡ length (events_from strict_manner c (pieces_from stamp g hs))
+    → length (samples_among (events_from strict_rules c (pieces_from stamp g hs)))
+    ≡ length (events_from strict_rules c (pieces_from stamp g hs))
 no_holes g stamp c [] [] a = plain-block c stamp (values_after c.values g) [] refl
 no_holes g stamp c [] (h ∷ hs) a = absurd a
 no_holes g stamp c (Later ∷ es) [] a = absurd a
 no_holes g stamp c (Later ∷ es) (Comes next ∷ hs) a =
     let after = values_after c.values g in
-    plain-block c stamp after (events_from strict_manner (course_behind c after) (pieces_from (Some next) [] hs))
-    (no_holes [] (Some next) (course_behind c after) es hs a)
+    plain-block c stamp after (events_from strict_rules (course_after c after) (pieces_from (Some next) [] hs))
+    (no_holes [] (Some next) (course_after c after) es hs a)
 no_holes g stamp c (Later ∷ es) (Gets y ∷ hs) a = absurd a
-no_holes g stamp c (Later ∷ es) (Stops lines ∷ hs) a = absurd a
+no_holes g stamp c (Later ∷ es) (Switches switch lines ∷ hs) a = absurd a
 no_holes g stamp c (Changed x ∷ es) [] a = absurd a
 no_holes g stamp c (Changed x ∷ es) (Comes next ∷ hs) a = absurd a
 no_holes g stamp c (Changed x ∷ es) (Gets y ∷ hs) a = no_holes (g ++ y ∷ []) stamp c es hs a.1
-no_holes g stamp c (Changed x ∷ es) (Stops lines ∷ hs) a = absurd a
+no_holes g stamp c (Changed x ∷ es) (Switches switch lines ∷ hs) a = absurd a

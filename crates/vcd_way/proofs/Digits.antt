@@ -13,7 +13,7 @@ use Rattle.vcd_grammar.specs.Values.{Values, set_line, set_lines}
 use Rattle.vcd_grammar.specs.Judging.{is_too_wide}
 use Rattle.vcd_way.specs.Events.{whole, set_taps}
 use Rattle.vcd_way.specs.Steps.{is_digit_by, one_more, digits_by, is_too_wide_for}
-use Rattle.vcd_way.specs.Strict.{strict_manner}
+use Rattle.vcd_way.specs.Strict.{strict_rules}
 
 -- ---- digits
 
@@ -21,21 +21,21 @@ some-if : (x : Bool) (b : ℕ) → is_some (if x then Some b else None) ≡ x
 some-if true b = refl
 some-if false b = refl
 
-pub digit-test : (b : ℕ) → is_digit_by strict_manner b ≡ is_value_digit b
+pub digit-test : (b : ℕ) → is_digit_by strict_rules b ≡ is_value_digit b
 digit-test b = some-if (is_value_digit b) b
 
-pub digits-test : (ds : List ℕ) → list_all (is_digit_by strict_manner) ds ≡ list_all is_value_digit ds
+pub digits-test : (ds : List ℕ) → list_all (is_digit_by strict_rules) ds ≡ list_all is_value_digit ds
 digits-test [] = refl
 digits-test (d ∷ ds) =
-    ap (λ x. x && list_all (is_digit_by strict_manner) ds) (digit-test d)
+    ap (λ x. x && list_all (is_digit_by strict_rules) ds) (digit-test d)
     ∙ ap (λ x. is_value_digit d && x) (digits-test ds)
 
 -- digits are what they are
-pub digits-meant : (ds : List ℕ) → list_all is_value_digit ds ≡ true → digits_by strict_manner ds ≡ Some ds
+pub digits-meant : (ds : List ℕ) → list_all is_value_digit ds ≡ true → digits_by strict_rules ds ≡ Some ds
 digits-meant [] h = refl
 digits-meant (d ∷ ds) h =
     let parts = and_parts (is_value_digit d) (list_all is_value_digit ds) h in
-    ap (λ x. one_more (if x then Some d else None) (digits_by strict_manner ds)) parts.0
+    ap (λ x. one_more (if x then Some d else None) (digits_by strict_rules ds)) parts.0
     ∙ ap (one_more (Some d)) (digits-meant ds parts.1)
 
 -- ---- lines and whole taps

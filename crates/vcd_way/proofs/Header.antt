@@ -43,7 +43,7 @@ mode_of_spot AtHeader = Header
 mode_of_spot (InSection section) = mode_of_section section (header_word section.keyword)
 mode_of_spot AtValues = Values
 mode_of_spot (AtCode place digits) = Pending place (take 65 digits)
-mode_of_spot AtOtherCode = Beside
+mode_of_spot (AtOtherCode place) = Beside
 mode_of_spot (InRemark section) = Passed
 
 abbrev pub known_of : DumpState StrictHeader → Known
@@ -62,7 +62,7 @@ is_sound AtHeader = true
 is_sound (InSection section) = true
 is_sound AtValues = true
 is_sound (AtCode place digits) = list_all is_value_digit digits
-is_sound AtOtherCode = true
+is_sound (AtOtherCode place) = true
 is_sound (InRemark section) = true
 
 -- a token does the same
@@ -111,15 +111,14 @@ draft_of place a width c e = record {
 }
 
 -- a declaration with a width
-abbrev declaration : DumpState StrictHeader → ℕ → List ℕ → ℕ → List ℕ → List ℕ → List (List ℕ) → ℕ → Declaration
-declaration s place a width c e ws count = record {
+abbrev declaration : DumpState StrictHeader → ℕ → List ℕ → ℕ → List ℕ → List ℕ → List (List ℕ) → Declaration
+declaration s place a width c e ws = record {
   place = place;
-  count = count;
   kind = a;
   width = width;
   code = c;
   reference = e;
-  behind = ws;
+  after = ws;
   path = s.path;
 }
 
@@ -136,25 +135,25 @@ choose s m place n c false true q = record { known = refl; alike = tt; sound = r
 choose s m place n c false false true = record { known = refl; alike = (λ v. refl, tt); sound = refl }
 choose s m place n c false false false = record { known = refl; alike = tt; sound = refl }
 
-named-same : (s : DumpState StrictHeader) (m : Mode) (place w count : ℕ) (a c e : List ℕ) (ws : List (List ℕ))
+named-same : (s : DumpState StrictHeader) (m : Mode) (place w : ℕ) (a c e : List ℕ) (ws : List (List ℕ))
     (line : Option ℕ)
     → Follows (named (record (known_of s) { mode = m }) (draft_of place a (Some w) c e) w line)
-    (kept_step (at s AtHeader) place (strict_named s.header (declaration s place a w c e ws count) line))
-named-same s m place w count a c e ws None = record { known = refl; alike = tt; sound = refl }
-named-same s m place w count a c e ws (Some n) =
+    (kept_step (at s AtHeader) place (strict_named s.header (declaration s place a w c e ws) line))
+named-same s m place w a c e ws None = record { known = refl; alike = tt; sound = refl }
+named-same s m place w a c e ws (Some n) =
     choose s m place n c (is_foreign_type a) (is_declared s.header.lines n) (w == width_of n)
 
-coded : (s : DumpState StrictHeader) (m : Mode) (place w count : ℕ) (a c e : List ℕ) (ws : List (List ℕ)) (many ok : Bool)
+coded : (s : DumpState StrictHeader) (m : Mode) (place w : ℕ) (a c e : List ℕ) (ws : List (List ℕ)) (many ok : Bool)
     → many ≡ true
     → Follows
     (if ok then named (record (known_of s) { mode = m }) (draft_of place a (Some w) c e) w (signal_number (name_in e))
     else fails (record (known_of s) { mode = Header }) place causes.Header)
     (declared_step strict (at s AtHeader) place
-    (if many && ok then Some (declaration s place a w c e ws count) else None))
+    (if many && ok then Some (declaration s place a w c e ws) else None))
 unfolding strict_declares
-coded s m place w count a c e ws true true h = named-same s m place w count a c e ws (signal_number (name_in e))
-coded s m place w count a c e ws true false h = record { known = refl; alike = tt; sound = refl }
-coded s m place w count a c e ws false ok h = cc h
+coded s m place w a c e ws true true h = named-same s m place w a c e ws (signal_number (name_in e))
+coded s m place w a c e ws true false h = record { known = refl; alike = tt; sound = refl }
+coded s m place w a c e ws false ok h = cc h
 
 width-same : (s : DumpState StrictHeader) (m : Mode) (section : DumpSection) (a b c e : List ℕ) (ws : List (List ℕ))
     (width : Option ℕ)
@@ -164,11 +163,11 @@ width-same : (s : DumpState StrictHeader) (m : Mode) (section : DumpSection) (a 
 width-same s m section a b c e ws None = record { known = refl; alike = tt; sound = refl }
 width-same s m section a b c e ws (Some w) =
     let count = length (a ∷ b ∷ c ∷ e ∷ ws) in
-    coded s m section.place w count a c e ws (nat_le 4 count) (is_code_word c) (le-leb 4 count (omega arith))
+    coded s m section.place w a c e ws (nat_le 4 count) (is_code_word c) (le-leb 4 count (omega arith))
 
 words-same : (s : DumpState StrictHeader) (m : Mode) (section : DumpSection) (ws : List (List ℕ))
     → Follows (declared (record (known_of s) { mode = m }) (draft_from (draft_at section.place) ws))
-    (declared_step strict (at s AtHeader) section.place (declaration_of s.path (record section { words = ws })))
+    (declared_step strict (at s AtHeader) section.place (declaration_of 1000000 s.path (record section { words = ws })))
 unfolding drafted declared declaration_of
 words-same s m section [] = rw no_width (record { known = refl; alike = tt; sound = refl })
 words-same s m section (a ∷ []) = rw no_width (record { known = refl; alike = tt; sound = refl })
@@ -177,7 +176,7 @@ words-same s m section (a ∷ b ∷ []) = by (width_in b) refl
     by : (width : Option ℕ) → width_in b ≡ width
         → Follows (declared (record (known_of s) { mode = m }) (draft_from (draft_at section.place) (a ∷ b ∷ [])))
         (declared_step strict (at s AtHeader) section.place
-        (declaration_of s.path (record section { words = a ∷ b ∷ [] })))
+        (declaration_of 1000000 s.path (record section { words = a ∷ b ∷ [] })))
     by None e = rw e (record { known = refl; alike = tt; sound = refl })
     by (Some w) e = rw e (record { known = refl; alike = tt; sound = refl })
 words-same s m section (a ∷ b ∷ c ∷ []) = by (width_in b) refl
@@ -185,7 +184,7 @@ words-same s m section (a ∷ b ∷ c ∷ []) = by (width_in b) refl
     by : (width : Option ℕ) → width_in b ≡ width
         → Follows (declared (record (known_of s) { mode = m }) (draft_from (draft_at section.place) (a ∷ b ∷ c ∷ [])))
         (declared_step strict (at s AtHeader) section.place
-        (declaration_of s.path (record section { words = a ∷ b ∷ c ∷ [] })))
+        (declaration_of 1000000 s.path (record section { words = a ∷ b ∷ c ∷ [] })))
     by None e = rw e (record { known = refl; alike = tt; sound = refl })
     by (Some w) e = rw e (record { known = refl; alike = tt; sound = refl })
 words-same s m section (a ∷ b ∷ c ∷ e ∷ ws) =

@@ -1,6 +1,6 @@
 -- In every way, what is kept of the header is known from the `$end` of its `$enddefinitions` on, and stays; before that no
 -- piece is over.
-use Rattle.std.proofs.Common.{◌≡◌, ℕ, Bool, true, false, ◌&&◌, ◌||◌, ◌==◌, if◌then◌else◌, is_some, List, [], ◌∷◌, ◌++◌}
+use Rattle.std.proofs.Common.{◌≡◌, ℕ, Bool, true, false, not, ◌&&◌, ◌||◌, ◌==◌, if◌then◌else◌, is_some, List, [], ◌∷◌, ◌++◌}
 use Rattle.std.proofs.Common.{length, codes, nat_eq, nat_lt, Option, Some, None, refl, sym, ap, subst, ◌∙◌, arith}
 use Rattle.std.specs.List.{list_all}
 use Rattle.std.specs.Cmp.Lexicographic.{same_text}
@@ -17,13 +17,13 @@ use Rattle.vcd_grammar.proofs.Interface.{tokens-append}
 use Rattle.vcd_way.specs.Declarations.{DumpSection, Declaration, declaration_of, with_word}
 use Rattle.vcd_way.specs.declared.tap.Tap.{Tap}
 use Rattle.vcd_way.specs.Ways.{Kept, Keeps, Refuses, Way}
-use Rattle.vcd_way.specs.Pieces.{Stamp as TimeStamp, TapChange, Happening, Comes, Gets, Stops, pieces_from, over}
+use Rattle.vcd_way.specs.Pieces.{Stamp as TimeStamp, TapChange, Happening, Comes, Gets, Switches, pieces_from, over}
 use Rattle.vcd_way.specs.Steps.{Spot, AtPreface, AtHeader, InSection, AtValues, AtCode, AtOtherCode, InRemark, DumpState}
 use Rattle.vcd_way.specs.Steps.{first_state, Step, reads_past, moves_to, breaks, if_short, header_step}
 use Rattle.vcd_way.specs.Steps.{unknown_from_here, kept_step, declared_step, section_end, is_declaring}
 use Rattle.vcd_way.specs.Steps.{digits_by, value_word_by, comes, stamp_step, given, scalar_step, is_too_wide_for, vector_step}
-use Rattle.vcd_way.specs.Steps.{other_step, mark_step, value_step, step_at, step, state_behind, happenings_in}
-use Rattle.vcd_way.specs.Steps.{is_past_header_at}
+use Rattle.vcd_way.specs.Steps.{other_step, mark_step, value_step, step_at, step, state_after, happenings_in}
+use Rattle.vcd_way.specs.Steps.{is_past_header_at, vector_digits, may_be_long, stops, resumes}
 use Rattle.vcd_way.specs.Answers.{state_of, header_in, header_by, header_so_far_by, header_at_end_by, events_so_far_by}
 use Rattle.vcd_way.specs.Events.{course_at_first, events_from}
 
@@ -67,15 +67,15 @@ stays-given s place (tap ∷ taps) None h = stays-breaks s place causes.Token h
 stays-scalar : {W : Type 0} (way : Way W) (s : DumpState W) (place digit : ℕ) (taps : Option (List Tap))
     → is_past_header_at s.spot ≡ true → Stays s (scalar_step way s place digit taps)
 stays-scalar way s place digit None h = stays-breaks s place causes.Code h
-stays-scalar way s place digit (Some taps) h = stays-given s place taps (digits_by way.manner (digit ∷ [])) h
+stays-scalar way s place digit (Some taps) h = stays-given s place taps (digits_by way.rules (digit ∷ [])) h
 
 stays-vector : {W : Type 0} (way : Way W) (s : DumpState W) (place from : ℕ) (digits : List ℕ) (taps : Option (List Tap))
     → is_past_header_at s.spot ≡ true → Stays s (vector_step way s place from digits taps)
 stays-vector way s place from digits None h = stays-breaks s place causes.Code h
 stays-vector way s place from digits (Some taps) h =
     stays-if s (is_too_wide_for taps digits) (breaks s from causes.Width)
-    (given s from taps (digits_by way.manner digits)) (stays-breaks s from causes.Width h)
-    (stays-given s from taps (digits_by way.manner digits) h)
+    (given s from taps (vector_digits way.rules digits)) (stays-breaks s from causes.Width h)
+    (stays-given s from taps (vector_digits way.rules digits) h)
 
 stays-other : {W : Type 0} (s : DumpState W) (place : ℕ) (taps : Option (List Tap)) → is_past_header_at s.spot ≡ true
     → Stays s (other_step s place taps)
@@ -85,9 +85,10 @@ stays-other s place (Some taps) h = record { header = refl; past = refl }
 stays-mark : {W : Type 0} (way : Way W) (s : DumpState W) (word : List ℕ) → is_past_header_at s.spot ≡ true
     → Stays s (mark_step way s word)
 stays-mark way s word h =
-    stays-if s (way.manner.tells_holes && same (codes "$dumpoff") word)
-    (record { state = s; happenings = Stops (way.lines s.header) ∷ [] }) (reads_past s)
-    (record { header = refl; past = h }) (stays-same s h)
+    let on = way.rules.tells_holes && (s.is_off && same (codes "$dumpon") word) in
+    stays-if s (way.rules.tells_holes && same (codes "$dumpoff") word) (stops way s)
+    (if on then resumes way s else reads_past s) (record { header = refl; past = h })
+    (stays-if s on (resumes way s) (reads_past s) (record { header = refl; past = h }) (stays-same s h))
 
 stays-value : {W : Type 0} (way : Way W) (s : DumpState W) (t : Token) (w : ValueWord) → is_past_header_at s.spot ≡ true
     → Stays s (value_step way s t w)
@@ -109,14 +110,16 @@ stays-at way AtPreface s t h = cc h
 stays-at way AtHeader s t h = cc h
 stays-at way (InSection section) s t h = cc h
 stays-at way AtValues s t h =
-    stays-short (placed s AtValues) t (value_step way (placed s AtValues) t (value_word_by way.manner t.word)) refl
-    (stays-value way (placed s AtValues) t (value_word_by way.manner t.word) refl)
+    let w = value_word_by way.rules t.word in
+    stays-if (placed s AtValues) (not (way.rules.takes_any && may_be_long w) && is_long t.word)
+    (breaks (placed s AtValues) t.place causes.Token) (value_step way (placed s AtValues) t w)
+    (stays-breaks (placed s AtValues) t.place causes.Token refl) (stays-value way (placed s AtValues) t w refl)
 stays-at way (AtCode from digits) s t h =
     let p = placed s (AtCode from digits) in
     stays-short p t (vector_step way p t.place from digits (way.taps s.header t.word)) refl
     (stays-vector way p t.place from digits (way.taps s.header t.word) refl)
-stays-at way AtOtherCode s t h =
-    let p = placed s AtOtherCode in
+stays-at way (AtOtherCode from) s t h =
+    let p = placed s (AtOtherCode from) in
     stays-short p t (other_step p t.place (way.taps s.header t.word)) refl
     (stays-other p t.place (way.taps s.header t.word) refl)
 stays-at way (InRemark section) s t h =
@@ -155,7 +158,7 @@ done-step way s t d =
     done-if s (step_at way s.spot s t) (is_some s.fault) refl
     (λ e. stays-at way s.spot s t (or-second (is_some s.fault) (is_past_header_at s.spot) e d)) d
 
-done-behind : {W : Type 0} (way : Way W) (s : DumpState W) (ts : List Token) → Done s → StaysDone s (state_behind way s ts)
+done-behind : {W : Type 0} (way : Way W) (s : DumpState W) (ts : List Token) → Done s → StaysDone s (state_after way s ts)
 done-behind way s [] d = record { header = refl; done = d }
 done-behind way s (t ∷ ts) d =
     let p = done-step way s t d in
@@ -177,7 +180,7 @@ heading_at AtHeader = Between
 heading_at (InSection section) = section_heading (header_word section.keyword)
 heading_at AtValues = Over
 heading_at (AtCode place digits) = Over
-heading_at AtOtherCode = Over
+heading_at (AtOtherCode place) = Over
 heading_at (InRemark section) = Over
 
 abbrev heading : {W : Type 0} → Step W → Heading
@@ -230,7 +233,7 @@ over_at AtHeader h = cc h
 over_at (InSection section) h = cc h
 over_at AtValues h = refl
 over_at (AtCode place digits) h = refl
-over_at AtOtherCode h = refl
+over_at (AtOtherCode place) h = refl
 over_at (InRemark section) h = refl
 
 -- the `$end` of a section is not too long
@@ -265,7 +268,7 @@ section-heading : {W : Type 0} (way : Way W) (s : DumpState W) (section : DumpSe
 section-heading way s section t Declares true true e f g = let wrong = g refl in cc wrong
 section-heading way s section t Declares true false e f g = ap heading_at f ∙ ap section_heading e
 section-heading way s section t Declares false true e f g =
-    declared-heading way (placed s AtHeader) section.place (declaration_of s.path section)
+    declared-heading way (placed s AtHeader) section.place (declaration_of way.rules.widest s.path section)
 section-heading way s section t Declares false false e f g = ap section_heading e
 section-heading way s section t Finishes true true e f g = kept-heading (placed s AtValues) section.place (way.closes s.header)
 section-heading way s section t Finishes false true e f g =
@@ -315,7 +318,7 @@ heading-at way (InSection section) s t =
     (is_end t.word) refl refl (end_short t.word) ∙ section-over (header_word section.keyword) t
 heading-at way AtValues s t = past-heading way AtValues s t refl
 heading-at way (AtCode from digits) s t = past-heading way (AtCode from digits) s t refl
-heading-at way AtOtherCode s t = past-heading way AtOtherCode s t refl
+heading-at way (AtOtherCode from) s t = past-heading way (AtOtherCode from) s t refl
 heading-at way (InRemark section) s t = past-heading way (InRemark section) s t refl
 
 -- without a fault the state stands here in the header
@@ -335,12 +338,12 @@ heads-step way s t h p =
     (λ n. heading-at way s.spot s t ∙ ap (λ x. behind_token x t) (p n))
 
 heads-behind : {W : Type 0} (way : Way W) (s : DumpState W) (ts : List Token) (h : Heading) → Heads s h
-    → Heads (state_behind way s ts) (heading_behind h ts)
+    → Heads (state_after way s ts) (heading_behind h ts)
 heads-behind way s [] h p = p
 heads-behind way s (t ∷ ts) h p = heads-behind way (step way s t).state ts (behind_token h t) (heads-step way s t h p)
 
 first-heads : {W : Type 0} (way : Way W) → Heads (first_state way) Between
-first-heads way n = by way.manner.skips_preface
+first-heads way n = by way.rules.skips_preface
   where
     by : (b : Bool) → heading_at (if b then AtPreface else AtHeader) ≡ Between
     by true = refl
@@ -360,7 +363,7 @@ past_at (InSection section) h e o = by (header_word section.keyword) (ap is_over
     by Bare k = k
 past_at AtValues h e o = refl
 past_at (AtCode place digits) h e o = refl
-past_at AtOtherCode h e o = refl
+past_at (AtOtherCode place) h e o = refl
 past_at (InRemark section) h e o = refl
 
 done_where : {W : Type 0} (s : DumpState W) (h : Heading) (f : Option VcdFault) → s.fault ≡ f → Heads s h
@@ -380,7 +383,7 @@ done-of way ts o =
 abbrev is_change : Happening → Bool
 is_change (Comes stamp) = false
 is_change (Gets change) = true
-is_change (Stops lines) = false
+is_change (Switches switch lines) = false
 
 -- no time comes, and there is no hole
 abbrev Calm : List Happening → Type 0
@@ -417,7 +420,7 @@ calm-short s t y p = calm-if (is_long t.word) (breaks s t.place causes.Token) y 
 calm-end : {W : Type 0} (way : Way W) (s : DumpState W) (section : DumpSection) (w : HeaderWord)
     → Calm (section_end way s section w).happenings
 calm-end way s section Declares =
-    calm-declared way (placed s AtHeader) section.place (declaration_of s.path section)
+    calm-declared way (placed s AtHeader) section.place (declaration_of way.rules.widest s.path section)
 calm-end way s section Finishes = calm-kept (placed s AtValues) section.place (way.closes s.header)
 calm-end way s section Ends = refl
 calm-end way s section Opens = refl
@@ -441,7 +444,7 @@ calm-at way (InSection section) s t h =
     (calm-end way p section w) refl)
 calm-at way AtValues s t h = cc h
 calm-at way (AtCode from digits) s t h = cc h
-calm-at way AtOtherCode s t h = cc h
+calm-at way (AtOtherCode from) s t h = cc h
 calm-at way (InRemark section) s t h = cc h
 
 before_at : (spot : Spot) (h : Heading) → heading_at spot ≡ h → is_over h ≡ false → is_past_header_at spot ≡ false
@@ -450,7 +453,7 @@ before_at AtHeader h e o = refl
 before_at (InSection section) h e o = refl
 before_at AtValues h e o = let wrong = ap is_over e ∙ o in cc wrong
 before_at (AtCode place digits) h e o = let wrong = ap is_over e ∙ o in cc wrong
-before_at AtOtherCode h e o = let wrong = ap is_over e ∙ o in cc wrong
+before_at (AtOtherCode place) h e o = let wrong = ap is_over e ∙ o in cc wrong
 before_at (InRemark section) h e o = let wrong = ap is_over e ∙ o in cc wrong
 
 calm-fault : {W : Type 0} (s : DumpState W) (y : Step W) (f : Option VcdFault) → (f ≡ None → Calm y.happenings)
@@ -468,7 +471,7 @@ calm-append : (a b : List Happening) → Calm a → Calm b → Calm (a ++ b)
 calm-append [] b p q = q
 calm-append (Comes stamp ∷ a) b p q = cc p
 calm-append (Gets change ∷ a) b p q = calm-append a b p q
-calm-append (Stops lines ∷ a) b p q = cc p
+calm-append (Switches switch lines ∷ a) b p q = cc p
 
 -- the header stays over
 over-behind : (ts : List Token) → is_over (heading_behind Over ts) ≡ true
@@ -502,7 +505,7 @@ none_over : (stamp : Option TimeStamp) (block : List TapChange) (hs : List Happe
 none_over stamp block [] h = refl
 none_over stamp block (Comes next ∷ hs) h = cc h
 none_over stamp block (Gets change ∷ hs) h = none_over stamp (block ++ change ∷ []) hs h
-none_over stamp block (Stops lines ∷ hs) h = cc h
+none_over stamp block (Switches switch lines ∷ hs) h = cc h
 
 -- ---- what first bytes show
 
@@ -520,12 +523,12 @@ unfolding header_so_far_by events_so_far_by
 header-first way fed e =
     let tokens = tokens_so_far fed in
     let before = no_header (is_header_over tokens) (state_of way tokens).header e in
-    ap (λ ps. events_from way.manner course_at_first ps)
+    ap (λ ps. events_from way.rules course_at_first ps)
     (none_over None [] (happenings_in way (first_state way) tokens)
     (calm-behind way (first_state way) tokens Between (first-heads way) before))
 
 pub state-append : {W : Type 0} (way : Way W) (s : DumpState W) (ts us : List Token)
-    → state_behind way s (ts ++ us) ≡ state_behind way (state_behind way s ts) us
+    → state_after way s (ts ++ us) ≡ state_after way (state_after way s ts) us
 state-append way s [] us = refl
 state-append way s (t ∷ ts) us = state-append way (step way s t).state ts us
 

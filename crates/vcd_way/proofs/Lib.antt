@@ -6,3 +6,4 @@ mod Same
 mod Headings
 mod Longer
 mod Rows
+mod Widths

@@ -19,10 +19,10 @@ use Rattle.vcd_way.specs.Pieces.{Happening}
 use Rattle.vcd_way.specs.Events.{samples_among, course_at_first}
 use Rattle.vcd_way.specs.Steps.{Spot, AtPreface, AtHeader, InSection, AtValues, AtCode, AtOtherCode, InRemark, DumpState}
 use Rattle.vcd_way.specs.Steps.{first_state, Step, reads_past, breaks, if_short, header_step, value_word_by, value_step}
-use Rattle.vcd_way.specs.Steps.{vector_step, other_step, step_at, step, state_behind, happenings_in}
+use Rattle.vcd_way.specs.Steps.{vector_step, other_step, step_at, step, state_after, happenings_in}
 use Rattle.vcd_way.specs.Answers.{cut_at, fault_at_end, first_fault_by, events_by, events_so_far_by, events_before_end_by}
 use Rattle.vcd_way.specs.Answers.{fault_so_far_by, header_in, header_by, header_so_far_by, header_at_end_by}
-use Rattle.vcd_way.specs.Strict.{StrictHeader, strict_manner, strict, marks_by}
+use Rattle.vcd_way.specs.Strict.{StrictHeader, strict_rules, strict, marks_by}
 use Rattle.vcd_way.proofs.Blocks.{Alike, alike-append, alike-samples, alike-ended, no_holes}
 use Rattle.vcd_way.proofs.Header.{mode_of_section, mode_of_spot, known_of, is_sound, Follows, follows-if, at, header-same}
 use Rattle.vcd_way.proofs.Header.{section-same}
@@ -40,12 +40,12 @@ short-same s spot t x y h p =
 
 value-same : (s : DumpState StrictHeader) (t : Token)
     → Follows (value_turn (known_of (at s AtValues)) t.place (value_word t.word))
-    (value_step strict (at s AtValues) t (value_word_by strict_manner t.word))
+    (value_step strict (at s AtValues) t (value_word_by strict_rules t.word))
 value-same s t =
     let word = same-word t.word in
     subst (λ w. Follows (value_turn (known_of (at s AtValues)) t.place w)
-    (value_step strict (at s AtValues) t (value_word_by strict_manner t.word))) (sym word.same)
-    (same-value s t (value_word_by strict_manner t.word) word.digits)
+    (value_step strict (at s AtValues) t (value_word_by strict_rules t.word))) (sym word.same)
+    (same-value s t (value_word_by strict_rules t.word) word.digits)
 
 at-same : (spot : Spot) (s : DumpState StrictHeader) (t : Token) → is_sound spot ≡ true
     → Follows (turn_in (mode_of_spot spot) (known_of (at s spot)) t) (step_at strict spot (at s spot) t)
@@ -56,17 +56,17 @@ at-same AtHeader s t h =
 at-same (InSection section) s t h = section-same s section t
 at-same AtValues s t h =
     short-same s AtValues t (value_turn (known_of (at s AtValues)) t.place (value_word t.word))
-    (value_step strict (at s AtValues) t (value_word_by strict_manner t.word)) refl (value-same s t)
+    (value_step strict (at s AtValues) t (value_word_by strict_rules t.word)) refl (value-same s t)
 at-same (AtCode from digits) s t h =
     let lines = lines_of s.header.codes t.word in
     short-same s (AtCode from digits) t
     (vector_turn (known_of (at s (AtCode from digits))) t.place from (take 65 digits) lines)
     (vector_step strict (at s (AtCode from digits)) t.place from digits (strict.taps s.header t.word)) h
     (same-vector-turn s t.place from digits lines h)
-at-same AtOtherCode s t h =
+at-same (AtOtherCode from) s t h =
     let lines = lines_of s.header.codes t.word in
-    short-same s AtOtherCode t (beside_turn (known_of (at s AtOtherCode)) t.place lines)
-    (other_step (at s AtOtherCode) t.place (strict.taps s.header t.word)) refl (same-beside s t.place lines)
+    short-same s (AtOtherCode from) t (beside_turn (known_of (at s (AtOtherCode from))) t.place lines)
+    (other_step (at s (AtOtherCode from)) t.place (strict.taps s.header t.word)) refl (same-beside s t.place from lines)
 at-same (InRemark section) s t h = same-remark s section t
 
 faultless : (b : Bool) (x z : TokenTurn) (y w : Step StrictHeader) → b ≡ false → Follows z w
@@ -103,7 +103,7 @@ stuck-step s t f e = rw e refl
 
 stuck : (k : Known) (s : DumpState StrictHeader) (ts : List Token) (f : VcdFault) → k.fault ≡ Some f → s.fault ≡ Some f
     → k.lines ≡ s.header.lines
-    → SameBehind (behind k ts) (state_behind strict s ts) (events_in k ts) (happenings_in strict s ts)
+    → SameBehind (behind k ts) (state_after strict s ts) (events_in k ts) (happenings_in strict s ts)
 stuck k s [] f e g l = record {
   fault = e ∙ sym g;
   lines = l;
@@ -116,16 +116,16 @@ stuck k s (t ∷ ts) f e g l =
 -- what both know behind a token and others
 abbrev SameRest : DumpState StrictHeader → Token → List Token → Type 0
 SameRest s t ts =
-    SameBehind (behind (turn (known_of s) t).known ts) (state_behind strict (step strict s t).state ts)
+    SameBehind (behind (turn (known_of s) t).known ts) (state_after strict (step strict s t).state ts)
     (events_in (turn (known_of s) t).known ts) (happenings_in strict (step strict s t).state ts)
 
 rest : (s : DumpState StrictHeader) (t : Token) (ts : List Token) → Follows (turn (known_of s) t) (step strict s t)
     → ((step strict s t).state.fault ≡ None → is_sound (step strict s t).state.spot ≡ true
-    → SameBehind (behind (known_of (step strict s t).state) ts) (state_behind strict (step strict s t).state ts)
+    → SameBehind (behind (known_of (step strict s t).state) ts) (state_after strict (step strict s t).state ts)
     (events_in (known_of (step strict s t).state) ts) (happenings_in strict (step strict s t).state ts))
     → (f : Option VcdFault) → (step strict s t).state.fault ≡ f → SameRest s t ts
 rest s t ts one more None g =
-    subst (λ k. SameBehind (behind k ts) (state_behind strict (step strict s t).state ts) (events_in k ts)
+    subst (λ k. SameBehind (behind k ts) (state_after strict (step strict s t).state ts) (events_in k ts)
     (happenings_in strict (step strict s t).state ts)) (sym one.known) (more g one.sound)
 rest s t ts one more (Some f) g =
     stuck (turn (known_of s) t).known (step strict s t).state ts f (ap (λ (k : Known). k.fault) one.known ∙ g) g
@@ -133,7 +133,7 @@ rest s t ts one more (Some f) g =
 
 first : (s : DumpState StrictHeader) (t : Token) (ts : List Token) → Follows (turn (known_of s) t) (step strict s t)
     → SameRest s t ts
-    → SameBehind (behind (known_of s) (t ∷ ts)) (state_behind strict s (t ∷ ts)) (events_in (known_of s) (t ∷ ts))
+    → SameBehind (behind (known_of s) (t ∷ ts)) (state_after strict s (t ∷ ts)) (events_in (known_of s) (t ∷ ts))
     (happenings_in strict s (t ∷ ts))
 first s t ts one r = record {
   fault = r.fault;
@@ -144,7 +144,7 @@ first s t ts one r = record {
 }
 
 pub going : (s : DumpState StrictHeader) (ts : List Token) → s.fault ≡ None → is_sound s.spot ≡ true
-    → SameBehind (behind (known_of s) ts) (state_behind strict s ts) (events_in (known_of s) ts) (happenings_in strict s ts)
+    → SameBehind (behind (known_of s) ts) (state_after strict s ts) (events_in (known_of s) ts) (happenings_in strict s ts)
 going s [] e h = record { fault = refl; lines = refl; mode = λ x. refl; alike = tt }
 going s (t ∷ ts) e h =
     first s t ts (step-same s t e h)
@@ -157,7 +157,7 @@ abbrev begun : DumpState StrictHeader
 begun = first_state strict
 
 same-tokens : (ts : List Token)
-    → SameBehind (behind nothing ts) (state_behind strict begun ts) (events_in nothing ts) (happenings_in strict begun ts)
+    → SameBehind (behind nothing ts) (state_after strict begun ts) (events_in nothing ts) (happenings_in strict begun ts)
 same-tokens ts = going begun ts refl refl
 
 cut-section : (section : DumpSection) (w : HeaderWord) (place : ℕ)
@@ -174,7 +174,7 @@ same-cut AtHeader place = refl
 same-cut (InSection section) place = cut-section section (header_word section.keyword) place
 same-cut AtValues place = refl
 same-cut (AtCode from digits) place = refl
-same-cut AtOtherCode place = refl
+same-cut (AtOtherCode from) place = refl
 same-cut (InRemark section) place = refl
 
 same-end : (fault : Option VcdFault) (k : Known) (s : DumpState StrictHeader) (place : ℕ) → k.fault ≡ fault → s.fault ≡ fault
@@ -186,7 +186,7 @@ same-end (Some fault) k s place e f h = rw (e, f) refl
 pub same-first_fault : (text : List ℕ) → first_fault text ≡ first_fault_by strict text
 unfolding first_fault first_fault_by
 same-first_fault text =
-    let s = state_behind strict begun (tokens_of text) in
+    let s = state_after strict begun (tokens_of text) in
     let all = same-tokens (tokens_of text) in
     same-end s.fault (behind nothing (tokens_of text)) s (length text) all.fault refl all.mode
 
@@ -241,7 +241,7 @@ same-known : (ts : List Token) → is_some (known_marks (behind nothing ts)) ≡
 same-known ts e =
     tell (is_past_header (behind nothing ts).mode) (is_header_over ts) (marks_of_lines (behind nothing ts).lines) e
     ∙ ap (λ lines. if is_header_over ts then Some (marks_of_lines lines) else None) (same-tokens ts).lines
-    ∙ told_by (is_header_over ts) (state_behind strict begun ts).header
+    ∙ told_by (is_header_over ts) (state_after strict begun ts).header
 
 pub same-marks_so_far : (fed : List ℕ) → is_some (marks_so_far fed) ≡ is_header_over (tokens_so_far fed)
     → marks_so_far fed ≡ option_map marks_by (header_so_far_by strict fed)

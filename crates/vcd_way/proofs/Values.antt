@@ -17,7 +17,7 @@ use Rattle.vcd_way.specs.Events.{whole}
 use Rattle.vcd_way.specs.Steps.{AtValues, AtCode, AtOtherCode, InRemark, DumpState, reads_past, moves_to, breaks}
 use Rattle.vcd_way.specs.Steps.{is_digit_by, digits_by, vector_by, value_word_by, comes, stamp_step, given, scalar_step}
 use Rattle.vcd_way.specs.Steps.{is_too_wide_for, vector_step, other_step, value_step, remark_step}
-use Rattle.vcd_way.specs.Strict.{StrictHeader, strict_manner, strict}
+use Rattle.vcd_way.specs.Strict.{StrictHeader, strict_rules, strict}
 use Rattle.vcd_way.proofs.Digits.{digit-test, digits-test, digits-meant, lines-set, wide-test, wide-set}
 use Rattle.vcd_way.proofs.Header.{known_of, Follows, follows-if, at}
 
@@ -77,11 +77,11 @@ some_length b bs = by (length (b ∷ bs) == 0) refl
     by true e = absurd (omega (arith, eqb-true (length (b ∷ bs)) 0 e))
     by false e = refl
 
-same-vector : (bs : List ℕ) → SameWord (vector_word bs) (vector_by strict_manner bs)
+same-vector : (bs : List ℕ) → SameWord (vector_word bs) (vector_by strict_rules bs)
 same-vector [] = record { same = refl; digits = refl }
 same-vector (b ∷ bs) =
     vector-if (b ∷ bs) (not (length (b ∷ bs) == 0)) (list_all is_value_digit (b ∷ bs))
-    (list_all (is_digit_by strict_manner) (b ∷ bs)) (some_length b bs) refl (digits-test (b ∷ bs))
+    (list_all (is_digit_by strict_rules) (b ∷ bs)) (some_length b bs) refl (digits-test (b ∷ bs))
 
 -- the words behind the test for a digit
 same-other : (b : ℕ) (bs : List ℕ)
@@ -89,7 +89,7 @@ same-other : (b : ℕ) (bs : List ℕ)
     (if (b == 98) || (b == 66) then vector_word bs
     else (if ((b == 114) || (b == 82)) || ((b == 115) || (b == 83)) then Foreign
     else (if b == 36 then (if is_read_past (b ∷ bs) then Mark else Section) else Wrong)))
-    (if (b == 98) || (b == 66) then vector_by strict_manner bs
+    (if (b == 98) || (b == 66) then vector_by strict_rules bs
     else (if ((b == 114) || (b == 82)) || ((b == 115) || (b == 83)) then Foreign
     else (if b == 36 then (if is_read_past (b ∷ bs) then Mark else Section) else Wrong)))
 same-other b bs =
@@ -101,7 +101,7 @@ same-other b bs =
     let foreign = same-if (((b == 114) || (b == 82)) || ((b == 115) || (b == 83))) Foreign last Foreign last
     (record { same = refl; digits = refl }) dollar in
     let others = if ((b == 114) || (b == 82)) || ((b == 115) || (b == 83)) then Foreign else last in
-    same-if ((b == 98) || (b == 66)) (vector_word bs) others (vector_by strict_manner bs) others (same-vector bs) foreign
+    same-if ((b == 98) || (b == 66)) (vector_word bs) others (vector_by strict_rules bs) others (same-vector bs) foreign
 
 digit-if : (b : ℕ) (bs : List ℕ) (v g : Bool) (x y : ValueWord) → v ≡ is_value_digit b → g ≡ v → SameWord x y
     → SameWord (if v then scalar_word b bs else x) (if g then scalar_word b bs else y)
@@ -110,12 +110,12 @@ digit-if b bs true false x y e f p = cc f
 digit-if b bs false true x y e f p = cc f
 digit-if b bs false false x y e f p = p
 
-pub same-word : (word : List ℕ) → SameWord (value_word word) (value_word_by strict_manner word)
+pub same-word : (word : List ℕ) → SameWord (value_word word) (value_word_by strict_rules word)
 unfolding value_word value_word_by
 same-word [] = record { same = refl; digits = refl }
 same-word (b ∷ bs) =
     same-if (b == 35) (stamp_word (time_in bs)) _ (stamp_word (time_in bs)) _ (same-stamp (time_in bs))
-    (digit-if b bs (is_value_digit b) (is_digit_by strict_manner b) _ _ refl (digit-test b) (same-other b bs))
+    (digit-if b bs (is_value_digit b) (is_digit_by strict_rules b) _ _ refl (digit-test b) (same-other b bs))
 
 -- ---- what it does
 
@@ -152,7 +152,7 @@ same-value s t Wrong h = record { known = refl; alike = tt; sound = refl }
 
 -- a vector that is too wide, or not
 vector-width : (s : DumpState StrictHeader) (from : ℕ) (digits lines : List ℕ) (v g : Bool)
-    → is_too_wide (take 65 digits) lines ≡ v → v ≡ g → digits_by strict_manner digits ≡ Some digits
+    → is_too_wide (take 65 digits) lines ≡ v → v ≡ g → digits_by strict_rules digits ≡ Some digits
     → list_all is_value_digit digits ≡ true
     → Follows
     (if v then fails (known_of (at s (AtCode from digits))) from causes.Width
@@ -161,7 +161,7 @@ vector-width : (s : DumpState StrictHeader) (from : ℕ) (digits lines : List �
       events = Changed (record { lines = lines; digits = take 65 digits }) ∷ [];
     })
     (if g then breaks (at s (AtCode from digits)) from causes.Width
-    else given (at s (AtCode from digits)) from (map whole lines) (digits_by strict_manner digits))
+    else given (at s (AtCode from digits)) from (map whole lines) (digits_by strict_rules digits))
 vector-width s from digits lines true true e f d h = record { known = refl; alike = tt; sound = h }
 vector-width s from digits lines true false e f d h = cc f
 vector-width s from digits lines false true e f d h = cc f
@@ -177,11 +177,11 @@ same-vector-turn s place from digits (Some lines) h =
     vector-width s from digits lines (is_too_wide (take 65 digits) lines) (is_too_wide_for (map whole lines) digits) refl
     (wide-test lines digits) (digits-meant digits h) h
 
-pub same-beside : (s : DumpState StrictHeader) (place : ℕ) (lines : Option (List ℕ))
-    → Follows (beside_turn (known_of (at s AtOtherCode)) place lines)
-    (other_step (at s AtOtherCode) place (option_map (map whole) lines))
-same-beside s place None = record { known = refl; alike = tt; sound = refl }
-same-beside s place (Some lines) = record { known = refl; alike = tt; sound = refl }
+pub same-beside : (s : DumpState StrictHeader) (place from : ℕ) (lines : Option (List ℕ))
+    → Follows (beside_turn (known_of (at s (AtOtherCode from))) place lines)
+    (other_step (at s (AtOtherCode from)) place (option_map (map whole) lines))
+same-beside s place from None = record { known = refl; alike = tt; sound = refl }
+same-beside s place from (Some lines) = record { known = refl; alike = tt; sound = refl }
 
 pub same-remark : (s : DumpState StrictHeader) (section : DumpSection) (t : Token)
     → Follows

@@ -1,6 +1,6 @@
 -- What a text tells in a way to read it: its header, its events, and its first fault; the same for
 -- its first bytes.
-use Rattle.std.specs.Prelude.{◌≡◌, ℕ, Bool, not, ◌&&◌, if◌then◌else◌, List, length, Option, Some, None, is_some}
+use Rattle.std.specs.Prelude.{◌≡◌, ℕ, Bool, not, ◌&&◌, if◌then◌else◌, List, length, Option, Some, None, is_some, option_map}
 use Rattle.vcd_grammar.specs.declared.fault.VcdFault.{VcdFault}
 use Rattle.vcd_grammar.specs.declared.fault.VcdCause.TheVariants as causes
 use Rattle.vcd_grammar.specs.Tokens.{Token, tokens_of, tokens_so_far}
@@ -8,11 +8,11 @@ use Rattle.vcd_grammar.specs.Heading.{is_header_over}
 use Rattle.vcd_way.specs.Ways.{Way}
 use Rattle.vcd_way.specs.Pieces.{Piece, pieces_of, over}
 use Rattle.vcd_way.specs.Events.{DumpEvent, course_at_first, events_from}
-use Rattle.vcd_way.specs.Steps.{Spot, AtValues, DumpState, first_state, state_behind, happenings_in, is_past_header_at}
+use Rattle.vcd_way.specs.Steps.{Spot, AtValues, DumpState, first_state, state_after, happenings_in, is_past_header_at, open_from, hides_stamp}
 
--- what is known behind the first tokens of a text
+-- what is known after the first tokens of a text
 abbrev pub state_of : {W : Type 0} → Way W → List Token → DumpState W
-state_of way tokens = state_behind way (first_state way) tokens
+state_of way tokens = state_after way (first_state way) tokens
 
 -- the pieces of the first tokens of a text
 abbrev pub pieces_in : {W : Type 0} → Way W → List Token → List Piece
@@ -20,7 +20,7 @@ pieces_in way tokens = pieces_of (happenings_in way (first_state way) tokens)
 
 -- what pieces tell from the first one on
 abbrev pub events_in_pieces : {W : Type 0} → Way W → List Piece → List DumpEvent
-events_in_pieces way pieces = events_from way.manner course_at_first pieces
+events_in_pieces way pieces = events_from way.rules course_at_first pieces
 
 -- the fault of a text that ends here: it may end between values alone
 abbrev pub cut_at : Spot → ℕ → Option VcdFault
@@ -38,20 +38,34 @@ abbrev pub whole_fault : {W : Type 0} → Way W → List ℕ → Option VcdFault
 whole_fault way text =
     let s = state_of way (tokens_of text) in fault_at_end s.fault s.spot (length text)
 
--- the text ends early: behind its header, up to the last white space, there is no fault; but its
--- end is one, and the way lets it pass
+-- the text ends early: up to its last white space it has a whole header and no fault, and its end
+-- is a fault that the way lets pass. An open section that holds a stamp is not let pass: it would
+-- hide the samples after it
 abbrev pub is_early : {W : Type 0} → Way W → List ℕ → Bool
 is_early way text =
     let s = state_of way (tokens_so_far text) in
-    way.manner.ends_early && not (is_some s.fault) && is_past_header_at s.spot && is_some (whole_fault way text)
+    way.rules.ends_early && not (is_some s.fault)
+    && (is_past_header_at s.spot && not (hides_stamp (state_of way (tokens_of text)).spot))
+    && is_some (whole_fault way text)
 
 -- the first fault of a text
 unfoldable pub first_fault_by : {W : Type 0} → Way W → List ℕ → Option VcdFault
 first_fault_by way text = if is_early way text then None else whole_fault way text
 
--- the fault that the end of a text would be, where it ends early
-unfoldable pub early_end_by : {W : Type 0} → Way W → List ℕ → Option VcdFault
-early_end_by way text = if is_early way text then whole_fault way text else None
+-- an early end: the fault that it would be, and the place where the section or the value begins
+-- that stands open there
+pub record EarlyEnd : Type 0 where
+  pub fault : VcdFault
+  pub open_from : Option ℕ
+
+-- the early end of a text, where it has one
+unfoldable pub early_end_by : {W : Type 0} → Way W → List ℕ → Option EarlyEnd
+early_end_by way text =
+    if is_early way text then
+    option_map
+    (λ fault. record { fault = fault; open_from = open_from (state_of way (tokens_of text)).spot })
+    (whole_fault way text)
+    else None
 
 -- what the first bytes of a text tell: of the pieces that are over
 unfoldable pub events_so_far_by : {W : Type 0} → Way W → List ℕ → List DumpEvent
@@ -72,7 +86,7 @@ events_before_end_by way text = events_in_pieces way (over (pieces_in way (token
 unfoldable pub fault_so_far_by : {W : Type 0} → Way W → List ℕ → Option VcdFault
 fault_so_far_by way fed = (state_of way (tokens_so_far fed)).fault
 
--- what a way keeps of a header, once it is over among the first tokens of a text; behind a fault no
+-- what a way keeps of a header, once it is over among the first tokens of a text; after a fault no
 -- more is kept
 abbrev pub header_in : {W : Type 0} → Way W → List Token → Option W
 header_in way tokens = if is_header_over tokens then Some (state_of way tokens).header else None

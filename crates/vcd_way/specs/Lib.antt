@@ -6,3 +6,4 @@ pub mod Steps
 pub mod Answers
 pub mod Strict
 pub mod Wide
+pub mod Lawful

@@ -12,7 +12,7 @@ use Rattle.vcd_grammar.specs.Judging.{is_declared, missing_from, marks_of_lines}
 use Rattle.vcd_way.specs.Declarations.{Declaration}
 use Rattle.vcd_way.specs.declared.tap.Tap.{Tap}
 use Rattle.vcd_way.specs.declared.tap.Edge.TheVariants as edges
-use Rattle.vcd_way.specs.Ways.{Kept, Keeps, Refuses, Manner, Way}
+use Rattle.vcd_way.specs.Ways.{Kept, Keeps, Refuses, ValueRules, Way}
 use Rattle.vcd_way.specs.Events.{whole}
 
 -- the lines and the codes that were declared
@@ -41,7 +41,7 @@ strict_named h d (Some number) =
     if is_foreign_type d.kind || is_declared h.lines number then with_other h d.code
     else (if d.width == width_of number then with_strict_line h d.code number else Refuses causes.Width)
 
--- behind a declaration
+-- after a declaration
 unfoldable pub strict_declares : StrictHeader → Declaration → Kept StrictHeader
 strict_declares h d = strict_named h d (signal_number (name_in d.reference))
 
@@ -50,7 +50,7 @@ abbrev pub strict_closed : StrictHeader → Option ℕ → Kept StrictHeader
 strict_closed h None = Keeps h []
 strict_closed h (Some number) = Refuses (causes.Missing number)
 
--- behind the end of the header: each needed line must be declared
+-- after the end of the header: each needed line must be declared
 unfoldable pub strict_closes : StrictHeader → Kept StrictHeader
 strict_closes h = strict_closed h (missing_from h.lines 0 table)
 
@@ -60,10 +60,11 @@ strict_taps h code = option_map (map whole) (lines_of h.codes code)
 
 -- the digits are 0, 1, x and z, the rising edge samples, holes are read past, and nothing else is
 -- let pass
-abbrev pub strict_manner : Manner
-strict_manner = record {
+abbrev pub strict_rules : ValueRules
+strict_rules = record {
   digit = strict_digit;
   takes_any = false;
+  widest = 1000000;
   edge = edges.Rising;
   takes_first = false;
   late = [];
@@ -80,7 +81,7 @@ strict = record {
   closes = strict_closes;
   lines = λ h. h.lines;
   taps = strict_taps;
-  manner = strict_manner;
+  rules = strict_rules;
 }
 
 -- the marks of a header: which of the two parity lines it declares

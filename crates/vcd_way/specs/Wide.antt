@@ -4,7 +4,7 @@ use Rattle.std.specs.Prelude.{ℕ, Bool, true, false, ◌==◌, if◌then◌else
 use Rattle.std.specs.List.{list_any}
 use Rattle.vcd_grammar.specs.Digits.{is_value_digit}
 use Rattle.vcd_way.specs.declared.tap.Edge.TheVariants as edges
-use Rattle.vcd_way.specs.Ways.{Manner}
+use Rattle.vcd_way.specs.Ways.{ValueRules}
 
 -- the byte is one of these
 abbrev pub is_among : List ℕ → ℕ → Bool
@@ -19,10 +19,11 @@ wide_digit b =
     else (if is_among (codes "lL") b then Some 48 else None)))
 
 -- what is let pass by default
-abbrev pub wide_manner : Manner
-wide_manner = record {
+abbrev pub wide_rules : ValueRules
+wide_rules = record {
   digit = wide_digit;
   takes_any = true;
+  widest = 4294967295;
   edge = edges.Rising;
   takes_first = false;
   late = [];

@@ -1,17 +1,18 @@
-ghost use Rattle.std.specs.Prelude.{◌≡◌, ℕ, List, [], ◌++◌, Some, None, is_some, option_map, length, ◌⊎◌};
+ghost use Rattle.std.specs.Prelude.{◌≡◌, ℕ, Bool, List, [], ◌++◌, Some, None, is_some, option_map, length, ◌⊎◌};
 ghost use Rattle.vcd_grammar.specs.declared.fault.VcdFault.{VcdFault};
 ghost use Rattle.vcd_grammar.specs.Reading.{first_fault, samples_of, samples_before_end, samples_so_far, marks_of, fault_so_far, marks_so_far, marks_at_end};
 ghost use Rattle.vcd_way.specs.Ways.{Way};
 ghost use Rattle.vcd_way.specs.Events.{DumpEvent, samples_among};
 ghost use Rattle.vcd_way.specs.Answers.{ReadsBy, FirstFaultBy, first_fault_by, events_by, events_before_end_by, events_so_far_by, fault_so_far_by, header_by, header_so_far_by, header_at_end_by};
 ghost use Rattle.vcd_way.specs.Strict.{strict, marks_by};
+ghost use Rattle.vcd_way.specs.Lawful.{IsLawfulWay, values_so_far_by, HasWidths};
 ghost use Rattle.vcd_grammar.specs.Heading.{is_header_over};
 ghost use Rattle.vcd_grammar.specs.Tokens.{tokens_so_far, tokens_of};
 
 use vcd_grammar::marks_come_first;
 
 /// The strict way is the grammar: the same faults, samples and marks, of a whole text and of its
-/// first bytes. It tells samples alone.
+/// first bytes. By it a dump has samples and no holes.
 pub fn strict_is_the_grammar()
     ensures fault { (text : List ℕ) → first_fault text ≡ first_fault_by strict text }
     ensures samples { (text : List ℕ) → samples_of text ≡ samples_among (events_by strict text) }
@@ -47,7 +48,7 @@ pub fn one_answer<W>()
 {}
 
 /// In each way what is kept of the header is known exactly once its `$enddefinitions` has its
-/// `$end`, also behind a fault. It comes before the first event, and stays: what the first bytes of
+/// `$end`, also after a fault. It comes before the first event, and stays: what the first bytes of
 /// a text show, the whole text has.
 pub fn header_comes_first<W>()
     ensures over { (way : Way W) (fed : List ℕ) →
@@ -64,7 +65,7 @@ pub fn header_comes_first<W>()
         header_by way (fed ++ more) ≡ h }
 {}
 
-/// In each way what first bytes of a text tell, the whole text tells first, and a fault among them
+/// In each way the events of the first bytes are the first events of the text. A fault among them
 /// is its first fault.
 pub fn first_bytes_stay<W>()
     ensures so_far { (way : Way W) (fed more : List ℕ) →
@@ -74,4 +75,11 @@ pub fn first_bytes_stay<W>()
         (rest : List DumpEvent) × (events_by way (fed ++ more) ≡ events_so_far_by way fed ++ rest) }
     ensures fault { (way : Way W) (fed more : List ℕ) (f : VcdFault) →
         fault_so_far_by way fed ≡ Some f → first_fault_by way (fed ++ more) ≡ Some f }
+{}
+
+/// In a lawful way each line has as many digits as the signal table says, whatever stands in the
+/// text.
+pub fn lines_keep_their_widths<W>()
+    ensures widths { (way : Way W) (holds : W → Bool) (fed : List ℕ) → IsLawfulWay way holds →
+        HasWidths (values_so_far_by way fed) }
 {}

@@ -5,7 +5,10 @@
 //! The strict way, `strict`, is the grammar of `vcd_grammar`.
 #![tactic(auto)]
 
-pub use laws::{first_bytes_stay, header_comes_first, one_answer, strict_is_the_grammar};
+pub use laws::{
+    first_bytes_stay, header_comes_first, lines_keep_their_widths, one_answer,
+    strict_is_the_grammar,
+};
 pub use tap::{BitRun, Edge, Part, Tap};
 
 mod laws;

@@ -1,5 +1,5 @@
-/// So many bits of a variable, from `low` on, stand for as many of a line, from `lowest` on. Bits
-/// are counted from the lowest, which is 0.
+/// `count` bits of a variable, from bit `low` up, are as many bits of a line, from its bit `lowest`
+/// up. The lowest bit is 0.
 #[derive(Clone, Copy, Debug, PartialEq, Eq)]
 pub struct BitRun {
     pub count: u8,
@@ -26,7 +26,7 @@ pub struct Tap {
     pub width: u32,
     pub part: Part,
     /// The variable is active high: its 1 is the line's 0.
-    pub is_high: bool,
+    pub inverted: bool,
 }
 
 /// The edge of the clock that samples.
