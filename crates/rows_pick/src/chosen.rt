@@ -3,7 +3,7 @@
 use crate::headers::*;
 use scope_pick::{
     Declaration, Range, ambiguous_lines, found_in, has_other_wire, named_lines, other_names,
-    scope_at, tap_named, tap_of, unfound_lines, variable_at,
+    scope_at, tap_named, tap_of, unfit_lines, unfound_lines, variable_at,
 };
 use std::alloc::{AllocError, Global};
 use std::process::Abort;
@@ -92,7 +92,7 @@ static TAPS: [(
     u8,
     Option<(u32, u32)>,
     Option<(u32, bool)>,
-); 15] = [
+); 17] = [
     ("wire", 33, None, 10, None, Some((0, false))),
     ("real", 33, None, 10, None, None),
     ("wire", 8, Some((7, 0)), 8, None, None),
@@ -136,6 +136,8 @@ static TAPS: [(
     ("wire", 36, Some((35, 0)), 10, Some((36, 4)), None),
     ("wire", 36, Some((40, 0)), 10, Some((35, 3)), None),
     ("event", 1, None, 8, Some((0, 0)), None),
+    ("wire", 0, None, 8, Some((0, 0)), None),
+    ("wire", 0, Some((0, 0)), 8, Some((0, 0)), None),
 ];
 
 #[test]
@@ -168,11 +170,13 @@ fn tell_of_scope(rt: HostRuntime) {
     let alloc = rt.alloc();
     let declared = declarations(alloc, ALIASES).expect(&rt, "memory");
     let names = named_lines(alloc, &declared).expect(&rt, "memory");
-    let unfound = unfound_lines(alloc, &names, 12).expect(&rt, "memory");
+    let unfound = unfound_lines(alloc, &names, &[], 12).expect(&rt, "memory");
     assert_eq!(rt;
         unfound.as_slice(),
         [2, 3, 4, 6, 7, 11, 14, 20, 21].as_slice()
     );
+    let unfound = unfound_lines(alloc, &names, &[3, 8, 21], 12).expect(&rt, "memory");
+    assert_eq!(rt; unfound.as_slice(), [2, 4, 6, 7, 11, 14, 20].as_slice());
 
     let declared = declarations(alloc, EXACT_AND_LOOSE).expect(&rt, "memory");
     let names = named_lines(alloc, &declared).expect(&rt, "memory");
@@ -188,6 +192,22 @@ fn tell_of_scope(rt: HostRuntime) {
 
     let declared = declarations(alloc, LOOSE_TWICE).expect(&rt, "memory");
     let names = named_lines(alloc, &declared).expect(&rt, "memory");
-    let ambiguous = ambiguous_lines(alloc, &names, 0).expect(&rt, "memory");
+    let ambiguous = ambiguous_lines(alloc, &names, &[], 0).expect(&rt, "memory");
     assert_eq!(rt; ambiguous.as_slice(), [8].as_slice());
+    let ambiguous = ambiguous_lines(alloc, &names, &[8], 0).expect(&rt, "memory");
+    assert_eq!(rt; ambiguous.len(), 0);
+
+    let declared = declarations(alloc, NARROW_AND_LOOSE).expect(&rt, "memory");
+    let names = named_lines(alloc, &declared).expect(&rt, "memory");
+    let Some(taken) = found_in(&names, 0, 10) else {
+        rt.abort();
+    };
+    assert_eq!(rt; taken.index, 5);
+    let unfit = unfit_lines(alloc, &declared).expect(&rt, "memory");
+    let others = other_names(alloc, &unfit, taken).expect(&rt, "memory");
+    assert_eq!(rt; others.len(), 1);
+    for other in &others {
+        assert_eq!(rt; other.index, 4);
+        assert_eq!(rt; other.exact, true);
+    }
 }

@@ -309,6 +309,120 @@ tb.right.bus wire 1 j DBSY_n
 tb.right.bus wire 1 k DRDY_n
 tb.right.bus wire 64 l D_n 63:0";
 
+/// Two looser names for LOCK_n, on two wires.
+pub(crate) const LOCK_TWICE: &str = r"tb.dut wire 1 a BCLK
+tb.dut wire 1 b BREQ0_n
+tb.dut wire 1 c ADS_n
+tb.dut wire 5 d REQ_n 4:0
+tb.dut wire 33 e A_n 35:3
+tb.dut wire 1 f HIT_n
+tb.dut wire 1 g HITM_n
+tb.dut wire 3 h RS_n 2:0
+tb.dut wire 1 i TRDY_n
+tb.dut wire 1 j DBSY_n
+tb.dut wire 1 k DRDY_n
+tb.dut wire 64 l D_n 63:0
+tb.dut wire 1 m lock_l
+tb.dut wire 1 n LOCK#";
+
+/// One bus, seen in two scopes with an ADS_n each.
+pub(crate) const OTHER_STROBE: &str = r"tb wire 1 a BCLK
+tb wire 1 b BREQ0_n
+tb wire 1 c ADS_n
+tb wire 5 d REQ_n 4:0
+tb wire 33 e A_n 35:3
+tb wire 1 f HIT_n
+tb wire 1 g HITM_n
+tb wire 3 h RS_n 2:0
+tb wire 1 i TRDY_n
+tb wire 1 j DBSY_n
+tb wire 1 k DRDY_n
+tb wire 64 l D_n 63:0
+tb.dut wire 1 a BCLK
+tb.dut wire 1 b BREQ0_n
+tb.dut wire 1 z ADS_n
+tb.dut wire 5 d REQ_n 4:0
+tb.dut wire 33 e A_n 35:3
+tb.dut wire 1 f HIT_n
+tb.dut wire 1 g HITM_n
+tb.dut wire 3 h RS_n 2:0
+tb.dut wire 1 i TRDY_n
+tb.dut wire 1 j DBSY_n
+tb.dut wire 1 k DRDY_n
+tb.dut wire 64 l D_n 63:0";
+
+/// One bus, seen in two scopes, and another bus.
+pub(crate) const ALIASES_AND_OTHER: &str = r"tb wire 1 a BCLK
+tb wire 1 b BREQ0_n
+tb wire 1 c ADS_n
+tb wire 5 d REQ_n 4:0
+tb wire 33 e A_n 35:3
+tb wire 1 f HIT_n
+tb wire 1 g HITM_n
+tb wire 3 h RS_n 2:0
+tb wire 1 i TRDY_n
+tb wire 1 j DBSY_n
+tb wire 1 k DRDY_n
+tb wire 64 l D_n 63:0
+tb.dut wire 1 a BCLK
+tb.dut wire 1 b BREQ0_n
+tb.dut wire 1 c ADS_n
+tb.dut wire 5 d REQ_n 4:0
+tb.dut wire 33 e A_n 35:3
+tb.dut wire 1 f HIT_n
+tb.dut wire 1 g HITM_n
+tb.dut wire 3 h RS_n 2:0
+tb.dut wire 1 i TRDY_n
+tb.dut wire 1 j DBSY_n
+tb.dut wire 1 k DRDY_n
+tb.dut wire 64 l D_n 63:0
+tb.dut wire 1 m BPRI_n
+tb.other wire 1 A BCLK
+tb.other wire 1 B BREQ0_n
+tb.other wire 1 C ADS_n
+tb.other wire 5 D REQ_n 4:0
+tb.other wire 33 E A_n 35:3
+tb.other wire 1 F HIT_n
+tb.other wire 1 G HITM_n
+tb.other wire 3 H RS_n 2:0
+tb.other wire 1 I TRDY_n
+tb.other wire 1 J DBSY_n
+tb.other wire 1 K DRDY_n
+tb.other wire 64 L D_n 63:0";
+
+/// An address of the line's own name that is too narrow, and a loose one.
+pub(crate) const NARROW_AND_LOOSE: &str = r"tb.dut wire 1 a BCLK
+tb.dut wire 1 b BREQ0_n
+tb.dut wire 1 c ADS_n
+tb.dut wire 5 d REQ_n 4:0
+tb.dut wire 32 y A_n 31:0
+tb.dut wire 33 e a_l 33:1
+tb.dut wire 1 f HIT_n
+tb.dut wire 1 g HITM_n
+tb.dut wire 3 h RS_n 2:0
+tb.dut wire 1 i TRDY_n
+tb.dut wire 1 j DBSY_n
+tb.dut wire 1 k DRDY_n
+tb.dut wire 64 l D_n 63:0";
+
+/// Names that are no line's.
+pub(crate) const OTHER_NAMES: &str = r"tb.dut wire 1 a clk
+tb.dut wire 1 b strobe";
+
+/// D_n is a type that only one tool writes.
+pub(crate) const SHORT_REAL_DATA: &str = r"tb.dut wire 1 a BCLK
+tb.dut wire 1 b BREQ0_n
+tb.dut wire 1 c ADS_n
+tb.dut wire 5 d REQ_n 4:0
+tb.dut wire 33 e A_n 35:3
+tb.dut wire 1 f HIT_n
+tb.dut wire 1 g HITM_n
+tb.dut wire 3 h RS_n 2:0
+tb.dut wire 1 i TRDY_n
+tb.dut wire 1 j DBSY_n
+tb.dut wire 1 k DRDY_n
+tb.dut shortreal 64 l D_n 63:0";
+
 /// The declarations of a header.
 pub(crate) fn declarations(alloc: Global, header: &str) -> Result<Vec<Declaration>, AllocError> {
     let mut declared = Vec::new(alloc);

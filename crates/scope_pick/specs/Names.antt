@@ -5,7 +5,7 @@ use Rattle.std.specs.Cmp.Lexicographic.{pointwise}
 use Rattle.std.specs.Str.{str_to_ascii_lowercase}
 use Rattle.fsb_signal.specs.Table.{table, TableEntry}
 
--- the name as a tool has it that writes no escapes: without a backslash before it and one behind it
+-- the name without a backslash before it and one after it
 unfoldable pub without_escape : List ℕ → List ℕ
 without_escape name =
     let front = if starts_with nat_eq name (92 ∷ []) then drop 1 name else name in
@@ -21,7 +21,7 @@ ends_with_letters text letters =
     nat_le (length letters) (length text)
     && are_same_letters (drop (length text - length letters) text) letters
 
--- how many letters at the end say that the wire is active low: `#`, or one of `_n`, `_l`, `_b`
+-- how many bytes at the end say that the wire is active low: `#`, or one of `_n`, `_l`, `_b`
 unfoldable pub low_mark : List ℕ → ℕ
 low_mark name =
     if ends_with nat_eq name (codes "#") then 1

@@ -27,10 +27,11 @@ lowest_index line = if nat_eq line 10 then 3 else 0
 unfoldable pub highest_index : ℕ → ℕ
 highest_index line = lowest_index line + line_width line - 1
 
--- the range has as many indices as the variable has bits
+-- the range has as many indices as the variable has bits; one of no bits has no range
 unfoldable pub is_range_of : ℕ → Range → Bool
 is_range_of width range =
-    nat_eq
+    nat_lt 0 width
+    && nat_eq
     (if nat_le range.right range.left
     then range.left - range.right else range.right - range.left)
     (width - 1)

@@ -1,5 +1,5 @@
 -- Which scope of a dump is the bus.
-use Rattle.std.specs.Prelude.{ℕ, Bool, true, false, nat_eq, not, ◌&&◌, ◌||◌, List, [], ◌∷◌, Option, Some, None, is_some, if◌then◌else◌}
+use Rattle.std.specs.Prelude.{ℕ, Bool, true, false, nat_eq, nat_lt, not, length, ◌&&◌, ◌||◌, List, [], ◌∷◌, Option, Some, None, is_some, if◌then◌else◌}
 use Rattle.std.specs.List.{find, filter, list_any, list_all}
 use Rattle.scope_pick.specs.declared.wires.Named.{Named}
 use Rattle.scope_pick.specs.Places.{is_line_needed}
@@ -40,14 +40,19 @@ is_ambiguous ns scope line =
 unfoldable pub found_in : List Named → ℕ → ℕ → Option Named
 found_in ns scope line = if is_ambiguous ns scope line then None else first_in ns scope line
 
--- the line is found in the scope, or it need not be
+-- settled lines are those that the user named or left out
+unfoldable pub is_listed : List ℕ → ℕ → Bool
+is_listed settled line = list_any (λ n. nat_eq n line) settled
+
+-- the user settled the line, or the scope has one best wire for it,
+-- or it isn't needed and nothing is named like it
 unfoldable pub is_settled : List Named → List ℕ → ℕ → ℕ → Bool
 is_settled ns settled scope line =
-    not (is_line_needed line)
-    || list_any (λ n. nat_eq n line) settled
-    || is_some (found_in ns scope line)
+    is_listed settled line
+    || (not (is_ambiguous ns scope line)
+    && (not (is_line_needed line) || is_some (first_in ns scope line)))
 
--- every needed line is found in the scope
+-- every line is settled in the scope
 unfoldable pub is_whole : List Named → List ℕ → ℕ → Bool
 is_whole ns settled scope = list_all (is_settled ns settled scope) lines
 
@@ -56,7 +61,7 @@ unfoldable pub is_head : List Named → Named → Bool
 is_head ns e =
     elim (find (λ f. nat_eq f.scope e.scope) ns) [ None ↦ false | Some f ↦ nat_eq f.index e.index ]
 
--- the scope whose first variable this is has every needed line
+-- the scope whose first variable this is has every needed line, and none that is ambiguous
 unfoldable pub qualifies : List Named → List ℕ → Named → Bool
 qualifies ns settled e = is_head ns e && is_whole ns settled e.scope
 
@@ -70,16 +75,43 @@ has_same None theirs = not (is_some theirs)
 has_same (Some e) None = true
 has_same (Some e) (Some f) = nat_eq e.wire f.wire
 
--- every line of the other scope stands in this one with the same code,
--- so that the two are one bus and this one is fuller
-unfoldable pub is_same_bus : List Named → ℕ → ℕ → Bool
-is_same_bus ns scope other =
-    list_all (λ n. has_same (found_in ns scope n) (found_in ns other n)) lines
+-- every line of the other scope stands in this one with the same code, so the two are one bus,
+-- and this one has at least its lines; settled lines are taken from neither
+unfoldable pub is_same_bus : List Named → List ℕ → ℕ → ℕ → Bool
+is_same_bus ns settled scope other =
+    list_all
+    (λ n. is_listed settled n || has_same (found_in ns scope n) (found_in ns other n))
+    lines
 
 -- the scope has the lines of all of these
-unfoldable pub is_fullest : List Named → List Named → Named → Bool
-is_fullest ns others e = list_all (λ f. is_same_bus ns e.scope f.scope) others
+unfoldable pub is_fullest : List Named → List ℕ → List Named → Named → Bool
+is_fullest ns settled others e = list_all (λ f. is_same_bus ns settled e.scope f.scope) others
 
 -- the one scope that is judged: of those that qualify the one that has all lines of the others
 unfoldable pub picked : List Named → List ℕ → Option Named
-picked ns settled = find (is_fullest ns (qualified ns settled)) (qualified ns settled)
+picked ns settled =
+    find (is_fullest ns settled (qualified ns settled)) (qualified ns settled)
+
+-- the first scope lies in the other: that one has its lines, and more, or stands before it
+unfoldable pub lies_in : List Named → List ℕ → Named → Named → Bool
+lies_in ns settled e f =
+    is_same_bus ns settled f.scope e.scope
+    && (not (is_same_bus ns settled e.scope f.scope) || nat_lt f.index e.index)
+
+-- the scope lies in none of these
+unfoldable pub stands_alone : List Named → List ℕ → List Named → Named → Bool
+stands_alone ns settled others e = not (list_any (lies_in ns settled e) others)
+
+-- the buses of a dump: of the scopes that qualify those that lie in no other
+unfoldable pub buses : List Named → List ℕ → List Named
+buses ns settled = filter (stands_alone ns settled (qualified ns settled)) (qualified ns settled)
+
+-- the line isn't needed, or it is settled
+unfoldable pub is_free : List ℕ → ℕ → Bool
+is_free settled line = not (is_line_needed line) || is_listed settled line
+
+-- a scope is needed: a variable is named like a line, or a needed line is not settled
+unfoldable pub is_scope_needed : List Named → List ℕ → Bool
+is_scope_needed ns settled =
+    not (nat_eq (length ns) 0)
+    || not (list_all (is_free settled) lines)

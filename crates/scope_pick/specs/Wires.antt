@@ -18,16 +18,23 @@ is_same_wire d e = pointwise nat_eq d.code.items e.code.items
 -- types whose variables are no lines
 abbrev pub other_kinds : List (List ℕ)
 other_kinds =
-    codes "real" ∷ codes "realtime" ∷ codes "string" ∷ codes "event" ∷ codes "parameter" ∷ []
+    codes "real"
+    ∷ codes "realtime"
+    ∷ codes "shortreal"
+    ∷ codes "string"
+    ∷ codes "event"
+    ∷ codes "parameter"
+    ∷ codes "real_parameter"
+    ∷ []
 
 unfoldable pub is_wire_kind : List ℕ → Bool
 is_wire_kind kind = not (list_any (λ k. pointwise nat_eq kind k) other_kinds)
 
--- the number of a variable's scope: the place of the first declaration in it
+-- the number of a variable's scope: the index of the first declaration in it
 unfoldable pub scope_number : List Declaration → ℕ → Declaration → ℕ
 scope_number ds i d = unwrap_or (position (λ e. is_beside e d) ds) i
 
--- the number of a variable's wire: the place of the first declaration with its code
+-- the number of a variable's wire: the index of the first declaration with its code
 unfoldable pub wire_number : List Declaration → ℕ → Declaration → ℕ
 wire_number ds i d = unwrap_or (position (λ e. is_same_wire e d) ds) i
 
@@ -35,21 +42,36 @@ wire_number ds i d = unwrap_or (position (λ e. is_same_wire e d) ds) i
 unfoldable pub can_be : Declaration → ℕ → Bool
 can_be d line = is_wire_kind d.kind.items && is_some (place_of line d.width d.range)
 
--- the i-th variable as a line of the bus, if its name is one
+-- the i-th variable by the line that its name stands for
+unfoldable pub as_line : List Declaration → ℕ → Declaration → ℕ → Named
+as_line ds i d line = record {
+  index = i;
+  line = line;
+  exact = is_exact_name line d.name.items;
+  scope = scope_number ds i d;
+  wire = wire_number ds i d;
+}
+
+-- the i-th variable as a line of the bus, if it is named like one and can be it
 unfoldable pub named_at : List Declaration → ℕ → Declaration → Option Named
 named_at ds i d =
     elim (line_named d.name.items) [
       | None ↦ None
-      | Some n ↦
-          if can_be d n then Some (record {
-            index = i;
-            line = n;
-            exact = is_exact_name n d.name.items;
-            scope = scope_number ds i d;
-            wire = wire_number ds i d;
-          }) else None
+      | Some n ↦ if can_be d n then Some (as_line ds i d n) else None
     ]
 
--- all variables that are named like lines, in the order of the header
+-- the i-th variable, if it is named like a line and cannot be it
+unfoldable pub unfit_at : List Declaration → ℕ → Declaration → Option Named
+unfit_at ds i d =
+    elim (line_named d.name.items) [
+      | None ↦ None
+      | Some n ↦ if can_be d n then None else Some (as_line ds i d n)
+    ]
+
+-- all variables that are named like lines and cannot be them, by their type, width or range
+unfoldable pub unfit_lines : List Declaration → List Named
+unfit_lines ds = filter_map (λ p. unfit_at ds p.0 p.1) (enumerate_from 0 ds)
+
+-- all variables that are named like lines and can be them, in the order of the header
 unfoldable pub named_lines : List Declaration → List Named
 named_lines ds = filter_map (λ p. named_at ds p.0 p.1) (enumerate_from 0 ds)

@@ -12,7 +12,7 @@ use crate::wires::{is_same_wire, is_wire_kind};
 pub struct Tap {
     /// The number of the line.
     pub line: u8,
-    /// The place of the declaration whose code changes name.
+    /// The index of the declaration. Changes name its code.
     pub code: usize,
     /// How many bits the variable has.
     pub width: u32,
@@ -79,8 +79,8 @@ pub fn tap_of(index: usize, declaration: &Declaration, line: u8, inverted: bool)
     }
 }
 
-/// What is taken of a variable at bits that the user names, or `None` where it lacks them or they are not as many as the
-/// line's.
+/// What is taken of a variable at bits that the user names, or `None` where it lacks them or they are not as many as
+/// the line's.
 #[tactic(auto, unfolding(crate::specs::Chosen::tap_named))]
 pub fn tap_named(
     index: usize,

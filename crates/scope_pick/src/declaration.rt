@@ -1,4 +1,4 @@
-/// A range as it is written behind a name: `[35:3]`, or `[7]` with both ends the same.
+/// A range as it is written after a name: `[35:3]`, or `[7]` with both ends the same.
 #[derive(Clone, Copy, Debug)]
 pub struct Range {
     pub left: u32,

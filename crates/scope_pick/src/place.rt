@@ -77,10 +77,13 @@ fn place_in_wider(line: u8, width: u32, range: Option<Range>) -> Option<Place>
 pub(crate) fn is_range_of(width: u32, range: Range) -> bool
     ensures { result ≡ is_range_of width range }
 {
+    if width == 0 {
+        return false;
+    }
     if range.right <= range.left {
-        range.left - range.right == width.saturating_sub(1)
+        range.left - range.right == width - 1
     } else {
-        range.right - range.left == width.saturating_sub(1)
+        range.right - range.left == width - 1
     }
 }
 

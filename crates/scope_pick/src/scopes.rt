@@ -1,20 +1,20 @@
-ghost use Rattle.std.specs.Prelude.{◌≡◌, ◌≢◌, ◌<◌, ◌&&◌, nat_eq, Some, None, IfOk, IfErr, MatchResult, All, [], List, ℕ};
+ghost use Rattle.std.specs.Prelude.{◌≡◌, ◌≢◌, ◌<◌, ◌||◌, nat_eq, Some, None, IfOk, IfErr, MatchResult, All, [], List, ℕ};
 ghost use Rattle.std.specs.List.{list_any, list_all, find, filter};
-ghost use Rattle.scope_pick.specs.Scopes.{lines, is_for, exact_in, like_in, first_in, is_rival, is_ambiguous, found_in, is_settled, is_whole, is_head, qualifies, qualified, has_same, is_same_bus, is_fullest, picked};
-ghost use Rattle.scope_pick.specs.ScopeFaults.{IsScopeFault};
+ghost use Rattle.scope_pick.specs.Scopes.{lines, is_for, exact_in, like_in, first_in, is_rival, is_ambiguous, found_in, is_settled, is_whole, is_head, qualifies, qualified, has_same, is_same_bus, is_fullest, picked, lies_in, stands_alone, buses, is_free, is_scope_needed, is_listed};
+ghost use Rattle.scope_pick.specs.ScopeFaults.{IsPicked, IsScopeFault};
 
 use crate::place::is_line_needed;
 use crate::wires::Named;
 use std::alloc::{AllocError, Global};
 
-/// Why no scope is picked.
+/// Why no scope is picked, where one is needed.
 #[derive(Debug, Drop)]
 pub enum ScopeFault {
     /// There was no memory for the list.
     Memory(AllocError),
-    /// No scope has every needed line.
+    /// No scope has every needed line and none that is ambiguous.
     Missing,
-    /// Several scopes have, and none of them has all lines of the others: each by its first variable.
+    /// Several buses have, and none has all lines of the others: a scope of each, by its first variable.
     Several(Vec<Named>),
 }
 
@@ -22,12 +22,16 @@ pub(crate) const LINES: [u8; 22] = [
     0, 1, 2, 3, 4, 5, 6, 7, 8, 9, 10, 11, 12, 13, 14, 15, 16, 17, 18, 19, 20, 21,
 ];
 
-/// The scope that is judged, by its first variable, where the settled lines need not be found.
-pub fn picked(alloc: Global, names: &[Named], settled: &[u8]) -> Result<Named, ScopeFault>
+/// The scope that is judged, by its first variable; `None` where none is needed. Settled lines are those that the user
+/// named or left out.
+pub fn picked(alloc: Global, names: &[Named], settled: &[u8]) -> Result<Option<Named>, ScopeFault>
     ensures { MatchResult result
-        (λ e. picked names.now settled.now ≡ Some e)
+        (IsPicked names.now settled.now)
         (IsScopeFault names.now settled.now) }
 {
+    if !is_scope_needed(names, settled) {
+        return Ok(None);
+    }
     let scopes = match qualified(alloc, names, settled) {
         Ok(scopes) => scopes,
         Err(error) => return Err(ScopeFault::Memory(error)),
@@ -35,13 +39,85 @@ pub fn picked(alloc: Global, names: &[Named], settled: &[u8]) -> Result<Named, S
     if scopes.is_empty() {
         return Err(ScopeFault::Missing);
     }
-    match fullest(names, &scopes) {
-        Some(scope) => Ok(scope),
-        None => Err(ScopeFault::Several(scopes)),
+    match fullest(names, settled, &scopes) {
+        Some(scope) => Ok(Some(scope)),
+        None => match buses(alloc, names, settled, &scopes) {
+            Ok(apart) => Err(ScopeFault::Several(apart)),
+            Err(error) => Err(ScopeFault::Memory(error)),
+        },
     }
 }
 
-/// The scopes that have every needed line, each by its first variable.
+/// Whether a scope is needed: a variable is named like a line, or a needed line is not settled.
+#[tactic(auto, unfolding(crate::specs::Scopes::is_scope_needed))]
+pub fn is_scope_needed(names: &[Named], settled: &[u8]) -> bool
+    ensures { result ≡ is_scope_needed names.now settled.now }
+{
+    !names.is_empty() || !are_free(settled, &LINES)
+}
+
+// Whether each of the lines is settled or isn't needed.
+fn are_free(settled: &[u8], lines: &[u8]) -> bool
+    requires { All (λ n. n < 22) lines.now }
+    ensures { result ≡ list_all (is_free settled.now) lines.now }
+{
+    for line in lines {
+        if !is_free(settled, *line) {
+            return false;
+        }
+    }
+    true
+}
+
+#[tactic(auto, unfolding(crate::specs::Scopes::is_free))]
+fn is_free(settled: &[u8], line: u8) -> bool
+    requires { line < 22 }
+    ensures { result ≡ is_free settled.now line }
+{
+    !is_line_needed(line) || is_listed(settled, line)
+}
+
+// Of the scopes that qualify those that lie in no other.
+fn buses(
+    alloc: Global,
+    names: &[Named],
+    settled: &[u8],
+    scopes: &[Named],
+) -> Result<Vec<Named>, AllocError>
+    ensures { IfOk result (λ v.
+        v.items ≡ filter (stands_alone names.now settled.now scopes.now) scopes.now) }
+{
+    scopes
+        .iter()
+        .copied()
+        .filter(|scope| stands_alone(names, settled, scopes, *scope))
+        .collect(alloc)
+}
+
+#[tactic(auto, unfolding(crate::specs::Scopes::stands_alone))]
+fn stands_alone(names: &[Named], settled: &[u8], others: &[Named], scope: Named) -> bool
+    ensures { result ≡ stands_alone names.now settled.now others.now scope }
+{
+    !lies_in_any(names, settled, others, scope)
+}
+
+fn lies_in_any(names: &[Named], settled: &[u8], others: &[Named], scope: Named) -> bool
+    ensures { result ≡ list_any (lies_in names.now settled.now scope) others.now }
+{
+    others
+        .iter()
+        .any(|other| lies_in(names, settled, scope, *other))
+}
+
+#[tactic(auto, unfolding(crate::specs::Scopes::lies_in))]
+fn lies_in(names: &[Named], settled: &[u8], scope: Named, other: Named) -> bool
+    ensures { result ≡ lies_in names.now settled.now scope other }
+{
+    is_same_bus(names, settled, other.scope, scope.scope)
+        && (!is_same_bus(names, settled, scope.scope, other.scope) || other.index < scope.index)
+}
+
+/// The scopes that have every needed line and none that is ambiguous, each by its first variable.
 #[tactic(auto, unfolding(crate::specs::Scopes::qualified))]
 pub fn qualified(alloc: Global, names: &[Named], settled: &[u8]) -> Result<Vec<Named>, AllocError>
     ensures { IfOk result (λ v. v.items ≡ qualified names.now settled.now) }
@@ -87,17 +163,20 @@ pub fn first_in(names: &[Named], scope: usize, line: u8) -> Option<Named>
     }
 }
 
-/// Whether the line is found in the scope, or need not be.
+/// Whether the line is settled, or has one best wire in the scope, or isn't needed and nothing is named like it.
 #[tactic(auto, unfolding(crate::specs::Scopes::is_settled))]
 pub fn is_settled(names: &[Named], settled: &[u8], scope: usize, line: u8) -> bool
     requires { line < 22 }
     ensures { result ≡ is_settled names.now settled.now scope line }
 {
-    !is_line_needed(line) || is_listed(settled, line) || found_in(names, scope, line).is_some()
+    is_listed(settled, line)
+        || (!is_ambiguous(names, scope, line)
+            && (!is_line_needed(line) || first_in(names, scope, line).is_some()))
 }
 
-fn is_listed(lines: &[u8], line: u8) -> bool
-    ensures { result ≡ list_any (λ n. nat_eq n line) lines.now }
+#[tactic(auto, unfolding(crate::specs::Scopes::is_listed))]
+pub(crate) fn is_listed(lines: &[u8], line: u8) -> bool
+    ensures { result ≡ is_listed lines.now line }
 {
     lines.iter().any(|other| *other == line)
 }
@@ -167,7 +246,7 @@ fn first_of(names: &[Named], scope: usize) -> Option<Named>
     names.iter().copied().find(|name| name.scope == scope)
 }
 
-/// Whether every needed line is found in the scope, but for the settled ones.
+/// Whether the scope has every needed line and none that is ambiguous, but for the settled ones.
 #[tactic(auto, unfolding(crate::specs::Scopes::is_whole))]
 pub fn is_whole(names: &[Named], settled: &[u8], scope: usize) -> bool
     ensures { result ≡ is_whole names.now settled.now scope }
@@ -188,17 +267,18 @@ fn are_settled(names: &[Named], settled: &[u8], scope: usize, lines: &[u8]) -> b
 }
 
 #[tactic(auto, unfolding(crate::specs::Scopes::is_same_bus))]
-fn is_same_bus(names: &[Named], scope: usize, other: usize) -> bool
-    ensures { result ≡ is_same_bus names.now scope other }
+fn is_same_bus(names: &[Named], settled: &[u8], scope: usize, other: usize) -> bool
+    ensures { result ≡ is_same_bus names.now settled.now scope other }
 {
-    are_same(names, scope, other, &LINES)
+    are_same(names, settled, scope, other, &LINES)
 }
 
-fn are_same(names: &[Named], scope: usize, other: usize, lines: &[u8]) -> bool
-    ensures { result ≡ list_all (λ n.
-        has_same (found_in names.now scope n) (found_in names.now other n)) lines.now }
+fn are_same(names: &[Named], settled: &[u8], scope: usize, other: usize, lines: &[u8]) -> bool
+    ensures { result ≡ list_all (λ n. is_listed settled.now n
+        || has_same (found_in names.now scope n) (found_in names.now other n)) lines.now }
 {
-    lines.iter().all(|line| has_same(found_in(names, scope, *line), found_in(names, other, *line)))
+    lines.iter().all(|line| is_listed(settled, *line)
+        || has_same(found_in(names, scope, *line), found_in(names, other, *line)))
 }
 
 #[tactic(auto, unfolding(crate::specs::Scopes::has_same))]
@@ -215,19 +295,17 @@ fn has_same(ours: Option<Named>, theirs: Option<Named>) -> bool
 }
 
 #[tactic(auto, unfolding(crate::specs::Scopes::is_fullest))]
-fn is_fullest(names: &[Named], others: &[Named], scope: Named) -> bool
-    ensures { result ≡ is_fullest names.now others.now scope }
+fn is_fullest(names: &[Named], settled: &[u8], others: &[Named], scope: Named) -> bool
+    ensures { result ≡ is_fullest names.now settled.now others.now scope }
 {
-    others
-        .iter()
-        .all(|other| is_same_bus(names, scope.scope, other.scope))
+    others.iter().all(|other| is_same_bus(names, settled, scope.scope, other.scope))
 }
 
-fn fullest(names: &[Named], scopes: &[Named]) -> Option<Named>
-    ensures { result ≡ find (is_fullest names.now scopes.now) scopes.now }
+fn fullest(names: &[Named], settled: &[u8], scopes: &[Named]) -> Option<Named>
+    ensures { result ≡ find (is_fullest names.now settled.now scopes.now) scopes.now }
 {
     scopes
         .iter()
         .copied()
-        .find(|scope| is_fullest(names, scopes, *scope))
+        .find(|scope| is_fullest(names, settled, scopes, *scope))
 }

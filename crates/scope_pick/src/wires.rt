@@ -1,17 +1,17 @@
 ghost use Rattle.std.specs.Prelude.{◌≡◌, ◌<◌, nat_eq, IfOk};
 ghost use Rattle.std.specs.List.{position, list_any};
 ghost use Rattle.std.specs.Cmp.Lexicographic.{pointwise};
-ghost use Rattle.scope_pick.specs.Wires.{is_beside, is_same_wire, is_wire_kind, scope_number, wire_number, can_be, named_at, named_lines};
+ghost use Rattle.scope_pick.specs.Wires.{is_beside, is_same_wire, is_wire_kind, scope_number, wire_number, can_be, as_line, unfit_at, unfit_lines, named_at, named_lines};
 
 use crate::declaration::Declaration;
 use crate::names::{is_exact_name, line_named};
 use crate::place::place_of;
 use std::alloc::{AllocError, Global};
 
-/// A variable that is named like a line of the bus, and can be it.
+/// A variable that is named like a line of the bus.
 #[derive(Clone, Copy, Debug)]
 pub struct Named {
-    /// The place of its declaration.
+    /// The index of its declaration.
     pub index: usize,
     /// The number of the line.
     pub line: u8,
@@ -23,9 +23,29 @@ pub struct Named {
     pub wire: usize,
 }
 
-const OTHER_KINDS: [&str; 5] = ["real", "realtime", "string", "event", "parameter"];
+const OTHER_KINDS: [&str; 7] = [
+    "real",
+    "realtime",
+    "shortreal",
+    "string",
+    "event",
+    "parameter",
+    "real_parameter",
+];
 
-/// All variables that are named like lines, in the order of the header.
+/// All variables that are named like lines and cannot be them, by their type, width or range.
+#[tactic(auto, unfolding(crate::specs::Wires::unfit_lines))]
+pub fn unfit_lines(alloc: Global, declarations: &[Declaration]) -> Result<Vec<Named>, AllocError>
+    ensures { IfOk result (λ v. v.items ≡ unfit_lines declarations.now) }
+{
+    declarations
+        .iter()
+        .enumerate()
+        .filter_map(|(index, declaration)| unfit_at(declarations, index, declaration))
+        .collect(alloc)
+}
+
+/// All variables that are named like lines and can be them, in the order of the header.
 #[tactic(auto, unfolding(crate::specs::Wires::named_lines))]
 pub fn named_lines(alloc: Global, declarations: &[Declaration]) -> Result<Vec<Named>, AllocError>
     ensures { IfOk result (λ v. v.items ≡ named_lines declarations.now) }
@@ -44,17 +64,42 @@ fn named_at(declarations: &[Declaration], index: usize, declaration: &Declaratio
     match line_named(&declaration.name) {
         None => None,
         Some(line) => {
-            if !can_be(declaration, line) {
-                return None;
+            if can_be(declaration, line) {
+                Some(as_line(declarations, index, declaration, line))
+            } else {
+                None
             }
-            Some(Named {
-                index,
-                line,
-                exact: is_exact_name(line, &declaration.name),
-                scope: scope_number(declarations, index, declaration),
-                wire: wire_number(declarations, index, declaration),
-            })
         }
+    }
+}
+
+#[tactic(auto, unfolding(crate::specs::Wires::unfit_at))]
+fn unfit_at(declarations: &[Declaration], index: usize, declaration: &Declaration) -> Option<Named>
+    ensures { result ≡ unfit_at declarations.now index declaration.now }
+{
+    match line_named(&declaration.name) {
+        None => None,
+        Some(line) => {
+            if can_be(declaration, line) {
+                None
+            } else {
+                Some(as_line(declarations, index, declaration, line))
+            }
+        }
+    }
+}
+
+#[tactic(auto, unfolding(crate::specs::Wires::as_line))]
+fn as_line(declarations: &[Declaration], index: usize, declaration: &Declaration, line: u8) -> Named
+    requires { line < 22 }
+    ensures { result ≡ as_line declarations.now index declaration.now line }
+{
+    Named {
+        index,
+        line,
+        exact: is_exact_name(line, &declaration.name),
+        scope: scope_number(declarations, index, declaration),
+        wire: wire_number(declarations, index, declaration),
     }
 }
 

@@ -1,14 +1,20 @@
 use Rattle.std.proofs.Common.{◌≡◌, ◌∙◌, ◌≢◌, ℕ, List, [], Bool, true, false, nat_eq, length, ap, sym, refl}
-use Rattle.std.specs.List.{find}
+use Rattle.std.specs.List.{find, filter}
 use Rattle.scope_pick.specs.declared.wires.Named.{Named}
-use Rattle.scope_pick.specs.Scopes.{qualified, is_fullest, picked}
+use Rattle.scope_pick.specs.Scopes.{qualified, is_fullest, picked, stands_alone, buses}
 use Rattle.scope_pick.proofs.scopes.picked.Goals as goal
 
 -- the fullest of the scopes that qualify is the one that is picked
 along : (ns : List Named) (settled : List ℕ) (scopes : List Named) → scopes ≡ qualified ns settled
-    → find (is_fullest ns scopes) scopes ≡ picked ns settled
+    → find (is_fullest ns settled scopes) scopes ≡ picked ns settled
 unfolding picked
 along ns settled scopes h = rw h refl
+
+-- those of them that lie in no other are the buses
+apart : (ns : List Named) (settled : List ℕ) (scopes : List Named) → scopes ≡ qualified ns settled
+    → filter (stands_alone ns settled scopes) scopes ≡ buses ns settled
+unfolding buses
+apart ns settled scopes h = rw h refl
 
 -- a list that is not empty by its length is not empty
 some : (empty : Bool) (n : ℕ) (xs ys : List Named) → empty ≡ nat_eq n 0 → empty ≡ false → length xs ≡ n
@@ -22,9 +28,9 @@ pub returns-in-Some : goal.returns-in-Some
 returns-in-Some c =
     sym (along _ _ _ (c.deref.ensures.value ∙ c.in-Ok.ensures)) ∙ sym c.in-Some.ensures
 
-pub returns-in-None : goal.returns-in-None
-returns-in-None c = (
+pub returns-in-Ok-buses : goal.returns-in-Ok-buses
+returns-in-Ok-buses c = (
   some _ _ _ _ c.is_empty.ensures c.if-is_empty.false c.deref.ensures.len (c.deref.ensures.value ∙ c.in-Ok.ensures),
-  c.in-Ok.ensures,
+  c.in-Ok-buses.ensures ∙ apart _ _ _ (c.deref-in-None.ensures.value ∙ c.in-Ok.ensures),
   sym (along _ _ _ (c.deref.ensures.value ∙ c.in-Ok.ensures)) ∙ sym c.in-None.ensures,
 )
