@@ -7,7 +7,7 @@ use Rattle.std.specs.Fmt.{decimal, digit_glyph, digits, digits_onto}
 use Rattle.std.specs.Str.Parse.{AllDigits, digits_value}
 use Rattle.std.proofs.Math.Nat.{div-eq_of_lt, mod-eq_of_lt, mod-lt}
 use Rattle.std.proofs.lemmas.Fmt.{digits_is_IsNumeral}
-use Rattle.core.proofs.fmt.DigitsParse.{digits_onto-nil, digits_onto_last}
+use Rattle.std.proofs.DigitsParse.{digits_onto-nil, digits_onto_last}
 use Rattle.fsb_io.specs.NumberText.{hexadecimal}
 
 above : (a b : ℕ) → a < b → b ≤ a → ⊥
