@@ -9,6 +9,7 @@ use fsb_io::{FileSource, Memory};
 use fsb_signal::{Lines, Marks, Sample};
 use fsb_trace::known_pair;
 use fsb_watch::{DumpStop, Watcher, watch_dump};
+use std::process::ExitCode;
 use std::rt::{Env, Files};
 
 /// How many requests of each kind there were.
@@ -76,7 +77,7 @@ impl Watcher for Census {
     }
 }
 
-fn main(rt: HostRuntime) {
+fn main(rt: HostRuntime) -> ExitCode {
     let mut census = Census {
         first: None,
         agents: [Counts::new(); 4],
@@ -84,15 +85,18 @@ fn main(rt: HostRuntime) {
     match read(&rt, &mut census) {
         None => {
             let _ = println!(rt; "not read: no word names a dump");
+            ExitCode::FAILURE
         }
         Some(Err(stop)) => {
             let _ = println!(rt; "not read: {stop:?}");
+            ExitCode::FAILURE
         }
         Some(Ok(clocks)) => {
             let _ = println!(rt; "{clocks} clocks");
             for (agent, counts) in census.agents.iter().enumerate() {
                 let _ = println!(rt; "agent {agent}: {counts:?}");
             }
+            ExitCode::SUCCESS
         }
     }
 }
