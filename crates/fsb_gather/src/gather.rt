@@ -56,6 +56,13 @@ impl<D: Sink> Gather<D> {
         &self.sink
     }
 
+    /// Gives back the sink below. What is still gathered is dropped.
+    pub fn into_sink(self) -> D
+        ensures { result ≡ self.sink }
+    {
+        self.sink
+    }
+
     /// The bytes that are still to be handed on.
     pub fn gathered(&self) -> &[u8]
         ensures { result.now ≡ self.now.gathered }

@@ -1,4 +1,4 @@
--- What one read and one write of the adapters over real files do.
+-- What one read, one write and one storing of the adapters over real files do.
 use Rattle.std.specs.Prelude.{◌≡◌, ℕ, List, Option, None, Some, Result, IsErr}
 use Rattle.std.specs.Io.KnownBytes.{ReadConsumes, WriteAppends}
 use Rattle.fsb_io.specs.declared.place.Destination.{Destination}
@@ -18,3 +18,9 @@ WritesTo shows holds output now Nowhere new result piece = IsErr result × (now 
 WritesTo shows holds output now Output new result piece = WriteAppends (shows output) (shows now) result piece × (new ≡ Output)
 WritesTo shows holds output now (File old) new result piece = (now ≡ output) × ((file : _) × (new ≡ File file)
     × WriteAppends (holds old) (holds file) result piece)
+
+-- a file was opened for the dump
+abbrev pub IsFileOpen : {F : Type 0} → Destination F → Type 0
+IsFileOpen Nowhere = ⊥
+IsFileOpen Output = ⊥
+IsFileOpen (File file) = Unit {0}

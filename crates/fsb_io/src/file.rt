@@ -1,14 +1,14 @@
 //! Real files and standard output. They tell no content and no name: what a system call does is not
 //! known to a proof. This is the trusted edge. One read and one write are proved for any reader and writer.
-ghost use Rattle.std.specs.Prelude.{◌≡◌, ◌≤◌, ◌<◌, ℕ, [], None, false, length, IfOk, IsErr};
+ghost use Rattle.std.specs.Prelude.{◌≡◌, ◌≤◌, ◌<◌, ℕ, [], None, false, length, IfOk, IsErr, OnErr};
 ghost use Rattle.std.specs.Io.KnownBytes.{ReadConsumes, WriteAppends};
 ghost use Rattle.std.specs.Result.{is_err};
 ghost use Rattle.fsb_io.specs.Faults.{HasCause, faults_after};
-ghost use Rattle.fsb_io.specs.FileTransfers.{ReadsFrom, WritesTo};
+ghost use Rattle.fsb_io.specs.FileTransfers.{IsFileOpen, ReadsFrom, WritesTo};
 
 use crate::place::{Destination, place_of};
 use crate::{Failed, Sink, Source};
-use std::fs::Files;
+use std::fs::{Files, OpenFile};
 use std::io::{ErrorKind, Print, Read, Write};
 use std::marker::Model;
 use std::{fs, io};
@@ -133,6 +133,21 @@ impl<'a, R: Files + Print> FileSink<'a, R> {
         ensures { result ≡ self.now }
     {
         self.faults
+    }
+
+    /// Has the system store what a regular file was given, and waits for it. `Failed` means that the
+    /// system refused: a full quota or a network's file system may say so here for the first time, and
+    /// then what the file holds is not known. Nothing is asked of a terminal, of a pipe, of standard
+    /// output, or where nothing was begun.
+    pub fn store(&mut self) -> Result<(), Failed>
+        ensures counted { self.new ≡ faults_after (is_err result) self.old }
+        ensures cause { HasCause self.old self.new result }
+    {
+        let answer = store_begun(&self.place);
+        if answer.is_err() {
+            self.faults = self.faults.saturating_add(1);
+        }
+        answer
     }
 }
 
@@ -283,6 +298,35 @@ fn write_begun<O: Write, F: Write + Drop>(
         Destination::Output => write_tried(output, piece),
         Destination::File(file) => write_tried(file, piece),
     }
+}
+
+/// Stores what the open file was given, where there is one.
+fn store_begun<F: OpenFile + Drop>(place: &Destination<F>) -> Result<(), Failed>
+    ensures { OnErr result (IsFileOpen place.now) }
+{
+    match place {
+        Destination::Nowhere | Destination::Output => Ok(()),
+        Destination::File(file) => store_tried(file),
+    }
+}
+
+/// Stores a regular file. An interrupted call is tried again. A file system that cannot store when it
+/// is asked has refused nothing.
+fn store_tried<F: OpenFile>(file: &F) -> Result<(), Failed> {
+    if !file.metadata()?.is_file() {
+        return Ok(());
+    }
+    for _ in 0..=TRIES {
+        match file.sync_data() {
+            Ok(()) => return Ok(()),
+            Err(error) => match error.kind() {
+                ErrorKind::Interrupted => {}
+                ErrorKind::InvalidInput | ErrorKind::Unsupported => return Ok(()),
+                _ => return Err(Failed),
+            },
+        }
+    }
+    Err(Failed)
 }
 
 /// One read. An interrupted call is tried again.
