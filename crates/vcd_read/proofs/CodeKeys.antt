@@ -1,24 +1,20 @@
 -- The keys of the declared codes in their map.
-use Rattle.std.proofs.Common.{◌≡◌, ℕ, ◌+◌, ◌-◌, ◌*◌, ◌/◌, ◌%◌, ◌^◌, ◌<◌, ◌≤◌, Bool, true, false, not, List, [], ◌∷◌}
-use Rattle.std.proofs.Common.{◌++◌, length, length-append, drop, ◌==◌, Option, Some, None, option_map, slice_get}
-use Rattle.std.proofs.Common.{get_or, nat_eq, nat_le, nat_lt, cond, Fits, w8, refl, sym, ap, subst, ◌∙◌, arith, suc}
-use Rattle.std.proofs.Common.{zero, Vec, inl, inr}
+use Rattle.std.proofs.Common.{◌≡◌, ℕ, ◌+◌, ◌*◌, ◌/◌, ◌%◌, ◌^◌, ◌<◌, ◌≤◌, Bool, true, false, List, [], ◌∷◌}
+use Rattle.std.proofs.Common.{◌++◌, length, drop, ◌==◌, Option, Some, None, option_map, unwrap_or}
+use Rattle.std.proofs.Common.{get_or, nat_eq, nat_le, nat_lt, Fits, w8, refl, sym, ap, subst, ◌∙◌, arith, suc}
+use Rattle.std.proofs.Common.{zero, Vec}
 use Rattle.std.specs.Cmp.Lexicographic.{same_text, nat_list_eq_equiv}
-use Rattle.std.specs.List.{position, position_or_len}
 use Rattle.std.specs.Map.{lookup}
 use Rattle.std.proofs.Math.Nat.{add-mul-mod_self_left, add-mul-div_left, mod-eq_of_lt, div-eq_of_lt, pow-le-pow_right}
 use Rattle.std.proofs.lemmas.Nat.{pow-add}
-use Rattle.std.proofs.lemmas.Bool.{ne_eqb, eq-eqb, eqb-true, and_parts, and_from, leb-true, ltb-true, ltb-false, lt-ltb}
-use Rattle.std.proofs.lemmas.Bool.{le-ltb, false≢true, cases_lt}
+use Rattle.std.proofs.lemmas.Bool.{ne_eqb, eq-eqb, eqb-true, and_parts, and_from, leb-true, ltb-false, lt-ltb}
+use Rattle.std.proofs.lemmas.Bool.{le-ltb, false≢true}
 use Rattle.std.proofs.lemmas.List.{drop_more, length-drop, get_or-drop}
-use Rattle.std.proofs.lemmas.Option.{slice_get-get_or, slice_get_past}
-use Rattle.std.proofs.lemmas.List.Folds.{prefix_len-append}
-use Rattle.std.proofs.lemmas.List.Quantifiers.{position-Some}
 use Rattle.indexmap.specs.IndexMap.{insert_entry}
 use Rattle.vcd_grammar.specs.Words.{same}
 use Rattle.vcd_grammar.specs.Codes.{lines_of, with_code}
-use Rattle.vcd_read.specs.CodesView.{Agree, CodesKept, KeepsLong, only_of, with_single, packed, unpacked, key_of}
-use Rattle.vcd_read.specs.CodesView.{coded_by, is_key, codes_of, are_keys, lines_or_none}
+use Rattle.vcd_read.specs.CodesView.{Agree, CodesKept, LongKept, KeepsLong, only_of, with_single, packed, unpacked}
+use Rattle.vcd_read.specs.CodesView.{key_of, word_at, coded_by, is_key, codes_of, are_keys, lines_or_none}
 use Rattle.vcd_read.proofs.CodeTables.{agree_more}
 
 -- the bytes of a slice
@@ -77,55 +73,17 @@ packed_small code left short some f =
           (omega (arith, rest, short, some)),
     )
 
--- places in a list
 none-some : {X : Type 0} {P : Type 0} (x : X) → ◌≡◌ {A = Option X} None (Some x) → P
 none-some x h = absurd cc
 
 some-same : (a b : ℕ) → ◌≡◌ {A = Option ℕ} (Some a) (Some b) → a ≡ b
 some-same a b h = cc
 
-found_at : {X : Type 0} (p : X → Bool) (xs : List X) (i : ℕ) → position p xs ≡ Some i
-    → (x : X) × (slice_get xs i ≡ Some x) × (p x ≡ true)
-found_at p [] i h = none-some i h
-found_at p (x ∷ xs) i h =
-    let place = position-Some p (x ∷ xs) i x h in
-    (get_or (x ∷ xs) i x, slice_get-get_or (x ∷ xs) i x place.0, place.1)
-
-position-more : {X : Type 0} (p : X → Bool) (xs ys : List X) (i : ℕ) → position p xs ≡ Some i
-    → position p (xs ++ ys) ≡ Some i
-position-more p xs ys i h = by (nat_lt (position_or_len p xs) (length xs)) refl
-  where
-    by : (b : Bool) → nat_lt (position_or_len p xs) (length xs) ≡ b → position p (xs ++ ys) ≡ Some i
-    by true t =
-        let lt = ltb-true (position_or_len p xs) (length xs) t in
-        let other = ne_eqb (position_or_len p xs) (length xs) (λ e. omega (arith, e, lt)) in
-        let place : position_or_len p (xs ++ ys) ≡ position_or_len p xs =
-        prefix_len-append (λ x. not (p x)) xs ys
-        ∙ ap (λ b. cond b (length xs + position_or_len p ys) (position_or_len p xs)) other in
-        rw (place, lt-ltb (position_or_len p xs) (length (xs ++ ys)) (omega (arith, lt, length-append xs ys)))
-        (rw t at h)
-    by false t = none-some i (rw t at h)
-
-get-more : {X : Type 0} (xs ys : List X) (i : ℕ) → i < length xs → slice_get (xs ++ ys) i ≡ slice_get xs i
-get-more [] ys i h = absurd (omega (arith, h))
-get-more (x ∷ xs) ys zero h = refl
-get-more (x ∷ xs) ys (suc i) h = get-more xs ys i (omega (arith, h))
-
 -- the code of a key
-key_code : {A : Type 0} (long : List (Vec ℕ A)) (code : List ℕ) (key : ℕ) → Bytes code
+key_code : {A : Type 0} (long : List (Vec ℕ A × ℕ)) (code : List ℕ) (key : ℕ) → Bytes code → LongKept long
     → key_of long code ≡ Some key → coded_by long key ≡ code
-key_code long code key f h = by (nat_le (length code) 7) refl
+key_code long code key f kept h = by (nat_le (length code) 7) refl
   where
-    by_place : (o : Option ℕ) → position (λ v. same code v.items) long ≡ o
-        → option_map (λ i. 2 ^ 63 + i) o ≡ Some key → coded_by long key ≡ code
-    by_place None t k = none-some key k
-    by_place (Some i) t k =
-        let found = found_at (λ v. same code v.items) long i t in
-        let key_is : key ≡ 2 ^ 63 + i = sym (some-same (2 ^ 63 + i) key k) in
-        let past : nat_lt key (2 ^ 63) ≡ false = le-ltb key (2 ^ 63) (omega (arith, key_is)) in
-        let place : key - 2 ^ 63 ≡ i = omega (arith, key_is) in
-        rw (past, place, found.1) (sym (same_text code found.0.items (sym found.2)))
-
     by : (b : Bool) → nat_le (length code) 7 ≡ b → coded_by long key ≡ code
     by true t =
         let short = leb-true (length code) 7 t in
@@ -133,10 +91,12 @@ key_code long code key f h = by (nat_le (length code) 7) refl
         let small : nat_lt key (2 ^ 63) ≡ true =
         lt-ltb key (2 ^ 63) (omega (arith, key_is, short_small code short f)) in
         rw (small, key_is) (unpacked_packed 7 code short f)
-    by false t = by_place (position (λ v. same code v.items) long) refl (rw t at h)
+    by false t =
+        let word : word_at long key ≡ Some code = kept.told code key (rw t at h) in
+        rw (le-ltb key (2 ^ 63) (kept.within key code word).0, word) refl
 
 -- a key is that of its code
-is_key-says : {A : Type 0} (long : List (Vec ℕ A)) (key : ℕ) → is_key long key ≡ true
+is_key-says : {A : Type 0} (long : List (Vec ℕ A × ℕ)) (key : ℕ) → is_key long key ≡ true
     → key_of long (coded_by long key) ≡ Some key
 is_key-says long key h = by (key_of long (coded_by long key)) refl
   where
@@ -144,15 +104,15 @@ is_key-says long key h = by (key_of long (coded_by long key)) refl
     by None t = absurd (false≢true (rw t at h))
     by (Some k) t = t ∙ ap Some (eqb-true k key (rw t at h))
 
-pub is_key-told : {A : Type 0} (long : List (Vec ℕ A)) (code : List ℕ) (key : ℕ) → Bytes code
+pub is_key-told : {A : Type 0} (long : List (Vec ℕ A × ℕ)) (code : List ℕ) (key : ℕ) → Bytes code → LongKept long
     → key_of long code ≡ Some key → is_key long key ≡ true
-is_key-told long code key f h = rw (key_code long code key f h, h) (eq-eqb key key refl)
+is_key-told long code key f kept h = rw (key_code long code key f kept h, h) (eq-eqb key key refl)
 
 -- a key is another's just where their codes are one
-same_key : {A : Type 0} (long : List (Vec ℕ A)) (code : List ℕ) (key other : ℕ) → Bytes code
-    → key_of long code ≡ Some key → is_key long other ≡ true
+same_key : {A : Type 0} (long : List (Vec ℕ A × ℕ)) (code : List ℕ) (key other : ℕ) → Bytes code
+    → LongKept long → key_of long code ≡ Some key → is_key long other ≡ true
     → (key == other) ≡ same code (coded_by long other)
-same_key long code key other f h k = by (same code (coded_by long other)) refl
+same_key long code key other f kept h k = by (same code (coded_by long other)) refl
   where
     by : (b : Bool) → same code (coded_by long other) ≡ b → (key == other) ≡ same code (coded_by long other)
     by true t =
@@ -161,10 +121,10 @@ same_key long code key other f h k = by (same code (coded_by long other)) refl
         eq-eqb key other (some-same key other (sym h ∙ one)) ∙ sym t
     by false t =
         ne_eqb key other
-        (λ e. false≢true (sym t ∙ ap (same code) (ap (coded_by long) (sym e) ∙ key_code long code key f h)
+        (λ e. false≢true (sym t ∙ ap (same code) (ap (coded_by long) (sym e) ∙ key_code long code key f kept h)
         ∙ nat_list_eq_equiv.refl code)) ∙ sym t
 
-no_key : {A : Type 0} (long : List (Vec ℕ A)) (code : List ℕ) (other : ℕ) → key_of long code ≡ None
+no_key : {A : Type 0} (long : List (Vec ℕ A × ℕ)) (code : List ℕ) (other : ℕ) → key_of long code ≡ None
     → is_key long other ≡ true
     → same code (coded_by long other) ≡ false
 no_key long code other h k = by (same code (coded_by long other)) refl
@@ -175,15 +135,15 @@ no_key long code other h k = by (same code (coded_by long other)) refl
     by false t = t
 
 -- what the map finds are the lines of the code
-pub found : {A : Type 0} (long : List (Vec ℕ A)) (code : List ℕ) (key : ℕ) (es : List (ℕ × Vec ℕ A))
-    → Bytes code → key_of long code ≡ Some key
+pub found : {A : Type 0} (long : List (Vec ℕ A × ℕ)) (code : List ℕ) (key : ℕ) (es : List (ℕ × Vec ℕ A))
+    → Bytes code → LongKept long → key_of long code ≡ Some key
     → are_keys long es ≡ true
     → option_map (λ v. v.items) (lookup (λ k. nat_eq key k) es) ≡ lines_of (codes_of long es) code
-found long code key [] f h keys = refl
-found long code key (e ∷ es) f h keys =
+found long code key [] f kept h keys = refl
+found long code key (e ∷ es) f kept h keys =
     let p = and_parts _ _ keys in
-    let one = same_key long code key e.0 f h p.0 in
-    by (same code (coded_by long e.0)) refl (one) (found long code key es f h p.1)
+    let one = same_key long code key e.0 f kept h p.0 in
+    by (same code (coded_by long e.0)) refl (one) (found long code key es f kept h p.1)
   where
     by : (b : Bool) → same code (coded_by long e.0) ≡ b → (key == e.0) ≡ same code (coded_by long e.0)
         → option_map (λ v. v.items) (lookup (λ k. nat_eq key k) es) ≡ lines_of (codes_of long es) code
@@ -191,7 +151,7 @@ found long code key (e ∷ es) f h keys =
     by true t one rest = rw (one, t) refl
     by false t one rest = rw (one, t) rest
 
-pub not_found : {A : Type 0} (long : List (Vec ℕ A)) (code : List ℕ) (es : List (ℕ × Vec ℕ A))
+pub not_found : {A : Type 0} (long : List (Vec ℕ A × ℕ)) (code : List ℕ) (es : List (ℕ × Vec ℕ A))
     → key_of long code ≡ None → are_keys long es ≡ true
     → lines_of (codes_of long es) code ≡ None
 not_found long code [] h keys = refl
@@ -199,16 +159,16 @@ not_found long code (e ∷ es) h keys = let p = and_parts _ _ keys in
     rw (no_key long code e.0 h p.0) (not_found long code es h p.1)
 
 -- the entries of the map, once the code has got the lines that it had and one more variable's
-pub inserted : {A : Type 0} (long : List (Vec ℕ A)) (code : List ℕ) (key : ℕ) (lines : Vec ℕ A) (line : List ℕ)
-    (es : List (ℕ × Vec ℕ A)) → Bytes code
+pub inserted : {A : Type 0} (long : List (Vec ℕ A × ℕ)) (code : List ℕ) (key : ℕ) (lines : Vec ℕ A) (line : List ℕ)
+    (es : List (ℕ × Vec ℕ A)) → Bytes code → LongKept long
     → key_of long code ≡ Some key → are_keys long es ≡ true
     → lines.items ≡ lines_or_none (lines_of (codes_of long es) code) ++ line
     → codes_of long (insert_entry nat_eq es key lines) ≡ with_code (codes_of long es) code line
-inserted long code key lines line [] f h keys l = λ i. record { code = key_code long code key f h i; lines = l i } ∷ []
-inserted {A} long code key lines line (e ∷ es) f h keys l =
+inserted long code key lines line [] f kept h keys l = λ i. record { code = key_code long code key f kept h i; lines = l i } ∷ []
+inserted {A} long code key lines line (e ∷ es) f kept h keys l =
     let p = and_parts _ _ keys in
-    by (same code (coded_by long e.0)) refl (same_key long code key e.0 f h p.0)
-    (λ k. inserted long code key lines line es f h p.1 k)
+    by (same code (coded_by long e.0)) refl (same_key long code key e.0 f kept h p.0)
+    (λ k. inserted long code key lines line es f kept h p.1 k)
   where
     by : (b : Bool) → same code (coded_by long e.0) ≡ b → (key == e.0) ≡ same code (coded_by long e.0)
         → (lines.items ≡ lines_or_none (lines_of (codes_of long es) code) ++ line
@@ -219,7 +179,7 @@ inserted {A} long code key lines line (e ∷ es) f h keys l =
     by false t one rest =
         rw (one, t) (ap (λ cs. record { code = coded_by long e.0; lines = e.1.items } ∷ cs) (rest (rw t at l)))
 
-pub keys_inserted : {A : Type 0} (long : List (Vec ℕ A)) (key : ℕ) (lines : Vec ℕ A) (es : List (ℕ × Vec ℕ A))
+pub keys_inserted : {A : Type 0} (long : List (Vec ℕ A × ℕ)) (key : ℕ) (lines : Vec ℕ A) (es : List (ℕ × Vec ℕ A))
     → is_key long key ≡ true
     → are_keys long es ≡ true → are_keys long (insert_entry nat_eq es key lines) ≡ true
 keys_inserted long key lines [] one keys = and_from _ _ one refl
@@ -233,79 +193,68 @@ keys_inserted {A} long key lines (e ∷ es) one keys = let p = and_parts _ _ key
     by false t first rest others = rw t (and_from _ _ first rest)
 
 -- more long codes change nothing of the keys before
-code_kept : {A : Type 0} (long added : List (Vec ℕ A)) (key : ℕ) → is_key long key ≡ true
-    → coded_by (long ++ added) key ≡ coded_by long key
-code_kept long added key h = by (nat_lt key (2 ^ 63)) refl
+code_kept : {A : Type 0} (long new : List (Vec ℕ A × ℕ)) (key : ℕ) → KeepsLong long new → is_key long key ≡ true
+    → coded_by new key ≡ coded_by long key
+code_kept long new key more h = by (nat_lt key (2 ^ 63)) refl
   where
-    past : nat_lt key (2 ^ 63) ≡ false → length long ≤ key - 2 ^ 63 → ⊥
-    past t l =
-        let empty : coded_by long key ≡ [] = rw (t, slice_get_past long (key - 2 ^ 63) l) refl in
+    by_word : nat_lt key (2 ^ 63) ≡ false → (o : Option (List ℕ)) → word_at long key ≡ o
+        → unwrap_or (word_at new key) [] ≡ unwrap_or o []
+    by_word past None w =
+        let empty : coded_by long key ≡ [] = rw (past, w) refl in
         let one : Some 1 ≡ Some key = sym (ap (key_of long) empty) ∙ is_key-says long key h in
-        omega (arith, some-same 1 key one, ltb-false key (2 ^ 63) t)
+        absurd (omega (arith, some-same 1 key one, ltb-false key (2 ^ 63) past))
+    by_word past (Some word) w = rw (more.words key word w) refl
 
-    within : nat_lt key (2 ^ 63) ≡ false → key - 2 ^ 63 < length long
-    within t = elim (cases_lt (key - 2 ^ 63) (length long)) [ inl l ↦ l | inr l ↦ absurd (past t l) ]
-
-    by : (b : Bool) → nat_lt key (2 ^ 63) ≡ b → coded_by (long ++ added) key ≡ coded_by long key
+    by : (b : Bool) → nat_lt key (2 ^ 63) ≡ b → coded_by new key ≡ coded_by long key
     by true t = rw t refl
-    by false t = rw (t, get-more long added (key - 2 ^ 63) (within t)) refl
+    by false t = rw t (by_word t (word_at long key) refl)
 
-key_kept : {A : Type 0} (long added : List (Vec ℕ A)) (code : List ℕ) (key : ℕ) → key_of long code ≡ Some key
-    → key_of (long ++ added) code ≡ Some key
-key_kept long added code key h = by (nat_le (length code) 7) refl
+key_kept : {A : Type 0} (long new : List (Vec ℕ A × ℕ)) (code : List ℕ) (key : ℕ) → KeepsLong long new
+    → key_of long code ≡ Some key → key_of new code ≡ Some key
+key_kept long new code key more h = by (nat_le (length code) 7) refl
   where
-    by_place : (o : Option ℕ) → position (λ v. same code v.items) long ≡ o → option_map (λ i. 2 ^ 63 + i) o ≡ Some key
-        → option_map (λ i. 2 ^ 63 + i) (position (λ v. same code v.items) (long ++ added)) ≡ Some key
-    by_place None t k = none-some key k
-    by_place (Some i) t k = ap (option_map (λ i. 2 ^ 63 + i))
-        (position-more (λ v. same code v.items) long added i t) ∙ k
-
-    by : (b : Bool) → nat_le (length code) 7 ≡ b → key_of (long ++ added) code ≡ Some key
+    by : (b : Bool) → nat_le (length code) 7 ≡ b → key_of new code ≡ Some key
     by true t = rw t (rw t at h)
-    by false t = rw t (by_place (position (λ v. same code v.items) long) refl (rw t at h))
+    by false t = rw t (more.keys code key (rw t at h))
 
-is_key-kept : {A : Type 0} (long added : List (Vec ℕ A)) (key : ℕ) → is_key long key ≡ true
-    → is_key (long ++ added) key ≡ true
-is_key-kept long added key h =
-    rw (code_kept long added key h, key_kept long added (coded_by long key) key (is_key-says long key h))
+is_key-kept : {A : Type 0} (long new : List (Vec ℕ A × ℕ)) (key : ℕ) → KeepsLong long new → is_key long key ≡ true
+    → is_key new key ≡ true
+is_key-kept long new key more h =
+    rw (code_kept long new key more h, key_kept long new (coded_by long key) key more (is_key-says long key h))
     (eq-eqb key key refl)
 
-pub keys_kept : {A : Type 0} (long added : List (Vec ℕ A)) (es : List (ℕ × Vec ℕ A)) → are_keys long es ≡ true
-    → are_keys (long ++ added) es ≡ true
-keys_kept long added [] h = refl
-keys_kept long added (e ∷ es) h = let p = and_parts _ _ h in
-    and_from _ _ (is_key-kept long added e.0 p.0) (keys_kept long added es p.1)
+pub keys_kept : {A : Type 0} (long new : List (Vec ℕ A × ℕ)) (es : List (ℕ × Vec ℕ A)) → KeepsLong long new
+    → are_keys long es ≡ true → are_keys new es ≡ true
+keys_kept long new [] more h = refl
+keys_kept long new (e ∷ es) more h = let p = and_parts _ _ h in
+    and_from _ _ (is_key-kept long new e.0 more p.0) (keys_kept long new es more p.1)
 
-pub codes_kept : {A : Type 0} (long added : List (Vec ℕ A)) (es : List (ℕ × Vec ℕ A)) → are_keys long es ≡ true
-    → codes_of (long ++ added) es ≡ codes_of long es
-codes_kept long added [] h = refl
-codes_kept long added (e ∷ es) h =
+pub codes_long : {A : Type 0} (long new : List (Vec ℕ A × ℕ)) (es : List (ℕ × Vec ℕ A)) → are_keys long es ≡ true
+    → KeepsLong long new → codes_of new es ≡ codes_of long es
+codes_long long new [] h more = refl
+codes_long long new (e ∷ es) h more =
     let p = and_parts _ _ h in
-    λ i. record { code = code_kept long added e.0 p.0 i; lines = e.1.items } ∷ codes_kept long added es p.1 i
+    λ i. record { code = code_kept long new e.0 more p.0 i; lines = e.1.items } ∷ codes_long long new es p.1 more i
 
 -- what the tables keep, once there are more long codes, and once a code has got one more variable
-pub kept_long : {A : Type 0} (single : List (Option ℕ)) (long new : List (Vec ℕ A)) (es : List (ℕ × Vec ℕ A))
+pub kept_long : {A : Type 0} (single : List (Option ℕ)) (long new : List (Vec ℕ A × ℕ)) (es : List (ℕ × Vec ℕ A))
     → CodesKept single long es
-    → KeepsLong long new → CodesKept single new es
-kept_long single long new es kept more =
-    subst (λ l. CodesKept single l es) (sym more.appended) (record {
-      agree = subst (λ cs. Agree single cs) (sym (codes_kept long more.added es kept.keys)) kept.agree;
-      keys = keys_kept long more.added es kept.keys;
-    })
+    → KeepsLong long new → LongKept new → CodesKept single new es
+kept_long single long new es kept more whole = record {
+  agree = subst (λ cs. Agree single cs) (sym (codes_long long new es kept.keys more)) kept.agree;
+  keys = keys_kept long new es more kept.keys;
+  apart = whole;
+}
 
-pub codes_long : {A : Type 0} (long new : List (Vec ℕ A)) (es : List (ℕ × Vec ℕ A)) → are_keys long es ≡ true
-    → KeepsLong long new
-    → codes_of new es ≡ codes_of long es
-codes_long long new es keys more = ap (λ l. codes_of l es) more.appended ∙ codes_kept long more.added es keys
-
-pub kept_declared : {A : Type 0} (single : List (Option ℕ)) (long : List (Vec ℕ A)) (es : List (ℕ × Vec ℕ A))
+pub kept_declared : {A : Type 0} (single : List (Option ℕ)) (long : List (Vec ℕ A × ℕ)) (es : List (ℕ × Vec ℕ A))
     (code line : List ℕ) (key : ℕ) (lines : Vec ℕ A) (only : Option ℕ)
     → Bytes code → key_of long code ≡ Some key → CodesKept single long es
     → lines.items ≡ lines_or_none (lines_of (codes_of long es) code) ++ line → only ≡ only_of lines.items
     → CodesKept (with_single single code only) long (insert_entry nat_eq es key lines)
 kept_declared single long es code line key lines only f h kept l only_is = record {
   agree = subst (λ cs. Agree (with_single single code only) cs)
-      (sym (inserted long code key lines line es f h kept.keys l))
+      (sym (inserted long code key lines line es f kept.apart h kept.keys l))
       (agree_more single (codes_of long es) code line lines.items only kept.agree l only_is);
-  keys = keys_inserted long key lines es (is_key-told long code key f h) kept.keys;
+  keys = keys_inserted long key lines es (is_key-told long code key f kept.apart h) kept.keys;
+  apart = kept.apart;
 }

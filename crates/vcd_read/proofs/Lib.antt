@@ -5,6 +5,7 @@ pub mod Known
 pub mod Widths
 pub mod CodeKeys
 pub mod CodeTables
+pub mod LongCodes
 pub mod Quiet
 pub mod Entries
 pub mod TokenRuns

@@ -1,12 +1,11 @@
 ghost use Rattle.std.specs.Prelude.{◌≡◌, ◌≤◌, ◌<◌, ◌+◌, ◌*◌, ◌^◌, [], ◌∷◌, ◌++◌, length, true, Some, option_map, IsSome, IfSome, IfOk, OnOk};
-ghost use Rattle.indexmap.specs.IndexSet.{contains_by};
 ghost use Rattle.vcd_grammar.specs.Codes.{lines_of, with_code};
-ghost use Rattle.vcd_grammar.specs.Words.{same};
-ghost use Rattle.vcd_read.specs.CodesView.{lines_or_none, only_of, with_single, packed, key_of, KeepsLong};
+ghost use Rattle.vcd_read.specs.CodesView.{lines_or_none, only_of, with_single, packed, key_of, LongKept, KeepsLong};
 
-use indexmap::{IndexMap, IndexSet};
 use std::alloc::{AllocError, Global};
+use std::collections::BTreeMap;
 use std::marker::Model;
+use steady_map::SteadyMap;
 
 /// A code of more bytes is kept as it is, and another one as a number.
 const SHORT: usize = 7;
@@ -20,10 +19,10 @@ pub(crate) struct Codes {
     alloc: Global,
     /// The line of a code that is this one byte, where it has exactly one.
     single: [Option<u8>; 128],
-    /// The long codes.
-    long: IndexSet<Vec<u8>>,
+    /// The key of each long code, in a tree: no choice of codes makes a search in it long.
+    long: BTreeMap<Vec<u8>, u64>,
     /// The lines of each code, by its key.
-    all: IndexMap<u64, Vec<u8>>,
+    all: SteadyMap<Vec<u8>>,
 }
 
 impl Model for Codes {
@@ -33,9 +32,9 @@ impl Model for Codes {
 
     ghost Value = { List Code };
 
-    ghost view = { λ c. codes_of c.long.keys c.all.entries };
+    ghost view = { λ c. codes_of c.long.entries c.all.entries };
 
-    ghost invariant = { λ c. CodesKept c.single c.long.keys c.all.entries };
+    ghost invariant = { λ c. CodesKept c.single c.long.entries c.all.entries };
 }
 
 impl Codes {
@@ -46,8 +45,8 @@ impl Codes {
         Codes {
             alloc,
             single: [None; 128],
-            long: IndexSet::new(alloc),
-            all: IndexMap::new(alloc),
+            long: BTreeMap::new(alloc),
+            all: SteadyMap::new(alloc),
         }
     }
 
@@ -69,7 +68,7 @@ impl Codes {
         ensures { option_map (λ lines. lines.now) result ≡ lines_of self.now code.now }
     {
         let key = key_of(&self.long, code)?;
-        match self.all.get(&key) {
+        match self.all.get(key) {
             Some(lines) => Some(lines.as_slice()),
             None => None,
         }
@@ -116,30 +115,33 @@ fn packed(code: &[u8]) -> u64
 }
 
 /// The key of a code, where it was declared or may be.
-fn key_of(long: &IndexSet<Vec<u8>>, code: &[u8]) -> Option<u64>
-    ensures key { result ≡ key_of long.now.keys code.now }
-    ensures found { contains_by (λ v. same code.now v.items) long.now ≡ true → IsSome result }
+fn key_of(long: &BTreeMap<Vec<u8>, u64>, code: &[u8]) -> Option<u64>
+    ensures { result ≡ key_of long.now.entries code.now }
 {
     if code.len() <= SHORT {
         return Some(packed(code));
     }
-    match long.get_index_of(code) {
-        Some(place) if place < long.len() => Some(LONG + place as u64),
-        _ => None,
-    }
+    long.get(code).copied()
 }
 
 /// The key of a code, which is put among the long ones if it is one.
-fn key_for(long: &mut IndexSet<Vec<u8>>, alloc: Global, code: &[u8]) -> Result<u64, AllocError>
-    ensures key { IfOk result (λ key. key_of long.new.keys code.now ≡ Some key) }
-    ensures long { KeepsLong long.old.keys long.new.keys }
+fn key_for(
+    long: &mut BTreeMap<Vec<u8>, u64>,
+    alloc: Global,
+    code: &[u8],
+) -> Result<u64, AllocError>
+    requires { LongKept long.old.entries }
+    ensures key { IfOk result (λ key. key_of long.new.entries code.now ≡ Some key) }
+    ensures long { KeepsLong long.old.entries long.new.entries }
+    ensures kept { LongKept long.new.entries }
 {
-    if code.len() <= SHORT {
-        return Ok(packed(code));
+    if let Some(key) = key_of(long, code) {
+        return Ok(key);
     }
+    let key = LONG + long.len() as u64;
     let word = copy_of(alloc, code)?;
-    long.insert(word)?;
-    Ok(key_of(long, code).unwrap())
+    long.insert(word, key)?;
+    Ok(key)
 }
 
 /// The same bytes.
