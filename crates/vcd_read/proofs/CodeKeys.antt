@@ -1,20 +1,21 @@
 -- The keys of the declared codes in their map.
 use Rattle.std.proofs.Common.{◌≡◌, ℕ, ◌+◌, ◌*◌, ◌/◌, ◌%◌, ◌^◌, ◌<◌, ◌≤◌, Bool, true, false, List, [], ◌∷◌}
-use Rattle.std.proofs.Common.{◌++◌, length, drop, ◌==◌, Option, Some, None, option_map, unwrap_or}
+use Rattle.std.proofs.Common.{◌++◌, length, length-append, drop, ◌==◌, Option, Some, None, option_map, unwrap_or, slice_get}
 use Rattle.std.proofs.Common.{get_or, nat_eq, nat_le, nat_lt, Fits, w8, refl, sym, ap, subst, ◌∙◌, arith, suc}
 use Rattle.std.proofs.Common.{zero, Vec}
 use Rattle.std.specs.Cmp.Lexicographic.{same_text, nat_list_eq_equiv}
 use Rattle.std.specs.Map.{lookup}
+use Rattle.std.specs.Option.{option_map_or}
 use Rattle.std.proofs.Math.Nat.{add-mul-mod_self_left, add-mul-div_left, mod-eq_of_lt, div-eq_of_lt, pow-le-pow_right}
 use Rattle.std.proofs.lemmas.Nat.{pow-add}
 use Rattle.std.proofs.lemmas.Bool.{ne_eqb, eq-eqb, eqb-true, and_parts, and_from, leb-true, ltb-false, lt-ltb}
-use Rattle.std.proofs.lemmas.Bool.{le-ltb, false≢true}
+use Rattle.std.proofs.lemmas.Bool.{le-ltb, le-leb, false≢true}
 use Rattle.std.proofs.lemmas.List.{drop_more, length-drop, get_or-drop}
 use Rattle.indexmap.specs.IndexMap.{insert_entry}
 use Rattle.vcd_grammar.specs.Words.{same}
 use Rattle.vcd_grammar.specs.Codes.{lines_of, with_code}
-use Rattle.vcd_read.specs.CodesView.{Agree, CodesKept, LongKept, KeepsLong, only_of, with_single, packed, unpacked}
-use Rattle.vcd_read.specs.CodesView.{key_of, word_at, coded_by, is_key, codes_of, are_keys, lines_or_none}
+use Rattle.vcd_read.specs.CodesView.{Agree, CodesKept, LongKept, KeepsLong, KeepsGroups, only_of, with_single, packed}
+use Rattle.vcd_read.specs.CodesView.{unpacked, are_places, lines_at, key_of, word_at, coded_by, is_key, codes_of, are_keys, lines_or_none}
 use Rattle.vcd_read.proofs.CodeTables.{agree_more}
 
 -- the bytes of a slice
@@ -135,55 +136,55 @@ no_key long code other h k = by (same code (coded_by long other)) refl
     by false t = t
 
 -- what the map finds are the lines of the code
-pub found : {A : Type 0} (long : List (Vec ℕ A × ℕ)) (code : List ℕ) (key : ℕ) (es : List (ℕ × Vec ℕ A))
+pub found : {A V : Type 0} (long : List (Vec ℕ A × ℕ)) (at : V → List ℕ) (code : List ℕ) (key : ℕ) (es : List (ℕ × V))
     → Bytes code → LongKept long → key_of long code ≡ Some key
     → are_keys long es ≡ true
-    → option_map (λ v. v.items) (lookup (λ k. nat_eq key k) es) ≡ lines_of (codes_of long es) code
-found long code key [] f kept h keys = refl
-found long code key (e ∷ es) f kept h keys =
+    → option_map at (lookup (λ k. nat_eq key k) es) ≡ lines_of (codes_of long at es) code
+found long at code key [] f kept h keys = refl
+found long at code key (e ∷ es) f kept h keys =
     let p = and_parts _ _ keys in
     let one = same_key long code key e.0 f kept h p.0 in
-    by (same code (coded_by long e.0)) refl (one) (found long code key es f kept h p.1)
+    by (same code (coded_by long e.0)) refl (one) (found long at code key es f kept h p.1)
   where
     by : (b : Bool) → same code (coded_by long e.0) ≡ b → (key == e.0) ≡ same code (coded_by long e.0)
-        → option_map (λ v. v.items) (lookup (λ k. nat_eq key k) es) ≡ lines_of (codes_of long es) code
-        → option_map (λ v. v.items) (lookup (λ k. nat_eq key k) (e ∷ es)) ≡ lines_of (codes_of long (e ∷ es)) code
+        → option_map at (lookup (λ k. nat_eq key k) es) ≡ lines_of (codes_of long at es) code
+        → option_map at (lookup (λ k. nat_eq key k) (e ∷ es)) ≡ lines_of (codes_of long at (e ∷ es)) code
     by true t one rest = rw (one, t) refl
     by false t one rest = rw (one, t) rest
 
-pub not_found : {A : Type 0} (long : List (Vec ℕ A × ℕ)) (code : List ℕ) (es : List (ℕ × Vec ℕ A))
+pub not_found : {A V : Type 0} (long : List (Vec ℕ A × ℕ)) (at : V → List ℕ) (code : List ℕ) (es : List (ℕ × V))
     → key_of long code ≡ None → are_keys long es ≡ true
-    → lines_of (codes_of long es) code ≡ None
-not_found long code [] h keys = refl
-not_found long code (e ∷ es) h keys = let p = and_parts _ _ keys in
-    rw (no_key long code e.0 h p.0) (not_found long code es h p.1)
+    → lines_of (codes_of long at es) code ≡ None
+not_found long at code [] h keys = refl
+not_found long at code (e ∷ es) h keys = let p = and_parts _ _ keys in
+    rw (no_key long code e.0 h p.0) (not_found long at code es h p.1)
 
 -- the entries of the map, once the code has got the lines that it had and one more variable's
-pub inserted : {A : Type 0} (long : List (Vec ℕ A × ℕ)) (code : List ℕ) (key : ℕ) (lines : Vec ℕ A) (line : List ℕ)
-    (es : List (ℕ × Vec ℕ A)) → Bytes code → LongKept long
+pub inserted : {A V : Type 0} (long : List (Vec ℕ A × ℕ)) (at : V → List ℕ) (code : List ℕ) (key : ℕ) (lines : V)
+    (line : List ℕ) (es : List (ℕ × V)) → Bytes code → LongKept long
     → key_of long code ≡ Some key → are_keys long es ≡ true
-    → lines.items ≡ lines_or_none (lines_of (codes_of long es) code) ++ line
-    → codes_of long (insert_entry nat_eq es key lines) ≡ with_code (codes_of long es) code line
-inserted long code key lines line [] f kept h keys l = λ i. record { code = key_code long code key f kept h i; lines = l i } ∷ []
-inserted {A} long code key lines line (e ∷ es) f kept h keys l =
+    → at lines ≡ lines_or_none (lines_of (codes_of long at es) code) ++ line
+    → codes_of long at (insert_entry nat_eq es key lines) ≡ with_code (codes_of long at es) code line
+inserted long at code key lines line [] f kept h keys l = λ i. record { code = key_code long code key f kept h i; lines = l i } ∷ []
+inserted {A} {V} long at code key lines line (e ∷ es) f kept h keys l =
     let p = and_parts _ _ keys in
     by (same code (coded_by long e.0)) refl (same_key long code key e.0 f kept h p.0)
-    (λ k. inserted long code key lines line es f kept h p.1 k)
+    (λ k. inserted long at code key lines line es f kept h p.1 k)
   where
     by : (b : Bool) → same code (coded_by long e.0) ≡ b → (key == e.0) ≡ same code (coded_by long e.0)
-        → (lines.items ≡ lines_or_none (lines_of (codes_of long es) code) ++ line
-        → codes_of long (insert_entry nat_eq es key lines) ≡ with_code (codes_of long es) code line)
-        → codes_of long (insert_entry nat_eq (e ∷ es) key lines) ≡ with_code (codes_of long (e ∷ es)) code line
+        → (at lines ≡ lines_or_none (lines_of (codes_of long at es) code) ++ line
+        → codes_of long at (insert_entry nat_eq es key lines) ≡ with_code (codes_of long at es) code line)
+        → codes_of long at (insert_entry nat_eq (e ∷ es) key lines) ≡ with_code (codes_of long at (e ∷ es)) code line
     by true t one rest = rw (one, t) (let k = rw t at l in
-        λ i. record { code = coded_by long e.0; lines = k i } ∷ codes_of long es)
+        λ i. record { code = coded_by long e.0; lines = k i } ∷ codes_of long at es)
     by false t one rest =
-        rw (one, t) (ap (λ cs. record { code = coded_by long e.0; lines = e.1.items } ∷ cs) (rest (rw t at l)))
+        rw (one, t) (ap (λ cs. record { code = coded_by long e.0; lines = at e.1 } ∷ cs) (rest (rw t at l)))
 
-pub keys_inserted : {A : Type 0} (long : List (Vec ℕ A × ℕ)) (key : ℕ) (lines : Vec ℕ A) (es : List (ℕ × Vec ℕ A))
+pub keys_inserted : {A V : Type 0} (long : List (Vec ℕ A × ℕ)) (key : ℕ) (lines : V) (es : List (ℕ × V))
     → is_key long key ≡ true
     → are_keys long es ≡ true → are_keys long (insert_entry nat_eq es key lines) ≡ true
 keys_inserted long key lines [] one keys = and_from _ _ one refl
-keys_inserted {A} long key lines (e ∷ es) one keys = let p = and_parts _ _ keys in
+keys_inserted {A} {V} long key lines (e ∷ es) one keys = let p = and_parts _ _ keys in
     by (key == e.0) refl p.0 (keys_inserted long key lines es one p.1) p.1
   where
     by : (b : Bool) → (key == e.0) ≡ b → is_key long e.0 ≡ true
@@ -223,38 +224,128 @@ is_key-kept long new key more h =
     rw (code_kept long new key more h, key_kept long new (coded_by long key) key more (is_key-says long key h))
     (eq-eqb key key refl)
 
-pub keys_kept : {A : Type 0} (long new : List (Vec ℕ A × ℕ)) (es : List (ℕ × Vec ℕ A)) → KeepsLong long new
+pub keys_kept : {A V : Type 0} (long new : List (Vec ℕ A × ℕ)) (es : List (ℕ × V)) → KeepsLong long new
     → are_keys long es ≡ true → are_keys new es ≡ true
 keys_kept long new [] more h = refl
 keys_kept long new (e ∷ es) more h = let p = and_parts _ _ h in
     and_from _ _ (is_key-kept long new e.0 more p.0) (keys_kept long new es more p.1)
 
-pub codes_long : {A : Type 0} (long new : List (Vec ℕ A × ℕ)) (es : List (ℕ × Vec ℕ A)) → are_keys long es ≡ true
-    → KeepsLong long new → codes_of new es ≡ codes_of long es
-codes_long long new [] h more = refl
-codes_long long new (e ∷ es) h more =
+pub codes_long : {A V : Type 0} (long new : List (Vec ℕ A × ℕ)) (at : V → List ℕ) (es : List (ℕ × V)) → are_keys long es ≡ true
+    → KeepsLong long new → codes_of new at es ≡ codes_of long at es
+codes_long long new at [] h more = refl
+codes_long long new at (e ∷ es) h more =
     let p = and_parts _ _ h in
-    λ i. record { code = code_kept long new e.0 more p.0 i; lines = e.1.items } ∷ codes_long long new es p.1 more i
+    λ i. record { code = code_kept long new e.0 more p.0 i; lines = at e.1 } ∷ codes_long long new at es p.1 more i
 
--- what the tables keep, once there are more long codes, and once a code has got one more variable
-pub kept_long : {A : Type 0} (single : List (Option ℕ)) (long new : List (Vec ℕ A × ℕ)) (es : List (ℕ × Vec ℕ A))
-    → CodesKept single long es
-    → KeepsLong long new → LongKept new → CodesKept single new es
-kept_long single long new es kept more whole = record {
-  agree = subst (λ cs. Agree single cs) (sym (codes_long long new es kept.keys more)) kept.agree;
+-- more groups change nothing of the places before
+get-more : {X : Type 0} (xs ys : List X) (i : ℕ) → i < length xs → slice_get (xs ++ ys) i ≡ slice_get xs i
+get-more [] ys i h = absurd (omega (arith, h))
+get-more (x ∷ xs) ys zero h = refl
+get-more (x ∷ xs) ys (suc i) h = get-more xs ys i (omega (arith, h))
+
+lines_kept : {A : Type 0} (groups added : List (Vec ℕ A)) (place : ℕ) → place ≤ length groups
+    → lines_at (groups ++ added) place ≡ lines_at groups place
+lines_kept groups added zero h = refl
+lines_kept groups added (suc place) h =
+    ap (λ o. option_map_or (λ v. v.items) o []) (get-more groups added place (omega (arith, h)))
+
+codes_grown : {A : Type 0} (long : List (Vec ℕ A × ℕ)) (groups added : List (Vec ℕ A)) (es : List (ℕ × ℕ))
+    → are_places groups es ≡ true
+    → codes_of long (lines_at (groups ++ added)) es ≡ codes_of long (lines_at groups) es
+codes_grown long groups added [] h = refl
+codes_grown long groups added (e ∷ es) h =
+    let p = and_parts (nat_le e.1 (length groups)) (are_places groups es) h in
+    λ i. record { code = coded_by long e.0; lines = lines_kept groups added e.1 (leb-true e.1 (length groups) p.0) i }
+        ∷ codes_grown long groups added es p.1 i
+
+places_grown : {A : Type 0} (groups added : List (Vec ℕ A)) (es : List (ℕ × ℕ)) → are_places groups es ≡ true
+    → are_places (groups ++ added) es ≡ true
+places_grown groups added [] h = refl
+places_grown groups added (e ∷ es) h =
+    let p = and_parts (nat_le e.1 (length groups)) (are_places groups es) h in
+    and_from _ _ (le-leb e.1 (length (groups ++ added))
+    (omega (arith, leb-true e.1 (length groups) p.0, length-append groups added)))
+    (places_grown groups added es p.1)
+
+places_inserted : {A : Type 0} (groups : List (Vec ℕ A)) (key place : ℕ) (es : List (ℕ × ℕ)) → place ≤ length groups
+    → are_places groups es ≡ true → are_places groups (insert_entry nat_eq es key place) ≡ true
+places_inserted groups key place [] within h = and_from _ _ (le-leb place (length groups) within) refl
+places_inserted {A} groups key place (e ∷ es) within h =
+    let p = and_parts (nat_le e.1 (length groups)) (are_places groups es) h in
+    by (key == e.0) refl p.0 p.1 (places_inserted groups key place es within p.1)
+  where
+    by : (b : Bool) → (key == e.0) ≡ b → nat_le e.1 (length groups) ≡ true → are_places groups es ≡ true
+        → are_places groups (insert_entry nat_eq es key place) ≡ true
+        → are_places groups (insert_entry nat_eq (e ∷ es) key place) ≡ true
+    by true t first others rest = rw t (and_from _ _ (le-leb place (length groups) within) others)
+    by false t first others rest = rw t (and_from _ _ first rest)
+
+-- the place that a map finds is one
+pub place_found : {A : Type 0} (groups : List (Vec ℕ A)) (key : ℕ) (es : List (ℕ × ℕ)) → are_places groups es ≡ true
+    → unwrap_or (lookup (λ k. nat_eq key k) es) 0 ≤ length groups
+place_found groups key [] h = omega arith
+place_found groups key (e ∷ es) h =
+    let p = and_parts (nat_le e.1 (length groups)) (are_places groups es) h in
+    by (key == e.0) refl p.0 (place_found groups key es p.1)
+  where
+    by : (b : Bool) → (key == e.0) ≡ b → nat_le e.1 (length groups) ≡ true
+        → unwrap_or (lookup (λ k. nat_eq key k) es) 0 ≤ length groups
+        → unwrap_or (lookup (λ k. nat_eq key k) (e ∷ es)) 0 ≤ length groups
+    by true t first rest = rw t (leb-true e.1 (length groups) first)
+    by false t first rest = rw t rest
+
+-- the lines at it are those of the code
+pub lines_found : {A : Type 0} (long : List (Vec ℕ A × ℕ)) (groups : List (Vec ℕ A)) (code : List ℕ) (key : ℕ)
+    (es : List (ℕ × ℕ)) → Bytes code → LongKept long → key_of long code ≡ Some key → are_keys long es ≡ true
+    → lines_at groups (unwrap_or (lookup (λ k. nat_eq key k) es) 0)
+    ≡ lines_or_none (lines_of (codes_of long (lines_at groups) es) code)
+lines_found long groups code key es f kept h keys =
+    by (lookup (λ k. nat_eq key k) es)
+    ∙ ap lines_or_none (found long (lines_at groups) code key es f kept h keys)
+  where
+    by : (o : Option ℕ) → lines_at groups (unwrap_or o 0) ≡ lines_or_none (option_map (lines_at groups) o)
+    by None = refl
+    by (Some place) = refl
+
+-- what the tables keep, once there are more long codes, more groups, and once a code has got one more variable
+pub kept_long : {A : Type 0} (single : List (Option ℕ)) (long new : List (Vec ℕ A × ℕ)) (groups : List (Vec ℕ A))
+    (es : List (ℕ × ℕ)) → CodesKept single long groups es → KeepsLong long new → LongKept new
+    → CodesKept single new groups es
+kept_long single long new groups es kept more whole = record {
+  agree = subst (λ cs. Agree single cs) (sym (codes_long long new (lines_at groups) es kept.keys more)) kept.agree;
   keys = keys_kept long new es more kept.keys;
   apart = whole;
+  places = kept.places;
 }
 
-pub kept_declared : {A : Type 0} (single : List (Option ℕ)) (long : List (Vec ℕ A × ℕ)) (es : List (ℕ × Vec ℕ A))
-    (code line : List ℕ) (key : ℕ) (lines : Vec ℕ A) (only : Option ℕ)
-    → Bytes code → key_of long code ≡ Some key → CodesKept single long es
-    → lines.items ≡ lines_or_none (lines_of (codes_of long es) code) ++ line → only ≡ only_of lines.items
-    → CodesKept (with_single single code only) long (insert_entry nat_eq es key lines)
-kept_declared single long es code line key lines only f h kept l only_is = record {
-  agree = subst (λ cs. Agree (with_single single code only) cs)
-      (sym (inserted long code key lines line es f kept.apart h kept.keys l))
-      (agree_more single (codes_of long es) code line lines.items only kept.agree l only_is);
-  keys = keys_inserted long key lines es (is_key-told long code key f kept.apart h) kept.keys;
-  apart = kept.apart;
-}
+pub kept_grown : {A : Type 0} (single : List (Option ℕ)) (long : List (Vec ℕ A × ℕ)) (groups new : List (Vec ℕ A))
+    (es : List (ℕ × ℕ)) → CodesKept single long groups es → KeepsGroups groups new → CodesKept single long new es
+kept_grown single long groups new es kept more =
+    subst (λ gs. CodesKept single long gs es) (sym more.appended) (record {
+      agree = subst (λ cs. Agree single cs) (sym (codes_grown long groups more.added es kept.places)) kept.agree;
+      keys = kept.keys;
+      apart = kept.apart;
+      places = places_grown groups more.added es kept.places;
+    })
+
+pub codes_same : {A : Type 0} (long : List (Vec ℕ A × ℕ)) (groups new : List (Vec ℕ A)) (es : List (ℕ × ℕ))
+    → are_places groups es ≡ true → KeepsGroups groups new
+    → codes_of long (lines_at new) es ≡ codes_of long (lines_at groups) es
+codes_same long groups new es places more =
+    ap (λ gs. codes_of long (lines_at gs) es) more.appended ∙ codes_grown long groups more.added es places
+
+pub kept_declared : {A : Type 0} (single : List (Option ℕ)) (long : List (Vec ℕ A × ℕ)) (groups : List (Vec ℕ A))
+    (es : List (ℕ × ℕ)) (code line : List ℕ) (key place : ℕ) (only : Option ℕ)
+    → Bytes code → key_of long code ≡ Some key → CodesKept single long groups es → place ≤ length groups
+    → lines_at groups place ≡ lines_or_none (lines_of (codes_of long (lines_at groups) es) code) ++ line
+    → only ≡ only_of (lines_at groups place)
+    → CodesKept (with_single single code only) long groups (insert_entry nat_eq es key place)
+kept_declared single long groups es code line key place only f h kept within l only_is =
+    let at = lines_at groups in record {
+      agree = subst (λ cs. Agree (with_single single code only) cs)
+          (sym (inserted long at code key place line es f kept.apart h kept.keys l))
+          (agree_more single (codes_of long at es) code line (at place) only kept.agree l only_is);
+      keys = keys_inserted long key place es (is_key-told long code key f kept.apart h) kept.keys;
+      apart = kept.apart;
+      places = places_inserted groups key place es within kept.places;
+    }

@@ -1,5 +1,5 @@
 -- The declared codes, as the reader's map has them.
-use Rattle.std.specs.Prelude.{◌≡◌, ℕ, ◌≤◌, ◌<◌, ◌+◌, ◌*◌, ◌/◌, ◌%◌, ◌^◌, Bool, true, false, nat_le, nat_lt, List, [], ◌∷◌, Option, Some, None, unwrap_or, slice_get, slice_set, slice_index, map, length, ◌==◌, if◌then◌else◌, Vec, suc, zero}
+use Rattle.std.specs.Prelude.{◌≡◌, ℕ, ◌≤◌, ◌<◌, ◌+◌, ◌*◌, ◌/◌, ◌%◌, ◌^◌, Bool, true, false, nat_le, nat_lt, List, [], ◌∷◌, ◌++◌, Option, Some, None, unwrap_or, slice_get, slice_set, slice_index, map, length, ◌==◌, if◌then◌else◌, Vec, suc, zero}
 use Rattle.std.specs.List.{list_all}
 use Rattle.std.specs.Option.{option_map_or}
 use Rattle.std.specs.Map.{lookup}
@@ -39,12 +39,22 @@ coded_by long key = if nat_lt key (2 ^ 63) then unpacked 7 key else unwrap_or (w
 abbrev pub is_key : {A : Type 0} → List (Vec ℕ A × ℕ) → ℕ → Bool
 is_key long key = option_map_or (λ k. k == key) (key_of long (coded_by long key)) false
 
--- the codes of a map's entries
-abbrev pub codes_of : {A : Type 0} → List (Vec ℕ A × ℕ) → List (ℕ × Vec ℕ A) → List Code
-codes_of long entries = map (λ e. record { code = coded_by long e.0; lines = e.1.items }) entries
+-- the codes of a map's entries, by what says which lines stand for a value
+abbrev pub codes_of : {A V : Type 0} → List (Vec ℕ A × ℕ) → (V → List ℕ) → List (ℕ × V) → List Code
+codes_of long lines entries = map (λ e. record { code = coded_by long e.0; lines = lines e.1 }) entries
+
+-- the lines at a place among the groups: there are none at 0, and those of the first group at 1
+abbrev pub lines_at : {A : Type 0} → List (Vec ℕ A) → ℕ → List ℕ
+lines_at groups zero = []
+lines_at groups (suc place) = option_map_or (λ v. v.items) (slice_get groups place) []
+
+-- groups stay where they are
+pub record KeepsGroups {A : Type 0} (old new : List (Vec ℕ A)) : Type 0 where
+  pub added : List (Vec ℕ A)
+  pub appended : new ≡ old ++ added
 
 -- each key of a map is one
-abbrev pub are_keys : {A : Type 0} → List (Vec ℕ A × ℕ) → List (ℕ × Vec ℕ A) → Bool
+abbrev pub are_keys : {A V : Type 0} → List (Vec ℕ A × ℕ) → List (ℕ × V) → Bool
 are_keys long entries = list_all (λ e. is_key long e.0) entries
 
 -- a table of the codes of one byte tells a line only where the code has that line alone
@@ -56,12 +66,18 @@ pub record LongKept {A : Type 0} (long : List (Vec ℕ A × ℕ)) : Type 0 where
   pub told : (code : List ℕ) (key : ℕ) → key_at long code ≡ Some key → word_at long key ≡ Some code
   pub within : (key : ℕ) (word : List ℕ) → word_at long key ≡ Some word → (2 ^ 63 ≤ key) × (key < 2 ^ 63 + length long)
 
--- what the tables of the declared codes keep: the one of the codes of one byte tells what is so, and each key is one
-pub record CodesKept {A : Type 0} (single : List (Option ℕ)) (long : List (Vec ℕ A × ℕ)) (entries : List (ℕ × Vec ℕ A))
-    : Type 0 where
-  pub agree : Agree single (codes_of long entries)
+-- each value of a map is the place of a group, or 0
+abbrev pub are_places : {A : Type 0} → List (Vec ℕ A) → List (ℕ × ℕ) → Bool
+are_places groups entries = list_all (λ e. nat_le e.1 (length groups)) entries
+
+-- what the tables of the declared codes keep: the one of the codes of one byte tells what is so, each key is one, and
+-- each value is a place
+pub record CodesKept {A : Type 0} (single : List (Option ℕ)) (long : List (Vec ℕ A × ℕ)) (groups : List (Vec ℕ A))
+    (entries : List (ℕ × ℕ)) : Type 0 where
+  pub agree : Agree single (codes_of long (lines_at groups) entries)
   pub keys : are_keys long entries ≡ true
   pub apart : LongKept long
+  pub places : are_places groups entries ≡ true
 
 -- long codes keep their keys
 pub record KeepsLong {A : Type 0} (old new : List (Vec ℕ A × ℕ)) : Type 0 where

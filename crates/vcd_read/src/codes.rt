@@ -1,6 +1,6 @@
-ghost use Rattle.std.specs.Prelude.{◌≡◌, ◌≤◌, ◌<◌, ◌+◌, ◌*◌, ◌^◌, [], ◌∷◌, ◌++◌, length, true, Some, option_map, IsSome, IfSome, IfOk, OnOk};
+ghost use Rattle.std.specs.Prelude.{◌≡◌, ◌≤◌, [], ◌∷◌, ◌++◌, length, Some, option_map, IfSome, IfOk, OnOk};
 ghost use Rattle.vcd_grammar.specs.Codes.{lines_of, with_code};
-ghost use Rattle.vcd_read.specs.CodesView.{lines_or_none, only_of, with_single, packed, key_of, LongKept, KeepsLong};
+ghost use Rattle.vcd_read.specs.CodesView.{only_of, with_single, packed, key_of, lines_at, LongKept, KeepsLong, KeepsGroups};
 
 use std::alloc::{AllocError, Global};
 use std::collections::BTreeMap;
@@ -21,20 +21,22 @@ pub(crate) struct Codes {
     single: [Option<u8>; 128],
     /// The key of each long code, in a tree: no choice of codes makes a search in it long.
     long: BTreeMap<Vec<u8>, u64>,
-    /// The lines of each code, by its key.
-    all: SteadyMap<Vec<u8>>,
+    /// The place of each code's lines among the groups, by its key: one more than their index, and 0 where it has none.
+    all: SteadyMap<usize>,
+    /// The lines that have one code, whenever there was one more.
+    groups: Vec<Vec<u8>>,
 }
 
 impl Model for Codes {
     ghost use Rattle.std.specs.Prelude.{List};
     ghost use Rattle.vcd_grammar.specs.Codes.{Code};
-    ghost use Rattle.vcd_read.specs.CodesView.{codes_of, CodesKept};
+    ghost use Rattle.vcd_read.specs.CodesView.{codes_of, lines_at, CodesKept};
 
     ghost Value = { List Code };
 
-    ghost view = { λ c. codes_of c.long.entries c.all.entries };
+    ghost view = { λ c. codes_of c.long.entries (lines_at c.groups.items) c.all.entries };
 
-    ghost invariant = { λ c. CodesKept c.single c.long.entries c.all.entries };
+    ghost invariant = { λ c. CodesKept c.single c.long.entries c.groups.items c.all.entries };
 }
 
 impl Codes {
@@ -47,6 +49,7 @@ impl Codes {
             single: [None; 128],
             long: BTreeMap::new(alloc),
             all: SteadyMap::new(alloc),
+            groups: Vec::new(alloc),
         }
     }
 
@@ -68,36 +71,54 @@ impl Codes {
         ensures { option_map (λ lines. lines.now) result ≡ lines_of self.now code.now }
     {
         let key = key_of(&self.long, code)?;
-        match self.all.get(key) {
-            Some(lines) => Some(lines.as_slice()),
-            None => None,
-        }
-    }
-
-    /// The lines of the code, if it was declared, and one more variable's.
-    fn joined(&self, code: &[u8], line: &[u8]) -> Result<Vec<u8>, AllocError>
-        ensures { IfOk result (λ lines.
-            lines.items ≡ lines_or_none (lines_of self.now code.now) ++ line.now) }
-    {
-        let mut lines = match self.lines(code) {
-            Some(lines) => copy_of(self.alloc, lines)?,
-            None => Vec::new(self.alloc),
-        };
-        lines.extend_from_slice(line)?;
-        Ok(lines)
+        let place = self.all.get(key)?;
+        Some(lines_at(self.groups.as_slice(), *place))
     }
 
     /// Adds a variable's code, and its line if it is one.
     pub(crate) fn declare(&mut self, code: &[u8], line: &[u8]) -> Result<(), AllocError>
         ensures { OnOk result (self.new ≡ with_code self.old code.now line.now) }
     {
-        let lines = self.joined(code, line)?;
-        let only = only_of(lines.as_slice());
         let key = key_for(&mut self.long, self.alloc, code)?;
-        self.all.insert(key, lines)?;
+        let before = self.all.get(key).copied().unwrap_or(0);
+        let place = joined(&mut self.groups, self.alloc, before, line)?;
+        self.all.insert(key, place)?;
+        let only = only_of(lines_at(self.groups.as_slice(), place));
         set_single(&mut self.single, code, only);
         Ok(())
     }
+}
+
+/// The lines at a place.
+fn lines_at(groups: &[Vec<u8>], place: usize) -> &[u8]
+    ensures { result.now ≡ lines_at groups.now place }
+{
+    if place == 0 || groups.len() < place {
+        return &[];
+    }
+    groups[place - 1].as_slice()
+}
+
+/// The place of the lines at a place and one more variable's.
+fn joined(
+    groups: &mut Vec<Vec<u8>>,
+    alloc: Global,
+    place: usize,
+    line: &[u8],
+) -> Result<usize, AllocError>
+    requires { place ≤ length groups.old.items }
+    ensures lines { IfOk result (λ new.
+        lines_at groups.new.items new ≡ lines_at groups.old.items place ++ line.now) }
+    ensures within { IfOk result (λ new. new ≤ length groups.new.items) }
+    ensures kept { KeepsGroups groups.old.items groups.new.items }
+{
+    if line.is_empty() {
+        return Ok(place);
+    }
+    let mut lines = copy_of(alloc, lines_at(groups.as_slice(), place))?;
+    lines.extend_from_slice(line)?;
+    groups.push(lines)?;
+    Ok(groups.len())
 }
 
 /// A code as a number.
