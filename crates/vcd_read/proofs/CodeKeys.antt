@@ -256,7 +256,7 @@ codes_grown long groups added [] h = refl
 codes_grown long groups added (e ∷ es) h =
     let p = and_parts (nat_le e.1 (length groups)) (are_places groups es) h in
     λ i. record { code = coded_by long e.0; lines = lines_kept groups added e.1 (leb-true e.1 (length groups) p.0) i }
-        ∷ codes_grown long groups added es p.1 i
+    ∷ codes_grown long groups added es p.1 i
 
 places_grown : {A : Type 0} (groups added : List (Vec ℕ A)) (es : List (ℕ × ℕ)) → are_places groups es ≡ true
     → are_places (groups ++ added) es ≡ true

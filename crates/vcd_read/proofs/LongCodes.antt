@@ -107,7 +107,7 @@ module _ {A : Type 0} where
       by Greater o rest = rw o (ap suc (rest (rw o at absent)))
 
   pub kept_none : (es : List (Vec ℕ A × ℕ)) → es ≡ [] → LongKept es
-  kept_none es h = subst LongKept (sym h) (record { told = λ code key k. none-some key k; within = λ key w k. none-some w k; })
+  kept_none es h = subst LongKept (sym h) (record { told = λ code key k. none-some key k; within = λ key w k. none-some w k })
 
   -- a code without a key is not among the long ones
   pub absent_of : (es : List (Vec ℕ A × ℕ)) (code word : List ℕ) → key_of es code ≡ None → word ≡ code
@@ -130,7 +130,7 @@ module _ {A : Type 0} where
   pub kept_put :
       (es : List (Vec ℕ A × ℕ)) (word : Vec ℕ A) → LongKept es → key_at es word.items ≡ None
       → LongKept (insert_entry by_bytes es word (2 ^ 63 + length es))
-  kept_put es word kept absent = record { told = told; within = within; }
+  kept_put es word kept absent = record { told = told; within = within }
     where
       new : ℕ
       new = 2 ^ 63 + length es
@@ -175,7 +175,7 @@ module _ {A : Type 0} where
   pub keeps_put :
       (es : List (Vec ℕ A × ℕ)) (word : Vec ℕ A) → LongKept es → key_at es word.items ≡ None
       → KeepsLong es (insert_entry by_bytes es word (2 ^ 63 + length es))
-  keeps_put es word kept absent = record { keys = keys; words = words; }
+  keeps_put es word kept absent = record { keys = keys; words = words }
     where
       new : ℕ
       new = 2 ^ 63 + length es
@@ -202,4 +202,4 @@ module _ {A : Type 0} where
 
   -- the same codes keep their keys
   pub keeps_same : (old new : List (Vec ℕ A × ℕ)) → new ≡ old → KeepsLong old new
-  keeps_same old new h = subst (λ es. KeepsLong old es) (sym h) (record { keys = λ code key k. k; words = λ key w k. k; })
+  keeps_same old new h = subst (λ es. KeepsLong old es) (sym h) (record { keys = λ code key k. k; words = λ key w k. k })

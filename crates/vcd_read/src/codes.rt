@@ -146,11 +146,7 @@ fn key_of(long: &BTreeMap<Vec<u8>, u64>, code: &[u8]) -> Option<u64>
 }
 
 /// The key of a code, which is put among the long ones if it is one.
-fn key_for(
-    long: &mut BTreeMap<Vec<u8>, u64>,
-    alloc: Global,
-    code: &[u8],
-) -> Result<u64, AllocError>
+fn key_for(long: &mut BTreeMap<Vec<u8>, u64>, alloc: Global, code: &[u8]) -> Result<u64, AllocError>
     requires { LongKept long.old.entries }
     ensures key { IfOk result (λ key. key_of long.new.entries code.now ≡ Some key) }
     ensures long { KeepsLong long.old.entries long.new.entries }

@@ -1,4 +1,4 @@
-use Rattle.std.proofs.Common.{◌≡◌, ◌≤◌, ◌++◌, length, Some, unwrap_or, ap, sym, ◌∙◌, subst}
+use Rattle.std.proofs.Common.{◌≡◌, ◌≤◌, ◌++◌, length, unwrap_or, ap, sym, ◌∙◌, subst}
 use Rattle.vcd_grammar.specs.Codes.{lines_of, with_code}
 use Rattle.vcd_read.specs.CodesView.{codes_of, CodesKept, lines_at, only_of, lines_or_none}
 use Rattle.vcd_read.proofs.CodeKeys.{inserted, kept_long, kept_grown, codes_long, codes_same, kept_declared}
