@@ -199,7 +199,3 @@ module _ {A : Type 0} where
       (es : List (Vec ℕ A × ℕ)) (word : Vec ℕ A) (new : ℕ) → key_at es word.items ≡ None
       → key_at (insert_entry by_bytes es word new) word.items ≡ Some new
   key_is_put es word new absent = key_put es word new word.items absent ∙ rw (itself word.items) refl
-
-  -- the same codes keep their keys
-  pub keeps_same : (old new : List (Vec ℕ A × ℕ)) → new ≡ old → KeepsLong old new
-  keeps_same old new h = subst (λ es. KeepsLong old es) (sym h) (record { keys = λ code key k. k; words = λ key w k. k })
