@@ -1,0 +1,12 @@
+mod Tests
+mod Agreed
+mod Flights
+mod Numbers
+mod CutRuns
+mod Pairs
+mod SameUpTo
+mod LogParts
+mod StartParts
+mod SnoopParts
+mod TransferParts
+mod DataParts
