@@ -53,7 +53,7 @@ served_request-same c i e r s p f l =
 -- the chunk that is due
 carries-same : (c i k t : ℕ) (r s : Run) → SameUpTo c r s → response_clock_of r.trace i ≡ Some t → t ≤ c
     → carries_if_due r (past_of r) c i k ≡ carries_if_due s (past_of s) c i k
-unfolding carries_if_due carries_chunk carries_from carried_value
+unfolding carries_if_due carries_chunk carries_from carried_value is_some_and
 carries-same c i k t r s h e l =
     let p = h.paired in
     let n : ℕ = c + 1 in

@@ -10,3 +10,4 @@ mod StartParts
 mod SnoopParts
 mod TransferParts
 mod DataParts
+mod Whole
