@@ -1,8 +1,8 @@
 -- Two orderly traces that are the same so far have the same numbers so far.
 use Rattle.std.proofs.Common.{ℕ, zero, suc, ◌+◌, ◌<◌, ◌≤◌, ◌≡◌, Bool, true, false, not, ◌&&◌, nat_lt, Option, Some}
-use Rattle.std.proofs.Common.{None, length, max, refl, sym, ap, ◌∙◌, arith, inl, inr}
-use Rattle.std.specs.Option.{option_and_then, option_map}
-use Rattle.std.proofs.lemmas.Bool.{cases_Bool, and_parts, and_from, leb-true, lt-ltb, ltb-true}
+use Rattle.std.proofs.Common.{None, length, max, refl, sym, ap, ◌∙◌, arith}
+use Rattle.std.specs.Option.{option_map}
+use Rattle.std.proofs.lemmas.Bool.{and_parts, and_from, leb-true, lt-ltb}
 use Rattle.fsb_count.specs.Clocks.{AgreeBelow, from_clock, nth_where}
 use Rattle.fsb_count.specs.Options.{greater_of, is_before, is_some_and}
 use Rattle.fsb_count.proofs.Interface.{nth_where-carried, nth_where-found}
@@ -20,7 +20,7 @@ use Rattle.fsb_trace.proofs.Interface.{live_clock_of-stays, outcome_of-stays, re
 use Rattle.fsb_trace.proofs.Interface.{snoop_end_of-stays}
 use Rattle.fsb_laws.specs.Orderly.{Orderly}
 use Rattle.fsb_laws.proofs.Interface.{HasAnswer, has_answer}
-use Rattle.fsb_timely_laws.proofs.Tests.{PassesIn, any-both, before-same, both-same}
+use Rattle.fsb_timely_laws.proofs.Tests.{PassesIn, any-both, before-same}
 
 -- two orderly traces are the same for n clocks
 pub record Agreed (n : ℕ) (u v : Trace) : Type 0 where

@@ -1,10 +1,9 @@
--- A run that keeps its order, and the run up to one of its clocks.
+-- A run, and the run up to one of its clocks.
 use Rattle.std.proofs.Common.{ℕ, zero, suc, ◌+◌, ◌<◌, ◌≤◌, ◌≡◌, Bool, true, false, cond, ◌&&◌, ◌||◌, nat_le, nat_lt}
-use Rattle.std.proofs.Common.{List, [], ◌∷◌, ◌++◌, length, take, drop, slice_get, refl, sym, ap, ◌∙◌, inl, inr, arith}
+use Rattle.std.proofs.Common.{List, [], ◌∷◌, ◌++◌, length, take, slice_get, refl, sym, ap, ◌∙◌, inl, inr, arith}
 use Rattle.std.specs.List.{filter, list_all, list_any}
 use Rattle.std.specs.Option.{option_map_or}
 use Rattle.std.proofs.lemmas.Bool.{and_parts, cases_Bool, cases_lt, false_from_ne_true, le-leb, leb-true, lt-leb}
-use Rattle.std.proofs.lemmas.List.{length-take-le}
 use Rattle.fsb_access.specs.declared.log.Done.{Done}
 use Rattle.fsb_count.specs.Clocks.{count_where}
 use Rattle.fsb_count.proofs.Interface.{count_where-above, count_where-mono, count_where-same}
@@ -12,16 +11,12 @@ use Rattle.fsb_hazard.specs.Choice.{quiet_choice}
 use Rattle.fsb_signal.specs.declared.lines.TheConstants.Lines.{ADS}
 use Rattle.fsb_signal.specs.Samples.{has_line, line_at}
 use Rattle.fsb_trace.specs.At.{Trace}
-use Rattle.fsb_trace.specs.Agree.{AgreeTo}
-use Rattle.fsb_trace.proofs.Interface.{line_at-agree}
 use Rattle.fsb_timely.specs.Completions.{is_in_time}
 use Rattle.fsb_timely.specs.Growth.{GoesOn}
 use Rattle.fsb_timely.specs.Moments.{choice_at}
 use Rattle.fsb_timely.specs.Past.{Past}
 use Rattle.fsb_timely.specs.Runs.{Run, entries_to, moments_below, past_of, past_to, requests_below, run_to}
-use Rattle.fsb_timely.proofs.Interface.{length-moments}
-use Rattle.fsb_timely_laws.specs.Whole.{KeepsOrder}
-use Rattle.fsb_timely_laws.proofs.Numbers.{cut-agrees, get-take}
+use Rattle.fsb_timely_laws.proofs.Numbers.{get-take}
 
 -- what passes among those that pass a weaker test
 pub filter-within : {X : Type 0} (f g : X → Bool) (xs : List X) → ((x : X) → f x ≡ true → g x ≡ true)
@@ -142,11 +137,11 @@ split-at c first end (done ∷ log) e =
           (more.0, rw (le-leb done.clock c l) (ap (λ xs. done ∷ xs) more.1), more.2)
     ]
 
--- the past of such a run goes on from its past up to each clock
-pub past-on : (r : Run) (c : ℕ) → KeepsOrder r → c < length r.trace → GoesOn (c + 1) (past_to (past_of r) c) (past_of r)
+-- the past of a run whose log is in time goes on from its past up to each clock
+pub past-on : (r : Run) (c : ℕ) → is_in_time 0 (length r.trace) r.log ≡ true → GoesOn (c + 1) (past_to (past_of r) c) (past_of r)
 unfolding past_to past_of
-past-on r c h l =
-    let split = split-at c 0 (length r.trace) r.log h.in_time in
+past-on r c h =
+    let split = split-at c 0 (length r.trace) r.log h in
     record {
       same_plan = refl;
       same_moments = λ t m. get-take (c + 1) (moments_below r (length r.trace)) t m;

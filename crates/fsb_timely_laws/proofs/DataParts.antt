@@ -1,5 +1,5 @@
 -- The data: what is said of a clock of the run up to it is said of the whole run.
-use Rattle.std.proofs.Common.{ℕ, zero, suc, ◌+◌, ◌<◌, ◌≤◌, ◌≡◌, ◌⊎◌, Bool, true, false, ◌&&◌, nat_eq, Option, Some, None, slice_index}
+use Rattle.std.proofs.Common.{ℕ, zero, suc, ◌+◌, ◌<◌, ◌≤◌, ◌≡◌, Bool, true, false, nat_eq, Option, Some, None, slice_index}
 use Rattle.std.proofs.Common.{length, refl, sym, ap, ◌∙◌, inl, inr, arith}
 use Rattle.std.specs.Option.{option_and_then, option_map_or}
 use Rattle.std.proofs.lemmas.Bool.{and_cases}
@@ -13,14 +13,15 @@ use Rattle.fsb_trace.specs.Outcome.{response_clock_of}
 use Rattle.fsb_trace.specs.Requests.{live_count, live_request_of}
 use Rattle.fsb_trace.specs.Response.{data_clock_of}
 use Rattle.fsb_trace.specs.Snoop.{snoop_end_of}
+use Rattle.fsb_laws.specs.Orderly.{Orderly}
 use Rattle.fsb_timely.specs.Carried.{carried_value, carries_chunk, carries_data, carries_from, carries_if_due}
 use Rattle.fsb_timely.specs.Carried.{chunk_value, served_request}
 use Rattle.fsb_timely.specs.Moments.{served_number}
 use Rattle.fsb_timely.specs.Runs.{Run, past_of, run_to}
-use Rattle.fsb_timely_laws.specs.Whole.{IsSaidOfTheWhole, KeepsOrder}
+use Rattle.fsb_timely_laws.specs.Whole.{IsSaidOfTheWhole}
 use Rattle.fsb_timely_laws.proofs.Tests.{FailsIn, both-same, each-both}
 use Rattle.fsb_timely_laws.proofs.Agreed.{Agreed-sym, data-parts, data-stays}
-use Rattle.fsb_timely_laws.proofs.Pairs.{Paired, Paired-sym, request-same, served-end, served-same, turns}
+use Rattle.fsb_timely_laws.proofs.Pairs.{Ordered, Ordered-sym, Paired, ordered-cut, request-same, served-end, served-same, turns}
 use Rattle.fsb_timely_laws.proofs.SameUpTo.{SameUpTo, said, same-up-to}
 use Rattle.fsb_timely_laws.proofs.StartParts.{agree-of}
 use Rattle.fsb_timely_laws.proofs.TransferParts.{responded}
@@ -51,19 +52,19 @@ served_request-same c i e r s p f l =
     ∙ ap (option_and_then (live_request_of s.trace)) (served-same c r s i e p f l)
 
 -- the chunk that is due
-carries-same : (c i k t : ℕ) (r s : Run) → SameUpTo c r s → response_clock_of r.trace i ≡ Some t → t ≤ c
+carries-same : (c i k t : ℕ) (r s : Run) → SameUpTo c r s → Ordered c r s → response_clock_of r.trace i ≡ Some t → t ≤ c
     → carries_if_due r (past_of r) c i k ≡ carries_if_due s (past_of s) c i k
 unfolding carries_if_due carries_chunk carries_from carried_value is_some_and
-carries-same c i k t r s h e l =
-    let p = h.paired in
+carries-same c i k t r s h o e l =
+    let p = o.paired in
     let n : ℕ = c + 1 in
-    let d = responded c i t r s p e l in
+    let d = responded c i t r s o e l in
     let due : is_at (data_clock_of r.trace i k) c ≡ is_at (data_clock_of s.trace i k) c =
     both-same (is_at (data_clock_of r.trace i k) c) (is_at (data_clock_of s.trace i k) c)
     (λ f. is_at-from (data_clock_of s.trace i k) c
-    (data-stays n r.trace s.trace i k c p.traces (omega arith) (is_at-some (data_clock_of r.trace i k) c f)))
+    (data-stays n r.trace s.trace i k c o.traces (omega arith) (is_at-some (data_clock_of r.trace i k) c f)))
     (λ f. is_at-from (data_clock_of r.trace i k) c
-    (data-stays n s.trace r.trace i k c (Agreed-sym n r.trace s.trace p.traces) (omega arith)
+    (data-stays n s.trace r.trace i k c (Agreed-sym n r.trace s.trace o.traces) (omega arith)
     (is_at-some (data_clock_of s.trace i k) c f))) in
     let request = served_request-same c i d.snoop r s p d.is_snoop (omega (arith, d.before)) in
     let sample = (agree-of c r s h).same c (omega arith) in
@@ -92,38 +93,40 @@ fails-due r c i k e =
 abbrev carries-all : Run → ℕ → ℕ → Bool
 carries-all r c i = each_where (carries_if_due r (past_of r) c i) 4
 
-all-same : (c i t : ℕ) (r s : Run) → SameUpTo c r s → response_clock_of r.trace i ≡ Some t → t ≤ c
+all-same : (c i t : ℕ) (r s : Run) → SameUpTo c r s → Ordered c r s → response_clock_of r.trace i ≡ Some t → t ≤ c
     → carries-all r c i ≡ carries-all s c i
-all-same c i t r s h e l =
+all-same c i t r s h o e l =
     let same : (k : ℕ) → carries_if_due r (past_of r) c i k ≡ carries_if_due s (past_of s) c i k =
-    λ k. carries-same c i k t r s h e l in
+    λ k. carries-same c i k t r s h o e l in
     λ j. each_where (λ k. same k j) 4
 
-fails-here : (c : ℕ) (r s : Run) → SameUpTo c r s
+fails-here : (c : ℕ) (r s : Run) → SameUpTo c r s → Ordered c r s
     → FailsIn (carries-all r c) (carries-all s c) (live_count r.trace) (live_count s.trace)
-fails-here c r s h = record {
+fails-here c r s h o = record {
   fails = λ i l e.
       let k = each-failed (carries_if_due r (past_of r) c i) 4 e in
       let t = fails-due r c i k.0 k.2 in
-      let d = responded c i t.0 r s h.paired t.1 t.2 in
-      (d.within, sym (all-same c i t.0 r s h t.1 t.2) ∙ e);
+      let d = responded c i t.0 r s o t.1 t.2 in
+      (d.within, sym (all-same c i t.0 r s h o t.1 t.2) ∙ e);
 }
 
-fails-there : (c : ℕ) (r s : Run) → SameUpTo c r s
+fails-there : (c : ℕ) (r s : Run) → SameUpTo c r s → Ordered c r s
     → FailsIn (carries-all s c) (carries-all r c) (live_count s.trace) (live_count r.trace)
-fails-there c r s h = record {
+fails-there c r s h o = record {
   fails = λ i l e.
       let k = each-failed (carries_if_due s (past_of s) c i) 4 e in
       let t = fails-due s c i k.0 k.2 in
-      let d = responded c i t.0 s r (Paired-sym c r s h.paired) t.1 t.2 in
-      (d.within, all-same c i t.0 r s h d.response t.2 ∙ e);
+      let d = responded c i t.0 s r (Ordered-sym c r s o) t.1 t.2 in
+      (d.within, all-same c i t.0 r s h o d.response t.2 ∙ e);
 }
 
-data-same : (c : ℕ) (r s : Run) → SameUpTo c r s → carries_data r (past_of r) c ≡ carries_data s (past_of s) c
+data-same : (c : ℕ) (r s : Run) → SameUpTo c r s → Ordered c r s
+    → carries_data r (past_of r) c ≡ carries_data s (past_of s) c
 unfolding carries_data
-data-same c r s h =
-    each-both (carries-all r c) (carries-all s c) (live_count r.trace) (live_count s.trace) (fails-here c r s h)
-    (fails-there c r s h)
+data-same c r s h o =
+    each-both (carries-all r c) (carries-all s c) (live_count r.trace) (live_count s.trace) (fails-here c r s h o)
+    (fails-there c r s h o)
 
-pub data-said : (r : Run) (c : ℕ) → KeepsOrder r → c < length r.trace → IsSaidOfTheWhole carries_data r c
-data-said r c h l = said carries_data r c l (data-same c r (run_to r c) (same-up-to r c h l))
+pub data-said : (r : Run) (c : ℕ) → Orderly r.trace → c < length r.trace → IsSaidOfTheWhole carries_data r c
+data-said r c h l =
+    said carries_data r c l (data-same c r (run_to r c) (same-up-to r c l) (ordered-cut r c h l))

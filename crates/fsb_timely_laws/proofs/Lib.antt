@@ -11,3 +11,4 @@ mod SnoopParts
 mod TransferParts
 mod DataParts
 mod Whole
+mod DisorderedRun

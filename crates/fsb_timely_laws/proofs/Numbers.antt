@@ -1,19 +1,15 @@
 -- The numbers of an orderly trace, and of its first samples.
-use Rattle.std.proofs.Common.{ℕ, zero, suc, ◌+◌, ◌<◌, ◌≤◌, ◌≡◌, true, Some, List, [], ◌∷◌, length, take, slice_get, refl, sym, ap, ◌∙◌}
-use Rattle.std.proofs.Common.{arith, inl, inr}
-use Rattle.std.proofs.lemmas.Bool.{cases_lt, both_ways}
+use Rattle.std.proofs.Common.{ℕ, zero, suc, ◌+◌, ◌<◌, ◌≡◌, Some, List, [], ◌∷◌, length, take, slice_get, refl, sym, ◌∙◌}
+use Rattle.std.proofs.Common.{arith}
 use Rattle.std.proofs.lemmas.List.{length-take-le}
 use Rattle.fsb_count.proofs.Interface.{count_where-same, nth_where-found}
 use Rattle.fsb_signal.specs.declared.lines.TheConstants.Lines.{ADS}
 use Rattle.fsb_signal.specs.Samples.{line_at}
-use Rattle.fsb_signal.proofs.Interface.{line_at-past}
 use Rattle.fsb_trace.specs.At.{Trace, responds_at}
 use Rattle.fsb_trace.specs.Agree.{AgreeTo}
 use Rattle.fsb_trace.specs.Outcome.{response_clock_of}
-use Rattle.fsb_trace.specs.Snoop.{snoop_end_of}
 use Rattle.fsb_trace.proofs.Interface.{AgreeTo-sym, line_at-agree, live_clock_of-stays, ready_clock_of-stays}
 use Rattle.fsb_trace.proofs.Interface.{response_clock_of-stays, snoop_end_of-stays}
-use Rattle.fsb_trace.specs.Rules.{may_answer}
 use Rattle.fsb_laws.specs.Orderly.{Orderly}
 use Rattle.fsb_laws.proofs.Interface.{ads_before_end, may_answer-stays}
 use Rattle.fsb_timely_laws.specs.Numbers.{NumbersStay}

@@ -1,13 +1,10 @@
 -- Two runs that have the same up to a clock: what each of them says of its numbers there, the other says.
 use Rattle.std.proofs.Common.{ℕ, ◌+◌, ◌<◌, ◌≤◌, ◌≡◌, Bool, true, false, not, ◌&&◌, List, Option, Some, None, length, nat_le}
-use Rattle.std.proofs.Common.{slice_get, slice_index, refl, sym, ap, ◌∙◌, inl, inr, arith}
-use Rattle.std.specs.Option.{option_and_then, option_map, option_map_or}
-use Rattle.std.proofs.lemmas.Bool.{and_parts, and_from, cases_Bool, leb-true}
-use Rattle.fsb_count.specs.Clocks.{first_where}
+use Rattle.std.proofs.Common.{slice_index, refl, sym, ap, ◌∙◌, arith}
+use Rattle.std.specs.Option.{option_and_then}
+use Rattle.std.proofs.lemmas.Bool.{and_parts, leb-true}
 use Rattle.fsb_count.specs.Options.{is_at, is_some_and}
 use Rattle.fsb_count.proofs.Interface.{first_where-found, first_where-same, is_at-from, is_at-some}
-use Rattle.fsb_hazard.specs.declared.choice.Choice.{Choice}
-use Rattle.fsb_hazard.specs.Choice.{quiet_choice}
 use Rattle.fsb_signal.specs.declared.lines.TheConstants.Lines.{ADS}
 use Rattle.fsb_signal.specs.Samples.{line_at}
 use Rattle.fsb_trace.specs.At.{Trace}
@@ -20,50 +17,63 @@ use Rattle.fsb_trace.specs.Snoop.{snoop_end_of}
 use Rattle.fsb_trace.proofs.Interface.{AgreeTo-sym, line_at-agree, live_below_count, live_clock_of-stays}
 use Rattle.fsb_trace.proofs.Interface.{live_request_of-stays, response_clock_of-stays, snoop_end_of-clock}
 use Rattle.fsb_trace.proofs.Interface.{snoop_end_of-rises, snoop_end_of-stays}
+use Rattle.fsb_laws.specs.Orderly.{Orderly}
 use Rattle.fsb_timely.specs.Grants.{snooped_at}
 use Rattle.fsb_timely.specs.Moments.{choice_at, is_answered_by, number_of_turn, number_snooped_at, served_number, turns_in}
-use Rattle.fsb_timely.specs.Runs.{Run, past_of, past_to, run_to}
+use Rattle.fsb_timely.specs.Runs.{Run, past_of, run_to}
 use Rattle.fsb_timely.specs.Snoops.{live_choice}
 use Rattle.fsb_timely.proofs.Interface.{number-found, number-says, snoop-tied}
 use Rattle.fsb_lawful.proofs.Interface.{live-ads, past-cut, snooped-to, some-and}
-use Rattle.fsb_timely_laws.specs.Whole.{KeepsOrder}
 use Rattle.fsb_timely_laws.proofs.Tests.{PassesIn, both-same, first-both, option-same}
 use Rattle.fsb_timely_laws.proofs.Agreed.{Agreed, Agreed-sym, answer-of}
 use Rattle.fsb_timely_laws.proofs.Flights.{answered-same, reply_number-stays}
-use Rattle.fsb_timely_laws.proofs.Numbers.{cut-agreed}
+use Rattle.fsb_timely_laws.proofs.Numbers.{cut-agreed, cut-agrees}
 use Rattle.fsb_timely_laws.proofs.CutRuns.{choice-kept}
 
 -- the turns of a run, as numbers, in the order of its live requests
 abbrev pub turns : Run → List ℕ
 turns r = turns_in (past_of r).moments
 
--- both traces are orderly and the same up to clock c, and so are the choices for requests and the snoop ends of the moments
+-- both traces are the same up to clock c, and so are the choices for requests and the snoop ends of the moments
 pub record Paired (c : ℕ) (s r : Run) : Type 0 where
-  pub traces : Agreed (c + 1) s.trace r.trace
+  pub traces : AgreeTo (c + 1) s.trace r.trace
   pub same_choices : (q : ℕ) → q ≤ c → line_at ADS s.trace q ≡ true
       → choice_at s.choices s.trace q ≡ choice_at r.choices r.trace q
   pub same_ends : (t : ℕ) → t ≤ c → snooped_at (past_of s) t ≡ snooped_at (past_of r) t
 
 pub Paired-sym : (c : ℕ) (s r : Run) → Paired c s r → Paired c r s
 Paired-sym c s r p = record {
-  traces = Agreed-sym (c + 1) s.trace r.trace p.traces;
+  traces = AgreeTo-sym (c + 1) s.trace r.trace p.traces;
   same_choices = λ q l t.
-      sym (p.same_choices q l (line_at-agree ADS (c + 1) s.trace r.trace q p.traces.agree (omega arith) ∙ t));
+      sym (p.same_choices q l (line_at-agree ADS (c + 1) s.trace r.trace q p.traces (omega arith) ∙ t));
   same_ends = λ t l. sym (p.same_ends t l);
 }
 
 -- a run and the run up to one of its clocks are such
-pub paired-cut : (r : Run) (c : ℕ) → KeepsOrder r → c < length r.trace → Paired c r (run_to r c)
+pub paired-cut : (r : Run) (c : ℕ) → c < length r.trace → Paired c r (run_to r c)
 unfolding run_to
-paired-cut r c h l = record {
-  traces = cut-agreed r.trace c h.orderly l;
+paired-cut r c l = record {
+  traces = cut-agrees r.trace c l;
   same_choices = λ q m t. sym (choice-kept r c q m t);
   same_ends = λ t m. sym (ap (λ p. snooped_at p t) (past-cut r c l) ∙ snooped-to (past_of r) c t m);
 }
 
+-- the two traces are orderly, too
+pub record Ordered (c : ℕ) (s r : Run) : Type 0 where
+  pub paired : Paired c s r
+  pub traces : Agreed (c + 1) s.trace r.trace
+
+pub Ordered-sym : (c : ℕ) (s r : Run) → Ordered c s r → Ordered c r s
+Ordered-sym c s r o =
+    record { paired = Paired-sym c s r o.paired; traces = Agreed-sym (c + 1) s.trace r.trace o.traces }
+
+pub ordered-cut : (r : Run) (c : ℕ) → Orderly r.trace → c < length r.trace → Ordered c r (run_to r c)
+unfolding run_to
+ordered-cut r c h l = record { paired = paired-cut r c l; traces = cut-agreed r.trace c h l }
+
 pub end-there : (c : ℕ) (s r : Run) (i t : ℕ) → Paired c s r → snoop_end_of s.trace i ≡ Some t → t ≤ c
     → snoop_end_of r.trace i ≡ Some t
-end-there c s r i t p e l = snoop_end_of-stays (c + 1) s.trace r.trace i t p.traces.agree (omega arith) e
+end-there c s r i t p e l = snoop_end_of-stays (c + 1) s.trace r.trace i t p.traces (omega arith) e
 
 -- the turn and the settled outcome of a request whose snoop end is there
 pub turn-same : (c : ℕ) (s r : Run) (i t : ℕ) → Paired c s r → snoop_end_of s.trace i ≡ Some t → t ≤ c
@@ -88,7 +98,7 @@ outcome-same c s r i t p e l =
 
 pub request-same : (c : ℕ) (s r : Run) (i t : ℕ) → Paired c s r → snoop_end_of s.trace i ≡ Some t → t ≤ c
     → live_request_of s.trace i ≡ live_request_of r.trace i
-request-same c s r i t p e l = live_request_of-stays (c + 1) s.trace r.trace i t p.traces.agree (omega arith) e
+request-same c s r i t p e l = live_request_of-stays (c + 1) s.trace r.trace i t p.traces (omega arith) e
 
 pub live-there : (w : Trace) (i t : ℕ) → snoop_end_of w i ≡ Some t → i < live_count w
 live-there w i t e = let k = snoop_end_of-clock w i t e in live_below_count w i k.clock k.is_clock
@@ -98,7 +108,7 @@ pub live_choice-paired : (c : ℕ) (s r : Run) (i q : ℕ) → Paired c s r → 
     → live_choice s i ≡ live_choice r i
 unfolding live_choice
 live_choice-paired c s r i q p e l =
-    let there = live_clock_of-stays (c + 1) s.trace r.trace i q p.traces.agree (omega arith) e in
+    let there = live_clock_of-stays (c + 1) s.trace r.trace i q p.traces (omega arith) e in
     rw (e, there) (p.same_choices q (omega arith) (live-ads s.trace i q e))
 
 pub choice-ended : (c : ℕ) (s r : Run) (i t : ℕ) → Paired c s r → snoop_end_of s.trace i ≡ Some t → t ≤ c
@@ -108,20 +118,21 @@ choice-ended c s r i t p e l =
     live_choice-paired c s r i k.clock p k.is_clock (omega (arith, k.above))
 
 -- the request that is due at c
-due-by : (c : ℕ) (s r : Run) (i t : ℕ) → Paired c s r → response_clock_of s.trace i ≡ Some t → t < c
+due-by : (c : ℕ) (s r : Run) (i t : ℕ) → Ordered c s r → response_clock_of s.trace i ≡ Some t → t < c
     → (i < live_count r.trace) × (is_due s.trace (turns s) c i ≡ is_due r.trace (turns r) c i)
 unfolding is_due is_settled_deferred
-due-by c s r i t p e l =
+due-by c s r i t o e l =
+    let p = o.paired in
     let n : ℕ = c + 1 in
     let u = s.trace in
     let v = r.trace in
-    let h = answer-of u i t p.traces.left e in
+    let h = answer-of u i t o.traces.left e in
     let m : h.snoop < n = omega (arith, h.before) in
     let there = end-there c s r i h.snoop p h.is_snoop (omega arith) in
     let outcome = outcome-same c s r i h.snoop p h.is_snoop (omega arith) in
     let turn = turn-same c s r i h.snoop p h.is_snoop (omega arith) in
-    let response = e ∙ sym (response_clock_of-stays n u v i t p.traces.agree (omega arith) e) in
-    let answered = answered-same n c u v i h.snoop p.traces.agree h.is_snoop there m (omega arith) in (
+    let response = e ∙ sym (response_clock_of-stays n u v i t p.traces (omega arith) e) in
+    let answered = answered-same n c u v i h.snoop p.traces h.is_snoop there m (omega arith) in (
       live-there v i h.snoop there,
       λ k. is_some_and (outcome k) is_deferral
           && is_some_and (response k) (λ x. nat_le (x + 1 + later_of (turn k)) c) && not (answered k),
@@ -138,7 +149,7 @@ due-response w x c i e =
     let low = leb-true (t.0 + 1 + later_of (slice_index x i)) c t.2 in
     (t.0, t.1, omega arith)
 
-due-passes : (c : ℕ) (s r : Run) → Paired c s r
+due-passes : (c : ℕ) (s r : Run) → Ordered c s r
     → PassesIn (is_due s.trace (turns s) c) (is_due r.trace (turns r) c) (live_count s.trace) (live_count r.trace)
 due-passes c s r p = record {
   passes = λ i k e.
@@ -146,13 +157,13 @@ due-passes c s r p = record {
       let d = due-by c s r i t.0 p t.1 t.2 in (d.0, sym d.1 ∙ e);
 }
 
-pub due-same : (c : ℕ) (s r : Run) → Paired c s r → due_at s.trace (turns s) c ≡ due_at r.trace (turns r) c
+pub due-same : (c : ℕ) (s r : Run) → Ordered c s r → due_at s.trace (turns s) c ≡ due_at r.trace (turns r) c
 unfolding due_at
 due-same c s r p =
     first-both (is_due s.trace (turns s) c) (is_due r.trace (turns r) c) (live_count s.trace) (live_count r.trace)
-    (due-passes c s r p) (due-passes c r s (Paired-sym c s r p))
+    (due-passes c s r p) (due-passes c r s (Ordered-sym c s r p))
 
-request-due-by : (c : ℕ) (s r : Run) (o : Option ℕ) → Paired c s r → due_at s.trace (turns s) c ≡ o
+request-due-by : (c : ℕ) (s r : Run) (o : Option ℕ) → Ordered c s r → due_at s.trace (turns s) c ≡ o
     → option_and_then (live_request_of s.trace) o ≡ option_and_then (live_request_of r.trace) o
 unfolding due_at
 request-due-by c s r None p e = refl
@@ -160,10 +171,10 @@ request-due-by c s r (Some i) p e =
     let f = first_where-found (is_due s.trace (turns s) c) (live_count s.trace) i e in
     let t = due-response s.trace (turns s) c i f.1 in
     let h = answer-of s.trace i t.0 p.traces.left t.1 in
-    request-same c s r i h.snoop p h.is_snoop (omega (arith, h.before, t.2))
+    request-same c s r i h.snoop p.paired h.is_snoop (omega (arith, h.before, t.2))
 
 -- the request that is due at c, as it is decoded
-pub request-due : (c : ℕ) (s r : Run) → Paired c s r
+pub request-due : (c : ℕ) (s r : Run) → Ordered c s r
     → option_and_then (live_request_of s.trace) (due_at s.trace (turns s) c)
     ≡ option_and_then (live_request_of r.trace) (due_at r.trace (turns r) c)
 request-due c s r p =
@@ -178,7 +189,7 @@ answered_by-same c s r i j t p e l m =
     let n : ℕ = c + 1 in
     let u = s.trace in
     let v = r.trace in
-    let a = p.traces.agree in
+    let a = p.traces in
     let before = snoop_end_of-rises u j i t m e in
     let low : before.0 + 3 ≤ t = before.2 in
     let outcome = outcome-same c s r j before.0 p before.1 (omega arith) in

@@ -9,15 +9,16 @@ use Rattle.fsb_count.specs.Options.{is_some_and}
 use Rattle.fsb_count.proofs.Interface.{any_where-found}
 use Rattle.fsb_signal.specs.declared.lines.TheConstants.Lines.{ADS, AERR, BNR, DEFER, HIT, HITM}
 use Rattle.fsb_signal.specs.Samples.{line_at}
-use Rattle.fsb_trace.specs.At.{Trace, stalls_at}
 use Rattle.fsb_trace.specs.Requests.{live_count}
 use Rattle.fsb_trace.specs.Snoop.{line_at_snoop_end, snoop_end_of, snoop_start_of}
 use Rattle.fsb_trace.specs.Timing.{is_stall_from}
 use Rattle.fsb_trace.proofs.Interface.{line_at_snoop_end-stays, live_below_count, live_clock_of-stays, stalls_at-agree}
-use Rattle.fsb_timely.specs.Grants.{holds_line, snooped_at}
+use Rattle.fsb_timely.specs.Grants.{holds_line}
+use Rattle.fsb_timely.specs.Completions.{is_in_time}
+use Rattle.fsb_timely.specs.Growth.{GoesOn}
 use Rattle.fsb_timely.specs.Hits.{is_dirty}
 use Rattle.fsb_timely.specs.Moments.{choice_at, number_snooped_at, served_number}
-use Rattle.fsb_timely.specs.Past.{Past, SnoopEnd}
+use Rattle.fsb_timely.specs.Past.{SnoopEnd}
 use Rattle.fsb_timely.specs.Runs.{Run, past_of, run_to}
 use Rattle.fsb_timely.specs.Snoops.{drives_aerr, drives_bnr, drives_defer, drives_hazards, drives_stalls}
 use Rattle.fsb_timely.specs.Snoops.{has_right_result, has_snoop_result, is_bnr_chosen, is_dirty_elsewhere, is_dirty_for}
@@ -25,11 +26,11 @@ use Rattle.fsb_timely.specs.Snoops.{is_error_chosen, is_held_elsewhere, is_held_
 use Rattle.fsb_timely.specs.Snoops.{is_stall_chosen, keeps_snoop_lines, live_choice, number_served_at, was_hit_before}
 use Rattle.fsb_timely.proofs.Interface.{going-alike, holds_line-same, number-says}
 use Rattle.fsb_lawful.proofs.Interface.{some-and}
-use Rattle.fsb_timely_laws.specs.Whole.{IsSaidOfTheWhole, KeepsOrder}
+use Rattle.fsb_timely_laws.specs.Whole.{IsSaidOfTheWhole}
 use Rattle.fsb_timely_laws.proofs.Tests.{PassesIn, any-both}
 use Rattle.fsb_timely_laws.proofs.Agreed.{snoop_clock-same, start-clock, start-stays}
 use Rattle.fsb_timely_laws.proofs.Pairs.{Paired, Paired-sym, live_choice-paired, number-same, served-end, served-same, turns}
-use Rattle.fsb_timely_laws.proofs.SameUpTo.{SameUpTo, dirty-on, said, same-up-to}
+use Rattle.fsb_timely_laws.proofs.SameUpTo.{SameUpTo, dirty-on, goes-on, said, same-up-to}
 use Rattle.fsb_timely_laws.proofs.StartParts.{agree-of, line-same}
 
 -- a test that matters only where another one passes
@@ -65,11 +66,11 @@ stall-passes c r s p = record {
       let x = some-and (snoop_start_of u i) (is_stall_from (live_choice r i).stall c) e in
       let start : ℕ = x.0 in
       let low = stalled-from (live_choice r i).stall c start x.2 in
-      let there = start-stays (c + 1) u v i start p.traces.agree (omega arith) x.1 in
+      let there = start-stays (c + 1) u v i start p.traces (omega arith) x.1 in
       let q = start-clock u i start x.1 in
       let far : q.0 + 4 ≤ start = q.2 in
       let choice = live_choice-paired c r s i q.0 p q.1 (omega arith) in (
-        live_below_count v i q.0 (live_clock_of-stays (c + 1) u v i q.0 p.traces.agree (omega arith) q.1),
+        live_below_count v i q.0 (live_clock_of-stays (c + 1) u v i q.0 p.traces (omega arith) q.1),
         ap (λ o. is_some_and o (is_stall_from (live_choice s i).stall c)) there
             ∙ sym (ap (λ y. is_stall_from y.stall c start) choice) ∙ x.2,
       );
@@ -102,8 +103,8 @@ hazards-same c r s h =
     && beq (stalls i) (chosen i) && beq (defer i) (is_some_and (end i) (λ e. not (is_keep e.turn)))
     && (clock i || not (hit i || hitm i))
 
-pub hazards-said : (r : Run) (c : ℕ) → KeepsOrder r → c < length r.trace → IsSaidOfTheWhole drives_hazards r c
-hazards-said r c h l = said drives_hazards r c l (hazards-same c r (run_to r c) (same-up-to r c h l))
+pub hazards-said : (r : Run) (c : ℕ) → c < length r.trace → IsSaidOfTheWhole drives_hazards r c
+hazards-said r c l = said drives_hazards r c l (hazards-same c r (run_to r c) (same-up-to r c l))
 
 -- HIT# at the snoop end of the request that is served
 hit-served : (c i : ℕ) (r s : Run) (o : Option ℕ) → Paired c r s → snoop_end_of r.trace i ≡ Some c
@@ -114,7 +115,7 @@ hit-served c i r s None p e f = refl
 hit-served c i r s (Some j) p e f =
     let k = served-end r.trace (turns r) i j c e f in
     let low = k.2 in
-    line_at_snoop_end-stays HIT (c + 1) r.trace s.trace j k.0 p.traces.agree (omega arith) k.1
+    line_at_snoop_end-stays HIT (c + 1) r.trace s.trace j k.0 p.traces (omega arith) k.1
 
 hit-by : (c : ℕ) (r s : Run) (o : Option ℕ) → Paired c r s → number_snooped_at r.trace c ≡ o
     → is_some_and (option_and_then (served_number r.trace (turns r)) o) (line_at_snoop_end HIT r.trace)
@@ -133,45 +134,47 @@ hit-same c r s p =
     ∙ ap (λ o. is_some_and (option_and_then (served_number s.trace (turns s)) o) (line_at_snoop_end HIT s.trace))
     (number-same c r s p)
 
-dirty-same : (c : ℕ) (r s : Run) (e : SnoopEnd) → SameUpTo c r s
+dirty-same : (c : ℕ) (r s : Run) (e : SnoopEnd) → GoesOn (c + 1) (past_of s) (past_of r)
     → is_dirty_for (past_of r) c e ≡ is_dirty_for (past_of s) c e
 unfolding is_dirty_for is_dirty_elsewhere
-dirty-same c r s e h =
+dirty-same c r s e g =
     let dirty : (b line : ℕ) → is_dirty (past_of s) b line c ≡ is_dirty (past_of r) b line c =
-    λ b line. dirty-on c (past_of s) (past_of r) b line h.past in
+    λ b line. dirty-on c (past_of s) (past_of r) b line g in
     sym (λ i. is_some_and e.claim (λ claim. any_where (λ b. not (nat_eq b claim.agent) && dirty b claim.line i) 4))
 
-held-same : (c : ℕ) (r s : Run) (e : SnoopEnd) → SameUpTo c r s
+held-same : (c : ℕ) (r s : Run) (e : SnoopEnd) → GoesOn (c + 1) (past_of s) (past_of r)
     → is_held_for (past_of r) c e ≡ is_held_for (past_of s) c e
 unfolding is_held_for is_held_elsewhere
-held-same c r s e h =
-    let alike = going-alike (c + 1) (past_of s) (past_of r) h.past in
+held-same c r s e g =
+    let alike = going-alike (c + 1) (past_of s) (past_of r) g in
     let held : (b line : ℕ) → holds_line (past_of s) b line c ≡ holds_line (past_of r) b line c =
     λ b line. holds_line-same (c + 1) (past_of s) (past_of r) b line c alike (omega arith) in
     sym (λ i. is_some_and e.claim (λ claim. any_where (λ b. not (nat_eq b claim.agent) && held b claim.line i) 4))
 
-result-same : (c : ℕ) (r s : Run) (e : SnoopEnd) → SameUpTo c r s
+result-same : (c : ℕ) (r s : Run) (e : SnoopEnd) → SameUpTo c r s → GoesOn (c + 1) (past_of s) (past_of r)
     → has_right_result r (past_of r) c e ≡ has_right_result s (past_of s) c e
 unfolding has_right_result
-result-same c r s e h =
+result-same c r s e h g =
     let hit = line-same HIT c c r s h (omega arith) in
     let hitm = line-same HITM c c r s h (omega arith) in
     let before = hit-same c r s h.paired in
-    let dirty = dirty-same c r s e h in
-    let held = held-same c r s e h in
+    let dirty = dirty-same c r s e g in
+    let held = held-same c r s e g in
     λ i. elim (is_reply_end e) [
       | true ↦ beq (hit i) (before i) && not (hitm i)
       | false ↦ beq (hitm i) (dirty i) && beq (hit i) (not (dirty i) && held i)
     ]
 
-snoop-same : (c : ℕ) (r s : Run) → SameUpTo c r s
+snoop-same : (c : ℕ) (r s : Run) → SameUpTo c r s → GoesOn (c + 1) (past_of s) (past_of r)
     → has_snoop_result r (past_of r) c ≡ has_snoop_result s (past_of s) c
 unfolding has_snoop_result
-snoop-same c r s h =
+snoop-same c r s h g =
     let end = h.paired.same_ends c (omega arith) in
     let result : (e : SnoopEnd) → has_right_result r (past_of r) c e ≡ has_right_result s (past_of s) c e =
-    λ e. result-same c r s e h in
+    λ e. result-same c r s e h g in
     λ i. elim (end i) [ None ↦ true | Some e ↦ result e i ]
 
-pub results-said : (r : Run) (c : ℕ) → KeepsOrder r → c < length r.trace → IsSaidOfTheWhole has_snoop_result r c
-results-said r c h l = said has_snoop_result r c l (snoop-same c r (run_to r c) (same-up-to r c h l))
+pub results-said : (r : Run) (c : ℕ) → is_in_time 0 (length r.trace) r.log ≡ true → c < length r.trace
+    → IsSaidOfTheWhole has_snoop_result r c
+results-said r c h l =
+    said has_snoop_result r c l (snoop-same c r (run_to r c) (same-up-to r c l) (goes-on r c h l))

@@ -1,33 +1,33 @@
 -- Responses and data: what is said of a clock of the run up to it is said of the whole run.
-use Rattle.std.proofs.Common.{ℕ, ◌+◌, ◌<◌, ◌≤◌, ◌≡◌, Bool, true, false, not, ◌&&◌, ◌||◌, nat_eq, nat_le, nat_lt, Option, Some}
+use Rattle.std.proofs.Common.{ℕ, ◌+◌, ◌<◌, ◌≤◌, ◌≡◌, Bool, true, false, ◌&&◌, ◌||◌, nat_eq, nat_le, Option, Some}
 use Rattle.std.proofs.Common.{None, is_some, length, refl, sym, ap, subst, ◌∙◌, inl, inr, arith}
 use Rattle.std.specs.Bool.{beq}
 use Rattle.std.specs.Option.{option_and_then, option_map, option_map_or}
 use Rattle.std.proofs.lemmas.Bool.{and_from, and_parts, leb-true}
-use Rattle.fsb_count.specs.Clocks.{any_where, first_where}
 use Rattle.fsb_count.specs.Options.{is_at, is_some_and}
 use Rattle.fsb_count.proofs.Interface.{first_where-found, is_at-from, is_at-some}
 use Rattle.fsb_signal.specs.declared.lines.TheConstants.Lines.{DBSY, DRDY, TRDY}
-use Rattle.fsb_signal.specs.Samples.{data_at, known_word, line_at}
+use Rattle.fsb_signal.specs.Samples.{known_word}
 use Rattle.fsb_trace.specs.declared.outcome.Outcome.{Outcome}
-use Rattle.fsb_trace.specs.At.{Trace, response_code_at}
-use Rattle.fsb_trace.specs.Outcome.{does_move, response_clock_of, response_code_of, settled_outcome_of}
+use Rattle.fsb_trace.specs.Outcome.{does_move, response_clock_of, response_code_of}
 use Rattle.fsb_trace.specs.Requests.{live_count}
 use Rattle.fsb_trace.specs.Response.{answer_from, ready_clock_of, takes}
 use Rattle.fsb_trace.specs.Snoop.{snoop_end_of}
 use Rattle.fsb_trace.specs.Timing.{chunk_from, is_busy_from, is_ready_from, is_response_from}
 use Rattle.fsb_trace.proofs.Interface.{response_clock_of-stays, response_code_at-agree}
+use Rattle.fsb_laws.specs.Orderly.{Orderly}
 use Rattle.fsb_timely.specs.Runs.{Run, past_of, run_to}
 use Rattle.fsb_timely.specs.Snoops.{live_choice}
 use Rattle.fsb_timely.specs.Transfers.{code_due, drives_code, drives_data_busy, drives_data_ready, drives_ready}
 use Rattle.fsb_timely.specs.Transfers.{drives_responses, has_data_at, is_busy_at, is_ready_due, is_response_clock}
 use Rattle.fsb_timely.specs.Transfers.{keeps_data_quiet, number_responding, settled_of, settles_to_move}
 use Rattle.fsb_lawful.proofs.Interface.{IsReadyDue, Responding, chunk-bounds, map-some, ready-answer, ready-stays}
-use Rattle.fsb_lawful.proofs.Interface.{responding-answer, responding-stays, some-and}
-use Rattle.fsb_timely_laws.specs.Whole.{IsSaidOfTheWhole, KeepsOrder}
+use Rattle.fsb_lawful.proofs.Interface.{responding-answer, responding-stays}
+use Rattle.fsb_timely_laws.specs.Whole.{IsSaidOfTheWhole}
 use Rattle.fsb_timely_laws.proofs.Tests.{PassesIn, any-both, first-both}
 use Rattle.fsb_timely_laws.proofs.Agreed.{answer-of}
-use Rattle.fsb_timely_laws.proofs.Pairs.{Paired, Paired-sym, choice-ended, end-there, live-there, outcome-same, turns}
+use Rattle.fsb_timely_laws.proofs.Pairs.{Ordered, Ordered-sym, Paired, Paired-sym, choice-ended, end-there, live-there}
+use Rattle.fsb_timely_laws.proofs.Pairs.{ordered-cut, outcome-same}
 use Rattle.fsb_timely_laws.proofs.SameUpTo.{SameUpTo, said, same-up-to}
 use Rattle.fsb_timely_laws.proofs.StartParts.{agree-of, line-same}
 
@@ -56,7 +56,7 @@ ready-passes c r s p = record {
       let h = ready-answer r.trace (live_choice r i).trdy c i due in
       let there = end-there c r s i h.snoop p h.is_snoop (omega (arith, h.before)) in
       let choice = choice-ended c r s i h.snoop p h.is_snoop (omega (arith, h.before)) in
-      let now = ready-stays (c + 1) r.trace s.trace (live_choice r i).trdy c i p.traces.agree (omega arith) due in (
+      let now = ready-stays (c + 1) r.trace s.trace (live_choice r i).trdy c i p.traces (omega arith) due in (
         live-there s.trace i h.snoop there,
         ready-from s c i (subst (λ x. IsReadyDue s.trace x.trdy c i) choice now),
       );
@@ -99,7 +99,7 @@ response-passes c r s p = record {
       let h = responding-answer r.trace (live_choice r i).resp c i due in
       let there = end-there c r s i h.snoop p h.is_snoop (omega (arith, h.before)) in
       let choice = choice-ended c r s i h.snoop p h.is_snoop (omega (arith, h.before)) in
-      let now = responding-stays (c + 1) r.trace s.trace (live_choice r i).resp c i p.traces.agree (omega arith) due in (
+      let now = responding-stays (c + 1) r.trace s.trace (live_choice r i).resp c i p.traces (omega arith) due in (
         live-there s.trace i h.snoop there,
         responding-from s c i (subst (λ x. Responding s.trace x.resp c i) choice now),
       );
@@ -139,17 +139,18 @@ pub record Responded (c i t : ℕ) (r s : Run) : Type 0 where
   pub is_snoop : snoop_end_of r.trace i ≡ Some snoop
   pub before : snoop + 2 ≤ t
 
-pub responded : (c i t : ℕ) (r s : Run) → Paired c r s → response_clock_of r.trace i ≡ Some t → t ≤ c
+pub responded : (c i t : ℕ) (r s : Run) → Ordered c r s → response_clock_of r.trace i ≡ Some t → t ≤ c
     → Responded c i t r s
 unfolding settled_of
-responded c i t r s p e l =
-    let h = answer-of r.trace i t p.traces.left e in
+responded c i t r s o e l =
+    let p = o.paired in
+    let h = answer-of r.trace i t o.traces.left e in
     let there = end-there c r s i h.snoop p h.is_snoop (omega (arith, h.before)) in
     record {
       within = live-there s.trace i h.snoop there;
       choice = choice-ended c r s i h.snoop p h.is_snoop (omega (arith, h.before));
       settled = outcome-same c r s i h.snoop p h.is_snoop (omega (arith, h.before));
-      response = response_clock_of-stays (c + 1) r.trace s.trace i t p.traces.agree (omega arith) e;
+      response = response_clock_of-stays (c + 1) r.trace s.trace i t p.traces (omega arith) e;
       snoop = h.snoop;
       is_snoop = h.is_snoop;
       before = h.before;
@@ -166,7 +167,7 @@ unfolding is_some_and is_busy_from
 busy-there gap c None e = absurd (let no : ⊥ = cc in no)
 busy-there gap c (Some t) e = (t, refl, leb-true t c (and_parts (nat_le t c) _ e).0)
 
-data-passes : (c : ℕ) (r s : Run) → Paired c r s
+data-passes : (c : ℕ) (r s : Run) → Ordered c r s
     → PassesIn (has_data_at r (past_of r) c) (has_data_at s (past_of s) c) (live_count r.trace) (live_count s.trace)
 unfolding has_data_at settles_to_move
 data-passes c r s p = record {
@@ -184,7 +185,7 @@ data-passes c r s p = record {
       );
 }
 
-busy-passes : (c : ℕ) (r s : Run) → Paired c r s
+busy-passes : (c : ℕ) (r s : Run) → Ordered c r s
     → PassesIn (is_busy_at r (past_of r) c) (is_busy_at s (past_of s) c) (live_count r.trace) (live_count s.trace)
 unfolding is_busy_at settles_to_move
 busy-passes c r s p = record {
@@ -202,12 +203,13 @@ busy-passes c r s p = record {
       );
 }
 
-responses-same : (c : ℕ) (r s : Run) → SameUpTo c r s
+responses-same : (c : ℕ) (r s : Run) → SameUpTo c r s → Ordered c r s
     → drives_responses r (past_of r) c ≡ drives_responses s (past_of s) c
 unfolding drives_responses drives_ready drives_code drives_data_ready drives_data_busy keeps_data_quiet
-responses-same c r s h =
+responses-same c r s h o =
     let p = h.paired in
     let back = Paired-sym c r s p in
+    let turned = Ordered-sym c r s o in
     let m = live_count r.trace in
     let n = live_count s.trace in
     let trdy = line-same TRDY c c r s h (omega arith) in
@@ -215,14 +217,15 @@ responses-same c r s h =
     let code = response_code_at-agree (c + 1) r.trace s.trace c (agree-of c r s h) (omega arith) in
     let coded = code-same c r s p in
     let drdy = line-same DRDY c c r s h (omega arith) in
-    let has = any-both (has_data_at r (past_of r) c) (has_data_at s (past_of s) c) m n (data-passes c r s p)
-    (data-passes c s r back) in
+    let has = any-both (has_data_at r (past_of r) c) (has_data_at s (past_of s) c) m n (data-passes c r s o)
+    (data-passes c s r turned) in
     let dbsy = line-same DBSY c c r s h (omega arith) in
-    let busy = any-both (is_busy_at r (past_of r) c) (is_busy_at s (past_of s) c) m n (busy-passes c r s p)
-    (busy-passes c s r back) in
+    let busy = any-both (is_busy_at r (past_of r) c) (is_busy_at s (past_of s) c) m n (busy-passes c r s o)
+    (busy-passes c s r turned) in
     let sample = (agree-of c r s h).same c (omega arith) in
     λ i. beq (trdy i) (due i) && nat_eq (code i) (coded i) && beq (drdy i) (has i) && beq (dbsy i) (busy i)
     && (drdy i || nat_eq (option_map_or (λ x. x.dbus) (sample i) (known_word 0)).bits 0)
 
-pub responses-said : (r : Run) (c : ℕ) → KeepsOrder r → c < length r.trace → IsSaidOfTheWhole drives_responses r c
-responses-said r c h l = said drives_responses r c l (responses-same c r (run_to r c) (same-up-to r c h l))
+pub responses-said : (r : Run) (c : ℕ) → Orderly r.trace → c < length r.trace → IsSaidOfTheWhole drives_responses r c
+responses-said r c h l =
+    said drives_responses r c l (responses-same c r (run_to r c) (same-up-to r c l) (ordered-cut r c h l))

@@ -1,11 +1,10 @@
 -- A timely run is one that is timely as a whole.
-use Rattle.std.proofs.Common.{ℕ, zero, suc, ◌+◌, ◌-◌, ◌<◌, ◌≤◌, ◌≡◌, ◌↔◌, List, [], ◌∷◌, length, refl, sym, ◌∙◌, subst, inl, inr}
-use Rattle.std.proofs.Common.{take, arith}
+use Rattle.std.proofs.Common.{ℕ, ◌+◌, ◌-◌, ◌<◌, ◌≡◌, ◌↔◌, [], ◌∷◌, length, refl, sym, ◌∙◌, subst, inl, inr}
+use Rattle.std.proofs.Common.{arith}
 use Rattle.std.proofs.lemmas.Bool.{cases_lt}
 use Rattle.std.proofs.lemmas.List.{take_all}
 use Rattle.fsb_laws.specs.Orderly.{Orderly}
 use Rattle.fsb_laws.proofs.Interface.{orderly-empty}
-use Rattle.fsb_signal.specs.declared.sample.Sample.{Sample}
 use Rattle.fsb_trace.specs.At.{Trace}
 use Rattle.fsb_lawful.proofs.Interface.{orderly-at}
 use Rattle.fsb_timely.specs.Carried.{Carried, carries_data}
@@ -22,13 +21,13 @@ pub each-said : (r : Run) (c : ℕ) → KeepsOrder r → c < length r.trace → 
 each-said r c h l = record {
   request_starts = starts-said r c h l;
   request_lines = lines-said r c h l;
-  hazard_lines = hazards-said r c h l;
-  snoop_results = results-said r c h l;
-  responses_and_data = responses-said r c h l;
-  completions = completions-said r c h l;
+  hazard_lines = hazards-said r c l;
+  snoop_results = results-said r c h.in_time l;
+  responses_and_data = responses-said r c h.orderly l;
+  completions = completions-said r c h.in_time;
   bus_lock = lock-said r c l;
   parity = parity-said r c l;
-  carried_data = data-said r c h l;
+  carried_data = data-said r c h.orderly l;
 }
 
 empty-trace : (w : Trace) → length w ≡ 0 → w ≡ []
@@ -59,7 +58,7 @@ both-ways part r said = (
   λ h. record { at = λ c l. sym (said c l) ∙ h.at c l },
 )
 
-pub carried-whole : (r : Run) → KeepsOrder r → Carried r ↔ Throughout carries_data r
+pub carried-whole : (r : Run) → Orderly r.trace → Carried r ↔ Throughout carries_data r
 carried-whole r h = both-ways carries_data r (λ c l. data-said r c h l)
 
 whole-from : (r : Run) → Timely r → TimelyAsAWhole r
@@ -72,10 +71,10 @@ whole-from r t =
       one_choice = t.one_choice;
       request_starts = (both-ways _ r (λ c l. starts-said r c h l)).0 t.request_starts;
       request_lines = (both-ways _ r (λ c l. lines-said r c h l)).0 t.request_lines;
-      hazard_lines = (both-ways _ r (λ c l. hazards-said r c h l)).0 t.hazard_lines;
-      snoop_results = (both-ways _ r (λ c l. results-said r c h l)).0 t.snoop_results;
-      responses_and_data = (both-ways _ r (λ c l. responses-said r c h l)).0 t.responses_and_data;
-      completions = (both-ways _ r (λ c l. completions-said r c h l)).0 t.completions;
+      hazard_lines = (both-ways _ r (λ c l. hazards-said r c l)).0 t.hazard_lines;
+      snoop_results = (both-ways _ r (λ c l. results-said r c h.in_time l)).0 t.snoop_results;
+      responses_and_data = (both-ways _ r (λ c l. responses-said r c h.orderly l)).0 t.responses_and_data;
+      completions = (both-ways _ r (λ c l. completions-said r c h.in_time)).0 t.completions;
       bus_lock = (both-ways _ r (λ c l. lock-said r c l)).0 t.bus_lock;
       parity = (both-ways _ r (λ c l. parity-said r c l)).0 t.parity;
     }
@@ -90,10 +89,10 @@ whole-to r t =
       in_time = h.in_time;
       request_starts = (both-ways _ r (λ c l. starts-said r c h l)).1 t.request_starts;
       request_lines = (both-ways _ r (λ c l. lines-said r c h l)).1 t.request_lines;
-      hazard_lines = (both-ways _ r (λ c l. hazards-said r c h l)).1 t.hazard_lines;
-      snoop_results = (both-ways _ r (λ c l. results-said r c h l)).1 t.snoop_results;
-      responses_and_data = (both-ways _ r (λ c l. responses-said r c h l)).1 t.responses_and_data;
-      completions = (both-ways _ r (λ c l. completions-said r c h l)).1 t.completions;
+      hazard_lines = (both-ways _ r (λ c l. hazards-said r c l)).1 t.hazard_lines;
+      snoop_results = (both-ways _ r (λ c l. results-said r c h.in_time l)).1 t.snoop_results;
+      responses_and_data = (both-ways _ r (λ c l. responses-said r c h.orderly l)).1 t.responses_and_data;
+      completions = (both-ways _ r (λ c l. completions-said r c h.in_time)).1 t.completions;
       bus_lock = (both-ways _ r (λ c l. lock-said r c l)).1 t.bus_lock;
       parity = (both-ways _ r (λ c l. parity-said r c l)).1 t.parity;
     }
