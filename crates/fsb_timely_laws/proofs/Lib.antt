@@ -12,3 +12,4 @@ mod TransferParts
 mod DataParts
 mod Whole
 mod DisorderedRun
+mod WholeOrder

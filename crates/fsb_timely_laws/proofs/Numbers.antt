@@ -12,7 +12,7 @@ use Rattle.fsb_trace.proofs.Interface.{AgreeTo-sym, line_at-agree, live_clock_of
 use Rattle.fsb_trace.proofs.Interface.{response_clock_of-stays, snoop_end_of-stays}
 use Rattle.fsb_laws.specs.Orderly.{Orderly}
 use Rattle.fsb_laws.proofs.Interface.{ads_before_end, may_answer-stays}
-use Rattle.fsb_timely_laws.specs.Numbers.{NumbersStay}
+use Rattle.fsb_timely_laws.specs.Numbers.{SameNumbers}
 use Rattle.fsb_timely_laws.proofs.Agreed.{Agreed, Agreed-sym, data-stays, end-stays, snoop_clock-same, start-stays}
 use Rattle.fsb_timely_laws.proofs.Flights.{in_flight-same, reply_number-stays}
 
@@ -56,26 +56,24 @@ orderly-cut w c o l =
 pub cut-agreed : (w : Trace) (c : ℕ) → Orderly w → c < length w → Agreed (c + 1) w (take (c + 1) w)
 cut-agreed w c o l = record { agree = cut-agrees w c l; left = o; right = orderly-cut w c o l }
 
-pub numbers-stay : (w : Trace) (c : ℕ) → Orderly w → c < length w → NumbersStay w c
-numbers-stay w c o l =
-    let v = take (c + 1) w in
+pub numbers-same : (c : ℕ) (w v : Trace) → Orderly w → Orderly v → AgreeTo (c + 1) w v → SameNumbers c w v
+numbers-same c w v o m a =
     let n : ℕ = c + 1 in
-    let both = cut-agreed w c o l in
-    let a = both.agree in
+    let both : Agreed n w v = record { agree = a; left = o; right = m } in
     let back = AgreeTo-sym n w v a in
     let turned = Agreed-sym n w v both in
     record {
       begun = count_where-same (line_at ADS w) (line_at ADS v) c
-          (record { same = λ t m. line_at-agree ADS n w v t a (omega arith) });
-      live = λ i q m. (live_clock_of-stays n w v i q a (omega arith), live_clock_of-stays n v w i q back (omega arith));
-      snoop_start = λ i s m. (start-stays n w v i s a (omega arith), start-stays n v w i s back (omega arith));
-      snoop_end = λ i s m. (snoop_end_of-stays n w v i s a (omega arith), snoop_end_of-stays n v w i s back (omega arith));
-      ready = λ i y m. (ready_clock_of-stays n w v i y a (omega arith), ready_clock_of-stays n v w i y back (omega arith));
-      response = λ i r m.
+          (record { same = λ t l. line_at-agree ADS n w v t a (omega arith) });
+      live = λ i q l. (live_clock_of-stays n w v i q a (omega arith), live_clock_of-stays n v w i q back (omega arith));
+      snoop_start = λ i s l. (start-stays n w v i s a (omega arith), start-stays n v w i s back (omega arith));
+      snoop_end = λ i s l. (snoop_end_of-stays n w v i s a (omega arith), snoop_end_of-stays n v w i s back (omega arith));
+      ready = λ i y l. (ready_clock_of-stays n w v i y a (omega arith), ready_clock_of-stays n v w i y back (omega arith));
+      response = λ i r l.
           (response_clock_of-stays n w v i r a (omega arith), response_clock_of-stays n v w i r back (omega arith));
-      chunk = λ i k d m. (data-stays n w v i k d both (omega arith), data-stays n v w i k d turned (omega arith));
-      end = λ i e m. (end-stays n w v i e both (omega arith), end-stays n v w i e turned (omega arith));
-      reply = λ i j s t m e k f. (
+      chunk = λ i k d l. (data-stays n w v i k d both (omega arith), data-stays n v w i k d turned (omega arith));
+      end = λ i e l. (end-stays n w v i e both (omega arith), end-stays n v w i e turned (omega arith));
+      reply = λ i j s t l e k f. (
         reply_number-stays n w v i j s t a e (omega arith) f (omega arith),
         reply_number-stays n v w i j s t back (snoop_end_of-stays n w v i s a (omega arith) e) (omega arith)
             (snoop_end_of-stays n w v j t a (omega arith) f) (omega arith),
@@ -83,3 +81,7 @@ numbers-stay w c o l =
       flight = in_flight-same n c w v both (omega arith);
       snoop_clock = snoop_clock-same n c w v a (omega arith);
     }
+
+pub numbers-cut : (w : Trace) (c : ℕ) → Orderly w → c < length w → SameNumbers c w (take (c + 1) w)
+numbers-cut w c o l =
+    let both = cut-agreed w c o l in numbers-same c w (take (c + 1) w) both.left both.right both.agree

@@ -76,7 +76,7 @@ responding-by r c i false k e =
     let p = map-some (λ f. f + wait) (answer_from r.trace i) c (is_at-some _ c e) in
     inr (record { takes_none = k; from = p.0; is_from = p.1; waits = p.2 })
 
-responding-parts : (r : Run) (c i : ℕ) → is_response_clock r c i ≡ true → Responding r.trace (live_choice r i).resp c i
+pub responding-parts : (r : Run) (c i : ℕ) → is_response_clock r c i ≡ true → Responding r.trace (live_choice r i).resp c i
 unfolding is_response_clock
 responding-parts r c i e = responding-by r c i (takes r.trace i) refl e
 

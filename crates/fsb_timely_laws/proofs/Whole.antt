@@ -11,6 +11,7 @@ use Rattle.fsb_timely.specs.Carried.{Carried, carries_data}
 use Rattle.fsb_timely.specs.Runs.{Run, run_to}
 use Rattle.fsb_timely.specs.Timely.{AtEachClock, Part, Timely}
 use Rattle.fsb_timely_laws.specs.Whole.{EachIsSaidOfTheWhole, IsSaidOfTheWhole, KeepsOrder, Throughout, TimelyAsAWhole}
+use Rattle.fsb_timely_laws.proofs.WholeOrder.{orderly-throughout}
 use Rattle.fsb_timely_laws.proofs.DataParts.{data-said}
 use Rattle.fsb_timely_laws.proofs.LogParts.{completions-said, lock-said, parity-said}
 use Rattle.fsb_timely_laws.proofs.SnoopParts.{hazards-said, results-said}
@@ -65,10 +66,10 @@ whole-from : (r : Run) → Timely r → TimelyAsAWhole r
 whole-from r t =
     let h = timely-order r t in
     record {
-      order = h;
       known = t.known;
       one_hold = t.one_hold;
       one_choice = t.one_choice;
+      in_time = t.in_time;
       request_starts = (both-ways _ r (λ c l. starts-said r c h l)).0 t.request_starts;
       request_lines = (both-ways _ r (λ c l. lines-said r c h l)).0 t.request_lines;
       hazard_lines = (both-ways _ r (λ c l. hazards-said r c l)).0 t.hazard_lines;
@@ -81,12 +82,13 @@ whole-from r t =
 
 whole-to : (r : Run) → TimelyAsAWhole r → Timely r
 whole-to r t =
-    let h = t.order in
+    let h : KeepsOrder r =
+    record { orderly = orderly-throughout r t.request_starts t.responses_and_data; in_time = t.in_time } in
     record {
       known = t.known;
       one_hold = t.one_hold;
       one_choice = t.one_choice;
-      in_time = h.in_time;
+      in_time = t.in_time;
       request_starts = (both-ways _ r (λ c l. starts-said r c h l)).1 t.request_starts;
       request_lines = (both-ways _ r (λ c l. lines-said r c h l)).1 t.request_lines;
       hazard_lines = (both-ways _ r (λ c l. hazards-said r c l)).1 t.hazard_lines;

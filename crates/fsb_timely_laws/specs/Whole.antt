@@ -42,13 +42,13 @@ pub record EachIsSaidOfTheWhole (r : Run) (c : ℕ) : Type 0 where
 pub record Throughout (part : Part) (r : Run) : Type 0 where
   pub at : (c : ℕ) → c < length r.trace → IsTrue (holds_in_whole part r c)
 
--- the run is timely as a whole: it keeps its order, nothing in its trace is unknown, there is one hold for each clock and
--- one choice for each request, and the eight parts, asked of the whole run, hold at each clock
+-- the run is timely as a whole: nothing in its trace is unknown, there is one hold for each clock and one choice for each
+-- request, its log goes on in time, and the eight parts, asked of the whole run, hold at each clock
 pub record TimelyAsAWhole (r : Run) : Type 0 where
-  pub order : KeepsOrder r
   pub known : IsTrue (is_known_trace r.trace)
   pub one_hold : length r.holds ≡ length r.trace
   pub one_choice : length r.choices ≡ requests_below r.trace (length r.trace)
+  pub in_time : IsTrue (is_in_time 0 (length r.trace) r.log)
   pub request_starts : Throughout starts_requests r
   pub request_lines : Throughout drives_request_lines r
   pub hazard_lines : Throughout drives_hazards r

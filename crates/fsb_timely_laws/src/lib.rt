@@ -6,7 +6,7 @@
 //! rest on.
 #![tactic(auto)]
 
-ghost use Rattle.std.specs.Prelude.{◌↔◌, ◌<◌, ◌≡◌, false, length, true, IsTrue, ℕ};
+ghost use Rattle.std.specs.Prelude.{◌↔◌, ◌<◌, ◌≡◌, ◌+◌, false, length, true, take, IsTrue, ℕ};
 ghost use Rattle.fsb_laws.specs.Orderly.{Orderly};
 ghost use Rattle.fsb_timely.specs.BusLock.{drives_lock};
 ghost use Rattle.fsb_timely.specs.Carried.{Carried, carries_data};
@@ -17,14 +17,19 @@ ghost use Rattle.fsb_timely.specs.Snoops.{drives_hazards, has_snoop_result};
 ghost use Rattle.fsb_timely.specs.Starts.{drives_request_lines, starts_requests};
 ghost use Rattle.fsb_timely.specs.Timely.{Timely, holds_at};
 ghost use Rattle.fsb_timely.specs.Transfers.{drives_responses};
+ghost use Rattle.fsb_trace.specs.Agree.{AgreeTo};
 ghost use Rattle.fsb_trace.specs.At.{Trace};
 ghost use Rattle.fsb_timely_laws.specs.Disordered.{disordered};
-ghost use Rattle.fsb_timely_laws.specs.Numbers.{NumbersStay};
+ghost use Rattle.fsb_timely_laws.specs.Numbers.{SameNumbers};
 ghost use Rattle.fsb_timely_laws.specs.Whole.{EachIsSaidOfTheWhole, IsSaidOfTheWhole, KeepsOrder, Throughout, TimelyAsAWhole, holds_in_whole};
 
-/// The numbers of an orderly trace that are reached up to a clock are those of its samples up to that clock.
+/// Two orderly traces that are the same up to a clock have the same numbers up to it, so an orderly trace has those of its
+/// samples up to the clock.
 pub fn numbers_stay()
-    ensures { (w : Trace) (c : ℕ) → Orderly w → c < length w → NumbersStay w c }
+    ensures two_traces { (w v : Trace) (c : ℕ) → Orderly w → Orderly v → AgreeTo (c + 1) w v →
+        SameNumbers c w v }
+    ensures first_samples { (w : Trace) (c : ℕ) → Orderly w → c < length w →
+        SameNumbers c w (take (c + 1) w) }
 {}
 
 /// Where a run keeps its order, each part of a timely run, and that its data are carried, holds of the run up to a clock
@@ -38,7 +43,8 @@ pub fn clocks_are_said_of_the_whole()
 pub fn parts_ask_for_little_order()
     ensures parity { (r : Run) (c : ℕ) → c < length r.trace → IsSaidOfTheWhole drives_parity r c }
     ensures bus_lock { (r : Run) (c : ℕ) → c < length r.trace → IsSaidOfTheWhole drives_lock r c }
-    ensures hazard_lines { (r : Run) (c : ℕ) → c < length r.trace → IsSaidOfTheWhole drives_hazards r c }
+    ensures hazard_lines { (r : Run) (c : ℕ) → c < length r.trace →
+        IsSaidOfTheWhole drives_hazards r c }
     ensures completions { (r : Run) (c : ℕ) → IsTrue (is_in_time 0 (length r.trace) r.log) →
         IsSaidOfTheWhole logs_completions r c }
     ensures snoop_results { (r : Run) (c : ℕ) → IsTrue (is_in_time 0 (length r.trace) r.log) →
@@ -60,8 +66,8 @@ pub fn order_is_asked_for()
     ensures whole { holds_in_whole drives_responses disordered 2 ≡ false }
 {}
 
-/// So a run is timely exactly where it is so as a whole, and the data of an orderly run are carried exactly where they are
-/// so throughout the run. A timely run keeps its order.
+/// So a run is timely exactly where it is so as a whole; the parts bring the order along. The data of an orderly run are
+/// carried exactly where they are so throughout the run.
 pub fn timely_runs_are_timely_as_a_whole()
     ensures timely { (r : Run) → Timely r ↔ TimelyAsAWhole r }
     ensures order { (r : Run) → Timely r → KeepsOrder r }
