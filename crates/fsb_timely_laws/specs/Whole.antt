@@ -17,7 +17,7 @@ unfoldable pub holds_in_whole : Part → Run → ℕ → Bool
 holds_in_whole part r c = part r (past_of r) c
 
 -- the run keeps the order that the numbers of its trace rest on: its requests are three clocks apart, each response comes
--- after its snoop end and after the end before, and its log goes on in time
+-- two clocks after its snoop end at least and after the end before, and its log goes on in time
 pub record KeepsOrder (r : Run) : Type 0 where
   pub orderly : Orderly r.trace
   pub in_time : IsTrue (is_in_time 0 (length r.trace) r.log)
