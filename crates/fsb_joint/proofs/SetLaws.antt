@@ -1,0 +1,2 @@
+-- What a set is after its bits were chosen.
+use Rattle.std.proofs.Common.{ℕ, ◌<◌, ◌≡◌, refl}

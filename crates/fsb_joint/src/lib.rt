@@ -1,0 +1,12 @@
+//! What is known of a line, as a set of the 24 joint states that its agents may have: a number of 24 bits.
+//!
+//! A [`JointSet`] has a call for each step of the rules of ownership: what a request leaves, what a snoop end leaves and
+//! turns it into, and the stores and drops that nobody sees. Each answers exactly the set of the definitions of fsb_owners.
+//! `joints_of` says which joint states a set has.
+#![tactic(auto)]
+
+pub use set::JointSet;
+
+mod set;
+mod states;
+mod steps;
