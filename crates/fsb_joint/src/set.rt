@@ -15,6 +15,9 @@ use fsb_line::{Purpose, Settled};
 /// How many joint states there are.
 const COUNT: u8 = 24;
 
+/// A mask with all of them.
+const EVERY: u32 = (1 << COUNT) - 1;
+
 /// A set of the joint states that a line may have, in four bytes.
 #[derive(Clone, Copy, Debug, PartialEq, Eq)]
 pub struct JointSet {
@@ -23,6 +26,7 @@ pub struct JointSet {
 
 impl JointSet {
     /// The line is held by nobody.
+    #[tactic(auto, using(crate::proofs::SetLaws::unheld_joints))]
     pub fn unheld() -> JointSet
         ensures { joints_of result ≡ unheld ∷ [] }
     {
@@ -30,11 +34,12 @@ impl JointSet {
     }
 
     /// Nothing is known of the line.
+    #[tactic(auto, using(crate::proofs::SetLaws::every_joints))]
     pub fn every() -> JointSet
         ensures { joints_of result ≡ every_joint }
     {
         JointSet {
-            mask: (1 << COUNT) - 1,
+            mask: EVERY,
         }
     }
 
@@ -51,6 +56,7 @@ impl JointSet {
     }
 
     /// What is left where the agent, 0 to 3, asks so.
+    #[tactic(auto, unfolding(fsb_owners::specs::Possible::asking, crate::specs::Steps::passes))]
     pub fn asking(self, agent: u8, kind: Purpose) -> JointSet
         requires { agent < 4 }
         ensures { joints_of result ≡ asking (Some agent) (Some kind) (joints_of self) }
@@ -59,6 +65,7 @@ impl JointSet {
     }
 
     /// What is left where a request of the agent, 0 to 3, has its snoop end with these lines.
+    #[tactic(auto, unfolding(fsb_owners::specs::Possible::showing, crate::specs::Steps::passes, fsb_owners::specs::Possible::may_ask))]
     pub fn showing(self, hit: bool, hitm: bool, asker: u8, kind: Purpose) -> JointSet
         requires { asker < 4 }
         ensures { joints_of result ≡ showing hit hitm asker kind (joints_of self) }
@@ -71,6 +78,7 @@ impl JointSet {
 
     /// What the snoop end of a request of the agent, 0 to 3, makes of these. `turned` says that it is to be made again or
     /// to be answered later.
+    #[tactic(auto, unfolding(crate::specs::Steps::leads))]
     pub fn snooped(self, hit: bool, hitm: bool, turned: bool, asker: u8, kind: Purpose) -> JointSet
         requires { asker < 4 }
         ensures { joints_of result
@@ -87,6 +95,7 @@ impl JointSet {
     }
 
     /// What the reply to a request of the agent, 0 to 3, makes of these.
+    #[tactic(auto, unfolding(fsb_owners::specs::Possible::replied_to, crate::specs::Steps::leads))]
     pub fn replied(self, hit: bool, asker: u8, kind: Purpose) -> JointSet
         requires { asker < 4 }
         ensures { joints_of result ≡ replied_to asker kind hit (joints_of self) }
@@ -124,6 +133,7 @@ impl JointSet {
     }
 
     /// Whether the set has the joint state with this number.
+    #[tactic(auto, unfolding(crate::specs::Sets::has_bit))]
     fn has(self, number: u8) -> bool
         requires { number < 24 }
         ensures { result ≡ has_bit self.mask number }
@@ -155,14 +165,25 @@ impl JointSet {
         let mut mask = 0;
         for from in 0..COUNT {
             if self.has(from) {
-                mask |= JointSet::every().kept(Test::Reached(step, from)).mask;
+                mask |= row(step, from).mask;
             }
         }
         JointSet { mask }
     }
 }
 
+/// The joint states to which the step leads from the one with this number.
+#[tactic(auto, using(crate::proofs::SetLaws::every_bits), unfolding(crate::specs::Steps::passes))]
+fn row(step: Step, from: u8) -> JointSet
+    requires agents { IsOfAgents step }
+    requires from { from < 24 }
+    ensures { (m : ℕ) → m < 24 → has_bit result.mask m ≡ leads step (joint_at from) (joint_at m) }
+{
+    JointSet { mask: EVERY }.kept(Test::Reached(step, from))
+}
+
 /// How a request is settled, as its snoop end shows.
+#[tactic(auto, unfolding(fsb_owners::specs::Possible::settled_at_end))]
 fn settled_at_end(hitm: bool, turned: bool, kind: Purpose) -> Settled
     ensures { result ≡ settled_at_end hitm turned kind }
 {
