@@ -1,0 +1,4 @@
+pub mod Losses
+pub mod StepLosses
+pub mod Emptied
+pub mod BrokenRules

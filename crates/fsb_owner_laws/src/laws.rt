@@ -1,0 +1,47 @@
+//! Laws of the rules of ownership: small functions with no code, whose contracts are the laws.
+
+ghost use Rattle.std.specs.Prelude.{◌≡◌, ℕ, Bool, ◌+◌, ◌-◌, ◌<◌, ◌||◌, true, false, List};
+ghost use Rattle.std.specs.List.{filter};
+ghost use Rattle.fsb_line.specs.declared.purpose.Purpose.{Purpose};
+ghost use Rattle.fsb_trace.specs.At.{Trace};
+ghost use Rattle.fsb_owners.specs.Joint.{Joint, is_after_snoop_end, reached_by};
+ghost use Rattle.fsb_owners.specs.Possible.{after_unseen, possible, possible_begun, possible_shown, replied_to, settled_at_end, showing};
+ghost use Rattle.fsb_owners.specs.Rules.{is_asked_in_vain, is_holder_lacking, is_holder_silent, is_none_left, is_owner_lacking, is_owner_silent, is_upgrade_unfit, is_write_back_unfit, is_written_when_lost};
+ghost use Rattle.fsb_owners.specs.Shown.{is_spoiled};
+ghost use Rattle.fsb_owner_laws.specs.Losses.{AreCoherent, fits_reply, possible_turned};
+
+/// A snoop end turns each joint state that it fits into one of a coherent line, stores and drops lose none, and a reply loses
+/// those that it does not fit.
+pub fn steps_keep_lines_coherent()
+    ensures request { (hit hitm turned : Bool) (asker : ℕ) (kind : Purpose) (set : List Joint) →
+        asker < 4 → AreCoherent set →
+        is_none_left (reached_by (is_after_snoop_end asker kind (settled_at_end hitm turned kind) hit)
+          (showing hit hitm asker kind set))
+        ≡ is_none_left (showing hit hitm asker kind set) }
+    ensures reply { (hit : Bool) (asker : ℕ) (kind : Purpose) (set : List Joint) → asker < 4 →
+        AreCoherent set →
+        is_none_left (replied_to asker kind hit set)
+        ≡ is_none_left (filter (fits_reply hit asker kind) set) }
+    ensures unseen { (v : Trace) (line c : ℕ) (set : List Joint) → AreCoherent set →
+        is_none_left (after_unseen v line c set) ≡ is_none_left set }
+{}
+
+/// A line that could be coherent is left without a joint state at no other place than at a request that breaks rule 22, 23 or
+/// 24, at a snoop end that breaks one of the rules 25 to 29, or at a reply that the others' copies do not fit.
+pub fn joint_states_end_where_a_rule_is_broken()
+    ensures next { (first : List Joint) (v : Trace) (line c : ℕ) → AreCoherent first →
+        is_none_left (possible first v line (c + 1))
+        ≡ is_none_left (possible_turned first v line c) }
+    ensures begun { (first : List Joint) (v : Trace) (line c : ℕ) → 0 < c →
+        is_spoiled v line ≡ false →
+        is_none_left (possible first v line (c - 1)) ≡ false →
+        is_none_left (possible_begun first v line (c - 1)) ≡ true →
+        (is_write_back_unfit first v c || is_upgrade_unfit first v c || is_asked_in_vain first v c)
+        ≡ true }
+    ensures shown { (first : List Joint) (v : Trace) (line c : ℕ) → is_spoiled v line ≡ false →
+        is_none_left (possible_begun first v line c) ≡ false →
+        is_none_left (possible_shown first v line c) ≡ true →
+        (is_owner_lacking first v c || is_owner_silent first v c || is_holder_silent first v c
+        || is_holder_lacking first v c || is_written_when_lost first v c)
+        ≡ true }
+{}

@@ -1,0 +1,7 @@
+//! Laws of the rules of ownership, on which a judge of coherence in one pass rests: where the set of joint states of a line
+//! loses its last one. The definitions are those of fsb_owners, and `Losses` says what a reply fits.
+#![tactic(auto)]
+
+pub use laws::{joint_states_end_where_a_rule_is_broken, steps_keep_lines_coherent};
+
+mod laws;
