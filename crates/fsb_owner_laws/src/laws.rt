@@ -3,7 +3,9 @@
 ghost use Rattle.std.specs.Prelude.{◌≡◌, ℕ, Bool, ◌+◌, ◌-◌, ◌<◌, ◌||◌, true, false, List};
 ghost use Rattle.std.specs.List.{filter};
 ghost use Rattle.fsb_line.specs.declared.purpose.Purpose.{Purpose};
+ghost use Rattle.fsb_trace.specs.Agree.{AgreeTo};
 ghost use Rattle.fsb_trace.specs.At.{Trace};
+ghost use Rattle.fsb_laws.specs.Orderly.{Orderly};
 ghost use Rattle.fsb_owners.specs.Joint.{Joint, is_after_snoop_end, reached_by};
 ghost use Rattle.fsb_owners.specs.Possible.{after_unseen, possible, possible_begun, possible_shown, replied_to, settled_at_end, showing};
 ghost use Rattle.fsb_owners.specs.Rules.{is_asked_in_vain, is_holder_lacking, is_holder_silent, is_none_left, is_owner_lacking, is_owner_silent, is_upgrade_unfit, is_write_back_unfit, is_written_when_lost};
@@ -44,4 +46,10 @@ pub fn joint_states_end_where_a_rule_is_broken()
         (is_owner_lacking first v c || is_owner_silent first v c || is_holder_silent first v c
         || is_holder_lacking first v c || is_written_when_lost first v c)
         ≡ true }
+{}
+
+/// The joint states that are possible before a clock rest on the samples up to that clock alone, where responses come in time.
+pub fn possible_states_rest_on_the_past()
+    ensures { (n : ℕ) (first : List Joint) (w v : Trace) (line c : ℕ) → AgreeTo n w v → Orderly w →
+        Orderly v → c < n → possible first w line c ≡ possible first v line c }
 {}
