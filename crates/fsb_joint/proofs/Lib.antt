@@ -3,3 +3,4 @@ pub mod Bits
 pub mod Numbers
 pub mod Joints
 pub mod SetLaws
+pub mod LineClocks

@@ -2,11 +2,13 @@
 //!
 //! A [`JointSet`] has a call for each step of the rules of ownership: what a request leaves, what a snoop end leaves and
 //! turns it into, and the stores and drops that nobody sees. Each answers exactly the set of the definitions of fsb_owners.
-//! `joints_of` says which joint states a set has.
+//! `joints_of` says which joint states a set has; `LineClock` says what the wires show of a line at a clock.
 #![tactic(auto)]
 
+pub use line_clock::{Begun, SnoopEnd};
 pub use set::JointSet;
 
+mod line_clock;
 mod set;
 mod states;
 mod steps;
