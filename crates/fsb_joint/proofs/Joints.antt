@@ -101,7 +101,7 @@ stored_by ready a from to = ready && nat_eq from (16 + a) && nat_eq to (20 + a)
 
 stored_at : (ready : Bool) (from to a : ℕ) → from < 24 → to < 24 → a < 4
     → (ready && is_same_joint (joint_at from) (joint_at (16 + a)) && is_same_joint (joint_at to) (joint_at (20 + a)))
-      ≡ stored_by ready a from to
+    ≡ stored_by ready a from to
 stored_at ready from to a lf lt la =
     rw (same-joints from (16 + a) lf (omega (arith, la)), same-joints to (20 + a) lt (omega (arith, la))) refl
 
@@ -119,8 +119,20 @@ pub stores : (ready : List Bool) (from to : ℕ) → from < 24 → to < 24 → l
 unfolding leads is_after_stores
 stores ready from to lf lt =
     let n = alone_numbers in
-    rw (n.0, n.1, n.2, n.3, n.4, n.5, n.6, n.7, same-joints from to lf lt,
-      stored_at (answer_for ready 0) from to 0 lf lt (omega arith), stored_at (answer_for ready 1) from to 1 lf lt (omega arith),
-      stored_at (answer_for ready 2) from to 2 lf lt (omega arith), stored_at (answer_for ready 3) from to 3 lf lt (omega arith))
+    rw (
+      n.0,
+      n.1,
+      n.2,
+      n.3,
+      n.4,
+      n.5,
+      n.6,
+      n.7,
+      same-joints from to lf lt,
+      stored_at (answer_for ready 0) from to 0 lf lt (omega arith),
+      stored_at (answer_for ready 1) from to 1 lf lt (omega arith),
+      stored_at (answer_for ready 2) from to 2 lf lt (omega arith),
+      stored_at (answer_for ready 3) from to 3 lf lt (omega arith),
+    )
     (any_of (nat_eq from to) (stored_by (answer_for ready 0) 0 from to) (stored_by (answer_for ready 1) 1 from to)
     (stored_by (answer_for ready 2) 2 from to) (stored_by (answer_for ready 3) 3 from to))

@@ -28,7 +28,7 @@ begun_by (Some a) (Some kind) set = refl
 
 begun_if : (b : Bool) (o : Option ℕ) (k : Option Purpose) (set : List Joint)
     → (if b then asking o k set else set)
-      ≡ begun_step (if b then option_and_then (λ a. option_map (λ kind. record { agent = a; kind = kind }) k) o else None) set
+    ≡ begun_step (if b then option_and_then (λ a. option_map (λ kind. record { agent = a; kind = kind }) k) o else None) set
 begun_if true o k set = begun_by o k set
 begun_if false o k set = refl
 
@@ -71,7 +71,7 @@ at_kind v c step f h set j a (Some kind) = h j a kind set
 at_agent : (v : Trace) (c : ℕ) (step : ℕ → ℕ → Purpose → List Joint → List Joint) (f : SnoopEnd → List Joint → List Joint)
     → Fits v c step f → (set : List Joint) (j : ℕ) (o : Option ℕ) (k : Option Purpose)
     → elim o [ None ↦ set | Some a ↦ elim k [ None ↦ set | Some kind ↦ step j a kind set ] ]
-      ≡ end_step f (option_and_then (λ a. option_map (shown_by v c j a) k) o) set
+    ≡ end_step f (option_and_then (λ a. option_map (shown_by v c j a) k) o) set
 at_agent v c step f h set j None k = refl
 at_agent v c step f h set j (Some a) k = at_kind v c step f h set j a k
 
@@ -93,7 +93,7 @@ at_line f false set to o e = refl
 at_number : (v : Trace) (line c : ℕ) (step : ℕ → ℕ → Purpose → List Joint → List Joint) (f : SnoopEnd → List Joint → List Joint)
     → Fits v c step f → (set : List Joint) (o : Option ℕ)
     → elim o [ None ↦ set | Some j ↦ if is_for_line v line j then by_request v j (step j) set else set ]
-      ≡ end_step f (option_and_then (λ j. if is_for_line v line j then option_and_then (end_by v c j) (origin_clock_of v j) else None) o) set
+    ≡ end_step f (option_and_then (λ j. if is_for_line v line j then option_and_then (end_by v c j) (origin_clock_of v j) else None) o) set
 unfolding by_request
 at_number v line c step f h set None = refl
 at_number v line c step f h set (Some j) =

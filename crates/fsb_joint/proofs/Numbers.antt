@@ -72,4 +72,5 @@ holder-number n a ln la =
     (at_each (λ n a. is_same (holder_by n a) (has_other_holder a (joint_at n))) 24 4 holders_computed n a ln la))
 
 pub ruleset numbers = (state-number, owner-number, holder-number)
+
 pub ruleset same_states = (same_states-eq, same_state-self)

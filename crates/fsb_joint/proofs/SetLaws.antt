@@ -81,7 +81,7 @@ unheld_joints = refl
 
 in_set : (step : Joint → Joint → Bool) (s m : ℕ)
     → list_any (λ from. step from (joint_at m)) (joints_in s)
-      ≡ any_where (λ n. has_bit s n && step (joint_at n) (joint_at m)) 24
+    ≡ any_where (λ n. has_bit s n && step (joint_at n) (joint_at m)) 24
 unfolding joints_in
 in_set step s m = any-where joint_at (λ from. step from (joint_at m)) (has_bit s) 24
 

@@ -38,9 +38,7 @@ impl JointSet {
     pub fn every() -> JointSet
         ensures { joints_of result ≡ every_joint }
     {
-        JointSet {
-            mask: EVERY,
-        }
+        JointSet { mask: EVERY }
     }
 
     /// Whether no joint state is left.
@@ -83,7 +81,7 @@ impl JointSet {
         requires { asker < 4 }
         ensures { joints_of result
             ≡ reached_by (is_after_snoop_end asker kind (settled_at_end hitm turned kind) hit)
-              (joints_of self) }
+            (joints_of self) }
     {
         let settled = settled_at_end(hitm, turned, kind);
         self.reached(Step::Ends(End {

@@ -277,11 +277,11 @@ may_drop-agree n w v line b a k l =
     rw (coming-agree n w v line a b k (omega (arith, l)), coming-agree n w v line a (b + 1) k (omega (arith, l)),
       upgrading-agree n w v line a b k l) refl
 
-stores-same : (f g : ℕ → Bool) (set : List Joint) → ((a : ℕ) → f a ≡ g a) → reached_by (is_after_stores f) set ≡ reached_by (is_after_stores g) set
+pub stores-same : (f g : ℕ → Bool) (set : List Joint) → ((a : ℕ) → f a ≡ g a) → reached_by (is_after_stores f) set ≡ reached_by (is_after_stores g) set
 unfolding is_after_stores reached_by
 stores-same f g set h = rw (h 0, h 1, h 2, h 3) refl
 
-drops-same : (f g : ℕ → Bool) (set : List Joint) → ((a : ℕ) → f a ≡ g a) → reached_by (is_after_drops f) set ≡ reached_by (is_after_drops g) set
+pub drops-same : (f g : ℕ → Bool) (set : List Joint) → ((a : ℕ) → f a ≡ g a) → reached_by (is_after_drops f) set ≡ reached_by (is_after_drops g) set
 unfolding is_after_drops reached_by
 drops-same f g set h = rw (h 0, h 1, h 2, h 3) refl
 

@@ -5,3 +5,4 @@ pub mod BrokenRules
 pub mod AgreeWords
 pub mod AgreeEnders
 pub mod AgreePossible
+pub mod Quiet

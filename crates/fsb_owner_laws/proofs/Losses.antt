@@ -93,7 +93,7 @@ coherent_reached step set =
 pub coherent_filter : (p : Joint → Bool) (set : List Joint) → AreCoherent set → AreCoherent (filter p set)
 coherent_filter p set a = All-filter p (Contains every_joint) set a
 
-any_filter : (p q : Joint → Bool) (xs : List Joint) → list_any q (filter p xs) ≡ list_any (λ x. p x && q x) xs
+pub any_filter : (p q : Joint → Bool) (xs : List Joint) → list_any q (filter p xs) ≡ list_any (λ x. p x && q x) xs
 any_filter p q [] = refl
 any_filter p q (x ∷ xs) =
     elim (cases_Bool (p x)) [

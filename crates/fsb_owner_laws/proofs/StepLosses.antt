@@ -153,10 +153,10 @@ joints_same : list_all (λ x. is_same (is_same_joint x x) true) every_joint ≡ 
 unfolding is_same_joint is_same_state every_joint sharing alone all_where unheld
 joints_same = refl
 
-same_joint : (x : Joint) → Contains every_joint x → is_same_joint x x ≡ true
+pub same_joint : (x : Joint) → Contains every_joint x → is_same_joint x x ≡ true
 same_joint = alike (λ x. is_same_joint x x) (λ x. true) joints_same
 
-stores_stay : (ready : ℕ → Bool) (x : Joint) → Contains every_joint x → is_after_stores ready x x ≡ true
+pub stores_stay : (ready : ℕ → Bool) (x : Joint) → Contains every_joint x → is_after_stores ready x x ≡ true
 unfolding is_after_stores
 stores_stay ready x e = rw (same_joint x e) refl
 
@@ -164,7 +164,7 @@ kept_self : (may : Bool) (s : Mesi) → is_kept_or_dropped may s s ≡ true
 unfolding is_kept_or_dropped
 kept_self may s = rw (same_state s) refl
 
-drops_stay : (may : ℕ → Bool) (x : Joint) → Contains every_joint x → is_after_drops may x x ≡ true
+pub drops_stay : (may : ℕ → Bool) (x : Joint) → Contains every_joint x → is_after_drops may x x ≡ true
 unfolding is_after_drops
 drops_stay may x e =
     rw (kept_self (may 0) (state_at x 0), kept_self (may 1) (state_at x 1), kept_self (may 2) (state_at x 2),

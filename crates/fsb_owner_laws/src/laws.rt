@@ -1,15 +1,15 @@
 //! Laws of the rules of ownership: small functions with no code, whose contracts are the laws.
 
-ghost use Rattle.std.specs.Prelude.{◌≡◌, ℕ, Bool, ◌+◌, ◌-◌, ◌<◌, ◌||◌, true, false, List};
+ghost use Rattle.std.specs.Prelude.{◌≡◌, ℕ, Bool, ◌+◌, ◌-◌, ◌<◌, ◌||◌, true, false, List, Some};
 ghost use Rattle.std.specs.List.{filter};
 ghost use Rattle.fsb_line.specs.declared.purpose.Purpose.{Purpose};
 ghost use Rattle.fsb_trace.specs.Agree.{AgreeTo};
 ghost use Rattle.fsb_trace.specs.At.{Trace};
 ghost use Rattle.fsb_laws.specs.Orderly.{Orderly};
 ghost use Rattle.fsb_owners.specs.Joint.{Joint, is_after_snoop_end, reached_by};
-ghost use Rattle.fsb_owners.specs.Possible.{after_unseen, possible, possible_begun, possible_shown, replied_to, settled_at_end, showing};
+ghost use Rattle.fsb_owners.specs.Possible.{after_clock, after_unseen, possible, possible_begun, possible_shown, replied_to, settled_at_end, showing};
 ghost use Rattle.fsb_owners.specs.Rules.{is_asked_in_vain, is_holder_lacking, is_holder_silent, is_none_left, is_owner_lacking, is_owner_silent, is_upgrade_unfit, is_write_back_unfit, is_written_when_lost};
-ghost use Rattle.fsb_owners.specs.Shown.{is_spoiled};
+ghost use Rattle.fsb_owners.specs.Shown.{is_coming, is_for_line, is_spoiled, may_drop_at, names, snooped_at};
 ghost use Rattle.fsb_owner_laws.specs.Losses.{AreCoherent, fits_reply, possible_turned};
 
 /// A snoop end turns each joint state that it fits into one of a coherent line, stores and drops lose none, and a reply loses
@@ -52,4 +52,16 @@ pub fn joint_states_end_where_a_rule_is_broken()
 pub fn possible_states_rest_on_the_past()
     ensures { (n : ℕ) (first : List Joint) (w v : Trace) (line c : ℕ) → AgreeTo n w v → Orderly w →
         Orderly v → c < n → possible first w line c ≡ possible first v line c }
+{}
+
+/// A line of which a clock shows nothing has the joint states that stores and drops leave; where the same agents may store and
+/// drop as before, these are those that it had.
+pub fn quiet_lines_keep_their_states()
+    ensures shown { (v : Trace) (line c : ℕ) (set : List Joint) → names v line c ≡ false →
+        ((j : ℕ) → snooped_at v c ≡ Some j → is_for_line v line j ≡ false) →
+        after_clock v line c set ≡ after_unseen v line c set }
+    ensures unseen { (v : Trace) (line b c : ℕ) (set : List Joint) →
+        ((a : ℕ) → is_coming v line a (c + 1) ≡ is_coming v line a (b + 1)) →
+        ((a : ℕ) → may_drop_at v line c a ≡ may_drop_at v line b a) →
+        after_unseen v line c (after_unseen v line b set) ≡ after_unseen v line b set }
 {}
