@@ -22,7 +22,7 @@ use Rattle.fsb_owner_laws.proofs.BrokenRules.{IsEnder, ender_parts}
 use Rattle.fsb_owner_laws.proofs.Emptied.{Ender, ender, with_agent, with_clock, with_kind, with_line, with_number}
 
 -- the request whose snoop ends at b
-snooped_found : (w : Trace) (b j : ℕ) → snooped_at w b ≡ Some j → snoop_end_of w j ≡ Some b
+pub snooped_found : (w : Trace) (b j : ℕ) → snooped_at w b ≡ Some j → snoop_end_of w j ≡ Some b
 unfolding snooped_at
 snooped_found w b j e =
     is_at-some (snoop_end_of w j) b (first_where-found (λ j. is_at (snoop_end_of w j) b) (live_count w) j e).1
@@ -33,7 +33,7 @@ not_sooner w i j b l e t =
     let same : h.0 ≡ b = some_same h.0 b (sym h.1 ∙ is_at-some (snoop_end_of w i) b t) in
     omega (arith, same, h.2)
 
-snooped_from : (w : Trace) (b j : ℕ) → snoop_end_of w j ≡ Some b → snooped_at w b ≡ Some j
+pub snooped_from : (w : Trace) (b j : ℕ) → snoop_end_of w j ≡ Some b → snooped_at w b ≡ Some j
 unfolding snooped_at
 snooped_from w b j e =
     let h = snoop_end_of-clock w j b e in
@@ -48,7 +48,7 @@ number_of_some w i j (Some p) e t =
     (p, e, some_same (live_number_of w p) j (is_at-some (option_map (live_number_of w) (Some p)) j t))
 
 -- the request that live request j answers
-reply_of_parts : (w : Trace) (j i : ℕ) → is_reply_of w j i ≡ true
+pub reply_of_parts : (w : Trace) (j i : ℕ) → is_reply_of w j i ≡ true
     → (p : ℕ) × (IsAnsweredAt w i p) × (live_number_of w p ≡ j) × (live_clock_of w j ≡ Some p)
 unfolding is_reply_of reply_number_of
 reply_of_parts w j i t =
@@ -94,7 +94,7 @@ pub record IsOrigin (w : Trace) (j s q : ℕ) : Type 0 where
   pub begins : live_clock_of w origin ≡ Some q
   pub before : q + 4 ≤ s
 
-some_number : (w : Trace) (q : ℕ) (o : Option ℕ) → option_and_then (live_clock_of w) o ≡ Some q
+pub some_number : (w : Trace) (q : ℕ) (o : Option ℕ) → option_and_then (live_clock_of w) o ≡ Some q
     → (i : ℕ) × (o ≡ Some i) × (live_clock_of w i ≡ Some q)
 some_number w q None e = absurd (let no : ⊥ = cc in no)
 some_number w q (Some i) e = (i, refl, e)
@@ -142,11 +142,11 @@ origin_parts n w v j s q k e l h =
       rw (← (live_request_of-stays n w v j s k.agree l e), there) (live_clock_of-stays n w v p.0 q k.agree (omega (arith, before, l)) p.2))
 
 -- what is seen of the request whose snoop ends at b
-ender_from : (v : Trace) (line b : ℕ) (e : Ender) → IsEnder v line b e → ender v line b ≡ Some e
+pub ender_from : (v : Trace) (line b : ℕ) (e : Ender) → IsEnder v line b e → ender v line b ≡ Some e
 unfolding ender
 ender_from v line b e h = rw (h.number, h.for_line, h.begins, h.agent, h.kind) refl
 
-for_line-from : (v : Trace) (line j q : ℕ) → origin_clock_of v j ≡ Some q → is_for_line v line j ≡ names v line q
+pub for_line-from : (v : Trace) (line j q : ℕ) → origin_clock_of v j ≡ Some q → is_for_line v line j ≡ names v line q
 unfolding is_for_line is_some_and
 for_line-from v line j q e = rw e refl
 

@@ -160,7 +160,7 @@ dropped-agree n w v b q a l =
       | inr f ↦ rw f (off (is_cancelled w q) (is_cancelled v q))
     ]
 
-reply_end : (w : Trace) (i e : ℕ) (o : Option ℕ) → reply_clock_of w i ≡ o → reply_end_of w i ≡ Some e
+pub reply_end : (w : Trace) (i e : ℕ) (o : Option ℕ) → reply_clock_of w i ≡ o → reply_end_of w i ≡ Some e
     → (p : ℕ) × (reply_clock_of w i ≡ Some p) × (end_of w (live_number_of w p) ≡ Some e)
 unfolding reply_end_of reply_number_of
 reply_end w i e None h f = absurd (let z = rw h at f in let no : ⊥ = cc in no)
@@ -184,7 +184,7 @@ not_deferred_kept n w v i e k l h =
     is_deferred-stays n w v i s.snoop r.0 k.agree (omega (arith, s.before, r.2, l)) s.is_snoop (omega (arith, r.2, l)) r.1
 
 -- the end of a live request lies behind its first clock
-clock_of_end : (w : Trace) (q e : ℕ) → Orderly w → is_live w q ≡ true → q < length w → end_of w (live_number_of w q) ≡ Some e → q + 6 ≤ e
+pub clock_of_end : (w : Trace) (q e : ℕ) → Orderly w → is_live w q ≡ true → q < length w → end_of w (live_number_of w q) ≡ Some e → q + 6 ≤ e
 clock_of_end w q e o t l h =
     let p = end_after_clock w (live_number_of w q) e o h in
     let same : p.0 ≡ q = some_same p.0 q (sym p.1 ∙ live_clock_of-number w q l t) in

@@ -35,7 +35,7 @@ of_line None line e = absurd (let no : ⊥ = cc in no)
 of_line (Some m) line e = ap (λ k. Some k) (let s : m ≡ line = grind (arith, nat_tests) in s)
 
 -- the request that begins at q names the line, and the line is its
-named : (v : Trace) (line q : ℕ) → names v line q ≡ true → (line_at ADS v q ≡ true) × (line_of v q ≡ Some line)
+pub named : (v : Trace) (line q : ℕ) → names v line q ≡ true → (line_at ADS v q ≡ true) × (line_of v q ≡ Some line)
 unfolding names
 named v line q e =
     let outer = and_parts (line_at ADS v q && is_at (line_of v q) line) (not (is_reply (request_at v q))) e in
@@ -43,7 +43,7 @@ named v line q e =
     (inner.0, of_line (line_of v q) line inner.1)
 
 -- the test of a request is the test of its line and its agent
-of_request-at : (v : Trace) (line q a : ℕ) (test : ℕ → ℕ → Bool) → names v line q ≡ true → is_spoiled v line ≡ false
+pub of_request-at : (v : Trace) (line q a : ℕ) (test : ℕ → ℕ → Bool) → names v line q ≡ true → is_spoiled v line ≡ false
     → agent_at v q ≡ Some a → of_request v q test ≡ test line a
 unfolding of_request is_some_and
 of_request-at v line q a test n s g =
@@ -67,7 +67,7 @@ begun_parts set true (Some a) None n e = absurd (both_ways (is_none_left set) n 
 begun_parts set true (Some a) (Some kind) n e =
     record { names_line = refl; agent = a; has_agent = refl; kind = kind; has_kind = refl }
 
-decoded : (v : Trace) (line d a : ℕ) (test : ℕ → ℕ → ℕ → Bool) → 0 < d → names v line (d - 1) ≡ true → is_spoiled v line ≡ false
+pub decoded : (v : Trace) (line d a : ℕ) (test : ℕ → ℕ → ℕ → Bool) → 0 < d → names v line (d - 1) ≡ true → is_spoiled v line ≡ false
     → agent_at v (d - 1) ≡ Some a → test (d - 1) line a ≡ true → at_decoding v d test ≡ true
 unfolding at_decoding line_back
 decoded v line d a test l n s g t =
@@ -163,7 +163,7 @@ pub ender_parts : (v : Trace) (line c : ℕ) (e : Ender) → ender v line c ≡ 
 unfolding ender
 ender_parts v line c e h = number_parts v line c (snooped_at v c) e refl h
 
-named_by : (v : Trace) (line q : ℕ) (o : Option ℕ) → o ≡ Some q → is_some_and o (names v line) ≡ true → names v line q ≡ true
+pub named_by : (v : Trace) (line q : ℕ) (o : Option ℕ) → o ≡ Some q → is_some_and o (names v line) ≡ true → names v line q ≡ true
 unfolding is_some_and
 named_by v line q o e h = let t = rw e at h in t
 
@@ -219,7 +219,7 @@ broken_by : (first : List Joint) (v : Trace) (line c : ℕ) (o : Option Ender) �
 broken_by first v line c None h s f g n = absurd (both_ways (is_none_left (possible_begun first v line c)) f n)
 broken_by first v line c (Some e) h s f g n = rules_of_answer first v line c e (ender_parts v line c e h) s f g
 
-shown_by : (first : List Joint) (v : Trace) (line c : ℕ)
+pub shown_by : (first : List Joint) (v : Trace) (line c : ℕ)
     → possible_shown first v line c ≡ step_by (left_by v c) (ender v line c) (possible_begun first v line c)
 unfolding possible_shown after_answer
 shown_by first v line c = at_ender v line c (left_by v c) (possible_begun first v line c)

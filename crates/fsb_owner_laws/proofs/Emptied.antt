@@ -33,7 +33,7 @@ four_of None h a e = absurd (let no : ⊥ = cc in no)
 four_of (Some (Symmetric b)) h a e = let s : b ≡ a = cc in rw (← s) (h b refl)
 four_of (Some Priority) h a e = absurd (let no : ⊥ = cc in no)
 
-agent_four : (v : Trace) (q a : ℕ) → agent_at v q ≡ Some a → a < 4
+pub agent_four : (v : Trace) (q a : ℕ) → agent_at v q ≡ Some a → a < 4
 unfolding agent_at
 agent_four v q a e = four_of (winner_at v q) (λ b. winner-four v q b) a e
 

@@ -6,3 +6,7 @@ pub mod AgreeWords
 pub mod AgreeEnders
 pub mod AgreePossible
 pub mod Quiet
+pub mod Members
+pub mod Awaited
+pub mod AskedOnce
+pub mod Replies

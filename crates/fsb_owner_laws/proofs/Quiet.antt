@@ -27,7 +27,7 @@ use Rattle.fsb_owner_laws.proofs.StepLosses.{drops_stay, same_joint, stores_stay
 or_left : (a b : Bool) → a ≡ false → (a || b) ≡ b
 or_left a b f = rw f refl
 
-any_found : (p : Joint → Bool) (xs : List Joint) → list_any p xs ≡ true → (x : Joint) × (Contains xs x) × (p x ≡ true)
+pub any_found : (p : Joint → Bool) (xs : List Joint) → list_any p xs ≡ true → (x : Joint) × (Contains xs x) × (p x ≡ true)
 any_found p [] e = absurd (let no : ⊥ = cc in no)
 any_found p (x ∷ xs) e =
     elim (cases_Bool (p x)) [
@@ -36,7 +36,7 @@ any_found p (x ∷ xs) e =
           (r.0, (suc r.1.0, (let l = r.1.1 in omega (arith, l)), r.1.2), r.2)
     ]
 
-any_at : (p : Joint → Bool) (xs : List Joint) (x : Joint) → Contains xs x → p x ≡ true → list_any p xs ≡ true
+pub any_at : (p : Joint → Bool) (xs : List Joint) (x : Joint) → Contains xs x → p x ≡ true → list_any p xs ≡ true
 any_at p xs x c t = list_any_at p xs c.0 x c.1 (ap p c.2 ∙ t)
 
 filter_alike : (p q : Joint → Bool) (xs : List Joint) → ((x : Joint) → Contains xs x → p x ≡ q x) → filter p xs ≡ filter q xs
@@ -94,7 +94,7 @@ dropped_on may s t u =
     (drop_twice may))))
 
 -- the four parts of a drop
-abbrev kept : (ℕ → Bool) → Joint → Joint → ℕ → Bool
+abbrev pub kept : (ℕ → Bool) → Joint → Joint → ℕ → Bool
 kept may x y a = is_kept_or_dropped (may a) (state_at x a) (state_at y a)
 
 four : (a b c d : Bool) → (a && (b && (c && (d && true)))) ≡ true → (a ≡ true) × (b ≡ true) × (c ≡ true) × (d ≡ true)
@@ -120,7 +120,7 @@ drops_on may x y z e f =
       dropped_on (may 2) (state_at x 2) (state_at y 2) (state_at z 2) p.2 r.2,
       dropped_on (may 3) (state_at x 3) (state_at y 3) (state_at z 3) p.3 r.3) refl
 
-same_states : (s t : Mesi) → is_same_state s t ≡ true → s ≡ t
+pub same_states : (s t : Mesi) → is_same_state s t ≡ true → s ≡ t
 unfolding is_same_state
 same_states Invalid Invalid e = refl
 same_states Shared Shared e = refl
@@ -147,7 +147,7 @@ same_lists (s ∷ x) (t ∷ y) e =
     let p = and_parts (is_same_state s t) (pointwise is_same_state x y) e in
     rw (same_states s t p.0, same_lists x y p.1) refl
 
-same_joints : (x y : Joint) → is_same_joint x y ≡ true → x ≡ y
+pub same_joints : (x y : Joint) → is_same_joint x y ≡ true → x ≡ y
 unfolding is_same_joint
 same_joints x y e = same_lists x y e
 
@@ -197,11 +197,11 @@ store_parts ready x y e =
       ]
     ]
 
-drop_each : (may : ℕ → Bool) (x y : Joint) → is_after_drops may x y ≡ true → each_where (kept may x y) 4 ≡ true
+pub drop_each : (may : ℕ → Bool) (x y : Joint) → is_after_drops may x y ≡ true → each_where (kept may x y) 4 ≡ true
 unfolding each_where
 drop_each may x y e = let p = drop_parts may x y e in rw (p.0, p.1, p.2, p.3) refl
 
-kept_exclusive : (may : Bool) (s : Mesi) → is_kept_or_dropped may s Exclusive ≡ true → is_same_state s Exclusive ≡ true
+pub kept_exclusive : (may : Bool) (s : Mesi) → is_kept_or_dropped may s Exclusive ≡ true → is_same_state s Exclusive ≡ true
 unfolding is_kept_or_dropped is_same_state
 kept_exclusive may Exclusive e = refl
 kept_exclusive true Invalid e = e
@@ -219,7 +219,7 @@ alone_computed : each_where exclusive_alone 4 ≡ true
 unfolding each_where exclusive_alone is_same_joint is_same_state state_at every_joint sharing alone all_where unheld
 alone_computed = refl
 
-held_there : each_where (λ a. is_same_state (state_at (alone Exclusive a) a) Exclusive) 4 ≡ true
+pub held_there : each_where (λ a. is_same_state (state_at (alone Exclusive a) a) Exclusive) 4 ≡ true
 unfolding each_where is_same_state state_at alone
 held_there = refl
 
@@ -227,7 +227,7 @@ implied : (a b : Bool) → (not a || b) ≡ true → a ≡ true → b ≡ true
 implied a b e t = let h = rw t at e in h
 
 -- only a line that was Exclusive at the agent is Exclusive there after drops
-only_exclusive : (may : ℕ → Bool) (z : Joint) (a : ℕ) → a < 4 → Contains every_joint z
+pub only_exclusive : (may : ℕ → Bool) (z : Joint) (a : ℕ) → a < 4 → Contains every_joint z
     → is_after_drops may z (alone Exclusive a) ≡ true → z ≡ alone Exclusive a
 unfolding exclusive_alone
 only_exclusive may z a l c e =

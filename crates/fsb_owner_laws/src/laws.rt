@@ -11,6 +11,7 @@ ghost use Rattle.fsb_owners.specs.Possible.{after_clock, after_unseen, possible,
 ghost use Rattle.fsb_owners.specs.Rules.{is_asked_in_vain, is_holder_lacking, is_holder_silent, is_none_left, is_owner_lacking, is_owner_silent, is_upgrade_unfit, is_write_back_unfit, is_written_when_lost};
 ghost use Rattle.fsb_owners.specs.Shown.{is_coming, is_for_line, is_spoiled, may_drop_at, names, snooped_at};
 ghost use Rattle.fsb_owner_laws.specs.Losses.{AreCoherent, fits_reply, possible_turned};
+ghost use Rattle.fsb_owner_laws.specs.Unbroken.{IsUnbroken};
 
 /// A snoop end turns each joint state that it fits into one of a coherent line, stores and drops lose none, and a reply loses
 /// those that it does not fit.
@@ -64,4 +65,13 @@ pub fn quiet_lines_keep_their_states()
         ((a : ℕ) → is_coming v line a (c + 1) ≡ is_coming v line a (b + 1)) →
         ((a : ℕ) → may_drop_at v line c a ≡ may_drop_at v line b a) →
         after_unseen v line c (after_unseen v line b set) ≡ after_unseen v line b set }
+{}
+
+/// Where in addition no request up to the clock breaks rule 21, and neither rule 30 nor rule 31 is broken at it, a reply loses
+/// none either. So a set is never empty unless a rule is broken.
+pub fn unbroken_lines_keep_a_joint_state()
+    ensures { (first : List Joint) (v : Trace) (line c : ℕ) → AreCoherent first →
+        IsUnbroken first v line c →
+        is_none_left (possible first v line (c + 1))
+        ≡ is_none_left (possible_shown first v line c) }
 {}

@@ -2,6 +2,6 @@
 //! loses its last one. The definitions are those of fsb_owners, and `Losses` says what a reply fits.
 #![tactic(auto)]
 
-pub use laws::{joint_states_end_where_a_rule_is_broken, possible_states_rest_on_the_past, quiet_lines_keep_their_states, steps_keep_lines_coherent};
+pub use laws::{joint_states_end_where_a_rule_is_broken, possible_states_rest_on_the_past, quiet_lines_keep_their_states, steps_keep_lines_coherent, unbroken_lines_keep_a_joint_state};
 
 mod laws;
