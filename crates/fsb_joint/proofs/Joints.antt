@@ -1,12 +1,11 @@
 -- What a step says of two joint states, agent by agent.
-use Rattle.std.proofs.Common.{ℕ, suc, zero, ◌+◌, ◌%◌, ◌<◌, ◌≡◌, Bool, true, false, ◌&&◌, ◌||◌, not, nat_eq, nat_le, nat_lt, List, [], ◌∷◌, length, map}
-use Rattle.std.proofs.Common.{refl, sym, ap, ◌∙◌, arith, if◌then◌else◌, inl, inr}
-use Rattle.std.specs.Prelude.{slice_index_or}
+use Rattle.std.proofs.Common.{ℕ, ◌+◌, ◌<◌, ◌≡◌, Bool, true, false, ◌&&◌, ◌||◌, nat_eq, List, [], ◌∷◌, length, map}
+use Rattle.std.proofs.Common.{refl, sym, ap, ◌∙◌, arith}
 use Rattle.std.specs.Cmp.Lexicographic.{pointwise}
 use Rattle.std.proofs.lemmas.Bool.Decides.{nat_tests}
 use Rattle.fsb_count.specs.Clocks.{all_where, each_where}
 use Rattle.fsb_line.specs.declared.state.Mesi.TheVariants.{Exclusive, Modified}
-use Rattle.fsb_line.specs.States.{is_held, is_modified, is_sole, state_after}
+use Rattle.fsb_line.specs.States.{state_after}
 use Rattle.fsb_owners.specs.Joint.{Joint, agents, alone, every_joint, is_after_drops, is_after_snoop_end, is_after_stores}
 use Rattle.fsb_owners.specs.Joint.{is_kept_or_dropped, is_same_joint, is_same_state, sharing, state_at, unheld}
 use Rattle.fsb_joint.specs.declared.steps.End.{End}

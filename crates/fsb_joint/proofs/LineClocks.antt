@@ -1,5 +1,5 @@
 -- What a clock shows of a line, as the steps of its joint states take it.
-use Rattle.std.proofs.Common.{ℕ, ◌≡◌, Bool, true, false, List, Option, Some, None, refl, sym, ap, ◌∙◌, if◌then◌else◌}
+use Rattle.std.proofs.Common.{ℕ, ◌≡◌, Bool, true, false, List, Option, Some, None, refl, if◌then◌else◌}
 use Rattle.std.specs.Option.{option_and_then, option_map}
 use Rattle.fsb_line.specs.declared.purpose.Purpose.{Purpose}
 use Rattle.fsb_signal.specs.declared.lines.TheConstants.Lines.{HIT, HITM}

@@ -1,10 +1,8 @@
 -- What the number of a joint state says of its agents.
-use Rattle.std.proofs.Common.{ℕ, ◌/◌, ◌%◌, ◌*◌, ◌^◌, ◌<◌, ◌≡◌, Bool, true, false, ◌&&◌, ◌||◌, not, nat_eq, nat_lt, nat_le, cond, refl, sym, ap, ◌∙◌}
-use Rattle.std.proofs.Common.{arith, if◌then◌else◌, map}
+use Rattle.std.proofs.Common.{ℕ, ◌/◌, ◌%◌, ◌*◌, ◌^◌, ◌<◌, ◌≡◌, Bool, true, ◌&&◌, not, nat_eq, nat_lt, nat_le, cond, refl, sym}
 use Rattle.fsb_count.specs.Clocks.{all_where, each_where}
 use Rattle.fsb_line.specs.declared.state.Mesi.{Mesi}
 use Rattle.fsb_line.specs.declared.state.Mesi.TheVariants.{Exclusive, Invalid, Modified, Shared}
-use Rattle.fsb_line.specs.States.{is_held, is_modified, is_sole}
 use Rattle.fsb_owners.specs.Joint.{alone, every_joint, has_other_holder, has_other_owner, is_same_state, sharing, state_at, unheld}
 use Rattle.fsb_joint.specs.Sets.{joint_at}
 use Rattle.fsb_joint.proofs.Where.{at_each, is_same, same}

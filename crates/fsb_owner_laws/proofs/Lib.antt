@@ -10,3 +10,4 @@ pub mod Members
 pub mod Awaited
 pub mod AskedOnce
 pub mod Replies
+pub mod OneMore

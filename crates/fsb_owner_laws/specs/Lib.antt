@@ -1,2 +1,3 @@
 pub mod Losses
 pub mod Unbroken
+pub mod OneClock

@@ -1,16 +1,19 @@
 //! Laws of the rules of ownership: small functions with no code, whose contracts are the laws.
 
-ghost use Rattle.std.specs.Prelude.{◌≡◌, ℕ, Bool, ◌+◌, ◌-◌, ◌<◌, ◌||◌, true, false, List, Some};
+ghost use Rattle.std.specs.Prelude.{◌≡◌, ℕ, Bool, ◌+◌, ◌-◌, ◌<◌, ◌||◌, true, false, length, List, Some};
 ghost use Rattle.std.specs.List.{filter};
 ghost use Rattle.fsb_line.specs.declared.purpose.Purpose.{Purpose};
 ghost use Rattle.fsb_trace.specs.Agree.{AgreeTo};
 ghost use Rattle.fsb_trace.specs.At.{Trace};
+ghost use Rattle.fsb_signal.specs.declared.sample.Sample.{Sample};
+ghost use Rattle.fsb_laws.specs.OneMore.{OneMore};
 ghost use Rattle.fsb_laws.specs.Orderly.{Orderly};
 ghost use Rattle.fsb_owners.specs.Joint.{Joint, is_after_snoop_end, reached_by};
 ghost use Rattle.fsb_owners.specs.Possible.{after_clock, after_unseen, possible, possible_begun, possible_shown, replied_to, settled_at_end, showing};
-ghost use Rattle.fsb_owners.specs.Rules.{is_asked_in_vain, is_holder_lacking, is_holder_silent, is_none_left, is_owner_lacking, is_owner_silent, is_upgrade_unfit, is_write_back_unfit, is_written_when_lost};
+ghost use Rattle.fsb_owners.specs.Rules.{is_asked_in_vain, is_holder_lacking, is_holder_silent, is_none_left, is_owner_lacking, is_owner_silent, is_ownership_broken, is_upgrade_unfit, is_write_back_unfit, is_written_when_lost, ownership_verdict};
 ghost use Rattle.fsb_owners.specs.Shown.{is_coming, is_for_line, is_spoiled, may_drop_at, names, snooped_at};
 ghost use Rattle.fsb_owner_laws.specs.Losses.{AreCoherent, fits_reply, possible_turned};
+ghost use Rattle.fsb_owner_laws.specs.OneClock.{or_at};
 ghost use Rattle.fsb_owner_laws.specs.Unbroken.{IsUnbroken};
 
 /// A snoop end turns each joint state that it fits into one of a coherent line, stores and drops lose none, and a reply loses
@@ -74,4 +77,11 @@ pub fn unbroken_lines_keep_a_joint_state()
         IsUnbroken first v line c →
         is_none_left (possible first v line (c + 1))
         ≡ is_none_left (possible_shown first v line c) }
+{}
+
+/// With one sample more the verdict is the one before, or else it is the least rule that is broken at the new clock.
+pub fn ownership_verdict_goes_on()
+    ensures { (first : List Joint) (h : Trace) (x : Sample) (v : Trace) → OneMore h x v →
+        ownership_verdict first v
+        ≡ or_at (is_ownership_broken first v) 32 (length h) (ownership_verdict first h) }
 {}

@@ -1,5 +1,5 @@
-use Rattle.std.proofs.Common.{ℕ, ◌+◌, not, ap, ◌∙◌}
-use Rattle.fsb_owners.specs.Joint.{agents, is_after_drops, reached_by}
+use Rattle.std.proofs.Common.{◌+◌, not, ap, ◌∙◌}
+use Rattle.fsb_owners.specs.Joint.{is_after_drops, reached_by}
 use Rattle.fsb_owners.specs.Possible.{after_unseen}
 use Rattle.fsb_owners.specs.Shown.{is_coming, may_drop_at}
 use Rattle.fsb_joint.specs.LineClock.{droppable_at, ready_at}

@@ -1,4 +1,4 @@
-use Rattle.std.proofs.Common.{ℕ, ◌<◌, ◌≡◌, ◌&&◌, Bool, true, false, refl, sym, ◌∙◌, arith}
+use Rattle.std.proofs.Common.{ℕ, ◌&&◌, sym, ◌∙◌, arith}
 use Rattle.fsb_joint.specs.Sets.{has_bit, joint_at}
 use Rattle.fsb_joint.specs.Steps.{passes}
 use Rattle.fsb_joint.proofs.SetLaws.{both, first_off, joints-filter, kept-bits, kept-init, kept-no, kept-yes, second_off}

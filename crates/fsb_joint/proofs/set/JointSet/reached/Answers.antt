@@ -1,4 +1,4 @@
-use Rattle.std.proofs.Common.{ℕ, ◌≡◌, sym, ◌∙◌, arith}
+use Rattle.std.proofs.Common.{ℕ, sym, ◌∙◌, arith}
 use Rattle.fsb_joint.specs.Sets.{has_bit, joint_at}
 use Rattle.fsb_joint.specs.Steps.{leads}
 use Rattle.fsb_joint.proofs.SetLaws.{joints-reached, reached-bits, reached-init, reached-no, reached-yes}
