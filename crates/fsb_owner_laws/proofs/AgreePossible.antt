@@ -94,7 +94,7 @@ brings-agree n w v j s q k l e o =
     rw (live_request_of-stays n w v j s k.agree l e, line_at_snoop_end-stays HITM n w v j s k.agree l e,
       turned-agree n w v j s k.agree l e, o, p.1, purpose_at-agree n w v q k.agree (omega (arith, p.0, l))) refl
 
-some_and : (o : Option ℕ) (test : ℕ → Bool) → is_some_and o test ≡ true → (q : ℕ) × (o ≡ Some q) × (test q ≡ true)
+pub some_and : (o : Option ℕ) (test : ℕ → Bool) → is_some_and o test ≡ true → (q : ℕ) × (o ≡ Some q) × (test q ≡ true)
 unfolding is_some_and
 some_and None test t = absurd (let no : ⊥ = cc in no)
 some_and (Some q) test t = (q, refl, t)

@@ -11,3 +11,4 @@ pub mod Awaited
 pub mod AskedOnce
 pub mod Replies
 pub mod OneMore
+pub mod Untouched

@@ -1,6 +1,6 @@
 //! Laws of the rules of ownership: small functions with no code, whose contracts are the laws.
 
-ghost use Rattle.std.specs.Prelude.{◌≡◌, ℕ, Bool, ◌+◌, ◌-◌, ◌<◌, ◌||◌, true, false, length, List, Some};
+ghost use Rattle.std.specs.Prelude.{◌≡◌, ℕ, Bool, ◌+◌, ◌-◌, ◌<◌, ◌||◌, true, false, length, List, [], ◌∷◌, Some};
 ghost use Rattle.std.specs.List.{filter};
 ghost use Rattle.fsb_line.specs.declared.purpose.Purpose.{Purpose};
 ghost use Rattle.fsb_trace.specs.Agree.{AgreeTo};
@@ -8,7 +8,7 @@ ghost use Rattle.fsb_trace.specs.At.{Trace};
 ghost use Rattle.fsb_signal.specs.declared.sample.Sample.{Sample};
 ghost use Rattle.fsb_laws.specs.OneMore.{OneMore};
 ghost use Rattle.fsb_laws.specs.Orderly.{Orderly};
-ghost use Rattle.fsb_owners.specs.Joint.{Joint, is_after_snoop_end, reached_by};
+ghost use Rattle.fsb_owners.specs.Joint.{Joint, every_joint, is_after_snoop_end, reached_by, unheld};
 ghost use Rattle.fsb_owners.specs.Possible.{after_clock, after_unseen, possible, possible_begun, possible_shown, replied_to, settled_at_end, showing};
 ghost use Rattle.fsb_owners.specs.Rules.{is_asked_in_vain, is_holder_lacking, is_holder_silent, is_none_left, is_owner_lacking, is_owner_silent, is_ownership_broken, is_upgrade_unfit, is_write_back_unfit, is_written_when_lost, ownership_verdict};
 ghost use Rattle.fsb_owners.specs.Shown.{is_coming, is_for_line, is_spoiled, may_drop_at, names, snooped_at};
@@ -84,4 +84,15 @@ pub fn ownership_verdict_goes_on()
     ensures { (first : List Joint) (h : Trace) (x : Sample) (v : Trace) → OneMore h x v →
         ownership_verdict first v
         ≡ or_at (is_ownership_broken first v) 32 (length h) (ownership_verdict first h) }
+{}
+
+/// A line that no request named before a clock has the joint states there that it had at first, in a trace that begins with
+/// empty caches and in one that begins in traffic.
+pub fn untouched_lines_stay_as_they_begin()
+    ensures empty { (v : Trace) (line c : ℕ) → Orderly v →
+        ((q : ℕ) → q < c → names v line q ≡ false) →
+        possible (unheld ∷ []) v line c ≡ unheld ∷ [] }
+    ensures unknown { (v : Trace) (line c : ℕ) → Orderly v →
+        ((q : ℕ) → q < c → names v line q ≡ false) →
+        possible every_joint v line c ≡ every_joint }
 {}
