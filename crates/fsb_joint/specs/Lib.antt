@@ -1,3 +1,4 @@
 pub mod Sets
 pub mod Steps
 pub mod LineClock
+pub mod Lines

@@ -6,9 +6,11 @@
 #![tactic(auto)]
 
 pub use line_clock::{Begun, SnoopEnd};
+pub use line_sets::LineSets;
 pub use set::JointSet;
 
 mod line_clock;
+mod line_sets;
 mod set;
 mod states;
 mod steps;
