@@ -1,25 +1,24 @@
 -- Orderly traces that agree so far show the same of the snoop ends in them.
-use Rattle.std.proofs.Common.{ℕ, ◌+◌, ◌-◌, ◌<◌, ◌≤◌, ◌≡◌, Bool, true, false, ◌&&◌, ◌||◌, not, nat_eq, nat_lt, length, List, Option, Some, None}
-use Rattle.std.proofs.Common.{refl, sym, ap, ◌∙◌, arith, inl, inr, if◌then◌else◌}
+use Rattle.std.proofs.Common.{ℕ, ◌+◌, ◌<◌, ◌≤◌, ◌≡◌, Bool, true, false, length, Option, Some, None}
+use Rattle.std.proofs.Common.{refl, sym, ap, ◌∙◌, arith, if◌then◌else◌}
 use Rattle.std.specs.Option.{option_and_then, option_map}
-use Rattle.std.proofs.lemmas.Bool.{and_parts, both_ways, cases_Bool, false_from_ne_true}
+use Rattle.std.proofs.lemmas.Bool.{and_parts, both_ways, false_from_ne_true}
 use Rattle.fsb_count.specs.Clocks.{first_where}
-use Rattle.fsb_count.specs.Options.{is_at, is_before, is_some_and}
+use Rattle.fsb_count.specs.Options.{is_at, is_some_and}
 use Rattle.fsb_count.proofs.Interface.{first_where-at, first_where-found, is_at-from, is_at-some}
-use Rattle.fsb_trace.specs.Agree.{AgreeTo}
 use Rattle.fsb_trace.specs.At.{Trace}
-use Rattle.fsb_trace.specs.Requests.{is_live, is_reply, live_clock_of, live_count, live_number_of, live_request_of}
+use Rattle.fsb_trace.specs.Requests.{is_reply, live_clock_of, live_count, live_number_of, live_request_of}
 use Rattle.fsb_trace.specs.Snoop.{snoop_end_of}
 use Rattle.fsb_trace.specs.Outcome.{is_deferred}
 use Rattle.fsb_trace.specs.Flight.{reply_clock_of, reply_number_of}
 use Rattle.fsb_trace.proofs.Interface.{live_below_count, live_clock_of-number, live_clock_of-stays, live_request_of-stays}
 use Rattle.fsb_trace.proofs.Interface.{snoop_end_of-clock, snoop_end_of-rises, snoop_end_of-stays}
 use Rattle.fsb_laws.proofs.Interface.{live_of_reply}
-use Rattle.fsb_owners.specs.Shown.{agent_at, is_for_line, is_reply_of, names, origin_clock_of, origin_of, purpose_at, snooped_at}
+use Rattle.fsb_owners.specs.Shown.{is_for_line, is_reply_of, names, origin_clock_of, origin_of, snooped_at}
 use Rattle.fsb_owner_laws.proofs.AgreeWords.{Alike, IsAnsweredAt, agent_at-agree, answered_stays, live_number-agree, names-agree, purpose_at-agree}
-use Rattle.fsb_owner_laws.proofs.AgreeWords.{itself, put_off, reply_behind, reply_found, same_answers, same_options, some_same, turned_round}
+use Rattle.fsb_owner_laws.proofs.AgreeWords.{itself, put_off, reply_behind, reply_found, same_options, some_same, turned_round}
 use Rattle.fsb_owner_laws.proofs.BrokenRules.{IsEnder, ender_parts}
-use Rattle.fsb_owner_laws.proofs.Emptied.{Ender, ender, with_agent, with_clock, with_kind, with_line, with_number}
+use Rattle.fsb_owner_laws.proofs.Emptied.{Ender, ender}
 
 -- the request whose snoop ends at b
 pub snooped_found : (w : Trace) (b j : ℕ) → snooped_at w b ≡ Some j → snoop_end_of w j ≡ Some b
@@ -54,9 +53,12 @@ unfolding is_reply_of reply_number_of
 reply_of_parts w j i t =
     let a = and_parts (is_deferred w i) (is_at (option_map (live_number_of w) (reply_clock_of w i)) j) t in
     let m = number_of_some w i j (reply_clock_of w i) refl a.1 in
-    let live = live_of_reply w i m.0 m.1 in
-    (m.0, record { deferred = a.0; reply = m.1 }, m.2,
-      ap (live_clock_of w) (sym m.2) ∙ live_clock_of-number w m.0 live.1 live.0)
+    let live = live_of_reply w i m.0 m.1 in (
+      m.0,
+      record { deferred = a.0; reply = m.1 },
+      m.2,
+      ap (live_clock_of w) (sym m.2) ∙ live_clock_of-number w m.0 live.1 live.0,
+    )
 
 reply_of_from : (w : Trace) (j i p : ℕ) → IsAnsweredAt w i p → live_number_of w p ≡ j → is_reply_of w j i ≡ true
 unfolding is_reply_of reply_number_of
@@ -137,9 +139,10 @@ unfolding origin_clock_of origin_of
 origin_parts n w v j s q k e l h =
     let p = some_number w q (if is_reply (live_request_of w j) then first_where (is_reply_of w j) (live_count w) else Some j) h in
     let before = origin_before n w v j p.0 s q (is_reply (live_request_of w j)) k e l refl p.1 p.2 in
-    let there = origin_by n w v j p.0 s (is_reply (live_request_of w j)) k e l p.1 in
-    (before,
-      rw (← (live_request_of-stays n w v j s k.agree l e), there) (live_clock_of-stays n w v p.0 q k.agree (omega (arith, before, l)) p.2))
+    let there = origin_by n w v j p.0 s (is_reply (live_request_of w j)) k e l p.1 in (
+      before,
+      rw (← (live_request_of-stays n w v j s k.agree l e), there) (live_clock_of-stays n w v p.0 q k.agree (omega (arith, before, l)) p.2),
+    )
 
 -- what is seen of the request whose snoop ends at b
 pub ender_from : (v : Trace) (line b : ℕ) (e : Ender) → IsEnder v line b e → ender v line b ≡ Some e

@@ -1,19 +1,16 @@
 -- What is possible before a clock rests on the samples up to that clock.
 use Rattle.std.proofs.Common.{ℕ, zero, suc, ◌+◌, ◌<◌, ◌≤◌, ◌≡◌, Bool, true, false, ◌&&◌, ◌||◌, not, nat_eq, nat_lt, length, List, Option, Some, None}
-use Rattle.std.proofs.Common.{refl, sym, ap, ◌∙◌, arith, inl, inr, if◌then◌else◌}
-use Rattle.std.specs.Option.{option_and_then}
-use Rattle.std.proofs.lemmas.Bool.{and_parts, both_ways, cases_Bool, cases_eq, eq-eqb, false_from_ne_true, lt-ltb, ltb-true, not-true}
-use Rattle.fsb_count.specs.Clocks.{AgreeBelow, any_where}
+use Rattle.std.proofs.Common.{refl, sym, ap, ◌∙◌, arith, inl, inr}
+use Rattle.std.proofs.lemmas.Bool.{and_parts, both_ways, cases_Bool, cases_eq, eq-eqb, false_from_ne_true, ltb-true, not-true}
 use Rattle.fsb_count.specs.Options.{is_before, is_some_and}
 use Rattle.fsb_count.proofs.Interface.{any_where-at, any_where-found, any_where-same, is_before-from, is_before-parts}
 use Rattle.fsb_signal.specs.declared.lines.TheConstants.Lines.{ADS, DEFER, HIT, HITM}
-use Rattle.fsb_signal.specs.Samples.{line_at}
 use Rattle.fsb_line.specs.declared.purpose.Purpose.{Purpose}
 use Rattle.fsb_line.specs.States.{gets_line}
 use Rattle.fsb_trace.specs.Agree.{AgreeTo}
 use Rattle.fsb_trace.specs.At.{Trace, request_at}
-use Rattle.fsb_trace.specs.Requests.{is_cancelled, is_live, is_reply, is_upgrade, is_write_back, live_clock_of, live_count, live_number_of, live_request_of}
-use Rattle.fsb_trace.specs.Snoop.{line_at_snoop_end, snoop_end_of}
+use Rattle.fsb_trace.specs.Requests.{is_cancelled, is_live, is_upgrade, live_count, live_number_of}
+use Rattle.fsb_trace.specs.Snoop.{snoop_end_of}
 use Rattle.fsb_trace.specs.Outcome.{is_deferred}
 use Rattle.fsb_trace.specs.Response.{end_of}
 use Rattle.fsb_trace.specs.Flight.{is_dropped, is_finished, is_outstanding, last_clock_of, reply_clock_of, reply_end_of, reply_number_of}
@@ -21,12 +18,12 @@ use Rattle.fsb_trace.proofs.Interface.{end_of-response, end_of-stays, is_cancell
 use Rattle.fsb_trace.proofs.Interface.{line_at_snoop_end-stays, live_below_count, live_clock_of-number, live_request_of-stays, request_at-agree}
 use Rattle.fsb_trace.proofs.Interface.{snoop_end_of-clock, snoop_end_of-stays}
 use Rattle.fsb_laws.specs.Orderly.{Orderly}
-use Rattle.fsb_laws.proofs.Interface.{end_after_clock, has_answer, last_clock_of-deferred, last_clock_of-plain, live_of_reply, reply_end_of-none}
-use Rattle.fsb_owners.specs.Joint.{Joint, agents, is_after_drops, is_after_stores, reached_by}
-use Rattle.fsb_owners.specs.Possible.{after_answer, after_begin, after_clock, after_snoop_end, after_unseen, at_snoop_end, left_by, made_by, possible}
-use Rattle.fsb_owners.specs.Shown.{agent_at, asks, brings_bytes, is_coming, is_coming_by, is_turned, is_upgrading, may_drop_at, names, origin_clock_of, purpose_at}
+use Rattle.fsb_laws.proofs.Interface.{end_after_clock, has_answer, last_clock_of-deferred, last_clock_of-plain, live_of_reply}
+use Rattle.fsb_owners.specs.Joint.{Joint, is_after_drops, is_after_stores, reached_by}
+use Rattle.fsb_owners.specs.Possible.{after_answer, after_begin, after_clock, after_snoop_end, after_unseen, left_by, made_by, possible}
+use Rattle.fsb_owners.specs.Shown.{asks, brings_bytes, is_coming, is_coming_by, is_turned, is_upgrading, may_drop_at, origin_clock_of, purpose_at}
 use Rattle.fsb_owner_laws.proofs.AgreeEnders.{ender-agree, ender_snoop, origin_parts}
-use Rattle.fsb_owner_laws.proofs.AgreeWords.{Alike, IsAnsweredAt, agent_at-agree, answered_stays, asks-agree, live_number-agree, names-agree}
+use Rattle.fsb_owner_laws.proofs.AgreeWords.{Alike, agent_at-agree, answered_stays, asks-agree, live_number-agree, names-agree}
 use Rattle.fsb_owner_laws.proofs.AgreeWords.{purpose_at-agree, put_off, reply_behind, reply_found, same_answers, some_same, turned_round}
 use Rattle.fsb_owner_laws.proofs.Emptied.{Ender, at_ender, ender, step_by}
 
@@ -51,8 +48,12 @@ made-agree : (n : ℕ) (w v : Trace) (b j a : ℕ) (kind : Purpose) (set : List 
     → snoop_end_of w j ≡ Some b → made_by w b j a kind set ≡ made_by v b j a kind set
 unfolding made_by
 made-agree n w v b j a kind set k l e =
-    rw (live_request_of-stays n w v j b k l e, line_at-agree HIT n w v b k l, line_at-agree HITM n w v b k l,
-      turned-agree n w v j b k l e) refl
+    rw (
+      live_request_of-stays n w v j b k l e,
+      line_at-agree HIT n w v b k l,
+      line_at-agree HITM n w v b k l,
+      turned-agree n w v j b k l e,
+    ) refl
 
 left_step : (n : ℕ) (w v : Trace) (b : ℕ) (o : Option Ender) (set : List Joint) → AgreeTo n w v → b < n
     → ((e : Ender) → o ≡ Some e → snoop_end_of w e.0 ≡ Some b) → step_by (left_by w b) o set ≡ step_by (left_by v b) o set
@@ -91,8 +92,14 @@ brings-agree : (n : ℕ) (w v : Trace) (j s q : ℕ) → Alike n w v → s < n �
 unfolding brings_bytes
 brings-agree n w v j s q k l e o =
     let p = origin_parts n w v j s q k e l o in
-    rw (live_request_of-stays n w v j s k.agree l e, line_at_snoop_end-stays HITM n w v j s k.agree l e,
-      turned-agree n w v j s k.agree l e, o, p.1, purpose_at-agree n w v q k.agree (omega (arith, p.0, l))) refl
+    rw (
+      live_request_of-stays n w v j s k.agree l e,
+      line_at_snoop_end-stays HITM n w v j s k.agree l e,
+      turned-agree n w v j s k.agree l e,
+      o,
+      p.1,
+      purpose_at-agree n w v q k.agree (omega (arith, p.0, l)),
+    ) refl
 
 pub some_and : (o : Option ℕ) (test : ℕ → Bool) → is_some_and o test ≡ true → (q : ℕ) × (o ≡ Some q) × (test q ≡ true)
 unfolding is_some_and
@@ -128,10 +135,15 @@ coming_stays n w v line a c j k m t =
     let bytes : brings_bytes v j ≡ true = sym (brings-agree n w v j s.0 o.0 k below s.1 o.1) ∙ u.1 in
     let unended : is_before (end_of v j) c ≡ false =
     still_open n w v j s.0 c k below s.1 m (not-true (is_before (end_of w j) c) p.1) in
-    let h = snoop_end_of-clock v j s.0 sv in
-    (live_below_count v j h.clock h.is_clock,
-      rw (some_and-from (origin_clock_of v j) (asks v line a) o.0 there.1 asked, bytes,
-        is_before-from (snoop_end_of v j) s.0 c sv s.2, unended) refl)
+    let h = snoop_end_of-clock v j s.0 sv in (
+      live_below_count v j h.clock h.is_clock,
+      rw (
+        some_and-from (origin_clock_of v j) (asks v line a) o.0 there.1 asked,
+        bytes,
+        is_before-from (snoop_end_of v j) s.0 c sv s.2,
+        unended,
+      ) refl,
+    )
 
 coming_through : (n : ℕ) (w v : Trace) (line a c : ℕ) → Alike n w v → c ≤ n → is_coming w line a c ≡ true → is_coming v line a c ≡ true
 unfolding is_coming
@@ -198,9 +210,10 @@ finished_plain n w v b q e k l m t f h low =
     let below : q + 3 < n = omega (arith, c, low, l) in
     let number = live_number-agree n w v q k.agree below in
     let there : end_of v (live_number_of w q) ≡ Some e = end_kept n w v (live_number_of w q) e k (omega (arith, low, l)) h in
-    let plain : is_deferred v (live_number_of w q) ≡ false = sym (not_deferred_kept n w v (live_number_of w q) e k (omega (arith, low, l)) h) ∙ f in
-    (sym (is_live-agree n w v q k.agree below) ∙ t,
-      rw (← number, last_clock_of-plain v (live_number_of w q) plain) (is_before-from (end_of v (live_number_of w q)) e b there low))
+    let plain : is_deferred v (live_number_of w q) ≡ false = sym (not_deferred_kept n w v (live_number_of w q) e k (omega (arith, low, l)) h) ∙ f in (
+      sym (is_live-agree n w v q k.agree below) ∙ t,
+      rw (← number, last_clock_of-plain v (live_number_of w q) plain) (is_before-from (end_of v (live_number_of w q)) e b there low),
+    )
 
 finished_deferred : (n : ℕ) (w v : Trace) (b q e : ℕ) → Alike n w v → b < n → q < b → is_live w q ≡ true → is_deferred w (live_number_of w q) ≡ true
     → reply_end_of w (live_number_of w q) ≡ Some e → e < b
@@ -221,10 +234,11 @@ finished_deferred n w v b q e k l m t f h low =
     let number = live_number-agree n w v q k.agree below in
     let answered = answered_stays n w v i p.0 k far (record { deferred = f; reply = p.1 }) in
     let ends : end_of v (live_number_of v p.0) ≡ Some e =
-    ap (end_of v) (sym (live_number-agree n w v p.0 k.agree far)) ∙ end_kept n w v (live_number_of w p.0) e k (omega (arith, low, l)) p.2 in
-    (sym (is_live-agree n w v q k.agree below) ∙ t,
+    ap (end_of v) (sym (live_number-agree n w v p.0 k.agree far)) ∙ end_kept n w v (live_number_of w p.0) e k (omega (arith, low, l)) p.2 in (
+      sym (is_live-agree n w v q k.agree below) ∙ t,
       rw (← number, last_clock_of-deferred v i answered.deferred)
-      (is_before-from (reply_end_of v i) e b (reply_end-from v i e p.0 answered.reply ends) low))
+          (is_before-from (reply_end_of v i) e b (reply_end-from v i e p.0 answered.reply ends) low),
+    )
 
 finished_by : (n : ℕ) (w v : Trace) (b q : ℕ) → Alike n w v → b < n → q < b → is_finished w b q ≡ true
     → (is_live v q ≡ true) × (is_before (last_clock_of v (live_number_of v q)) b ≡ true)
@@ -250,12 +264,16 @@ finished-agree n w v b q k l m =
 outstanding-agree : (n : ℕ) (w v : Trace) (b q : ℕ) → Alike n w v → b < n → q < b → is_outstanding w b q ≡ is_outstanding v b q
 unfolding is_outstanding
 outstanding-agree n w v b q k l m =
-    rw (line_at-agree ADS n w v q k.agree (omega (arith, l, m)), request_at-agree n w v q k.agree (omega (arith, l, m)),
-      dropped-agree n w v b q k.agree l, finished-agree n w v b q k l m) refl
+    rw (
+      line_at-agree ADS n w v q k.agree (omega (arith, l, m)),
+      request_at-agree n w v q k.agree (omega (arith, l, m)),
+      dropped-agree n w v b q k.agree l,
+      finished-agree n w v b q k l m,
+    ) refl
 
 upgrading_at : (n : ℕ) (w v : Trace) (line a b q : ℕ) → Alike n w v → b + 1 < n → q < b + 1
     → (asks w line a q && is_upgrade (request_at w q) && (nat_eq q b || is_outstanding w b q))
-      ≡ (asks v line a q && is_upgrade (request_at v q) && (nat_eq q b || is_outstanding v b q))
+    ≡ (asks v line a q && is_upgrade (request_at v q) && (nat_eq q b || is_outstanding v b q))
 upgrading_at n w v line a b q k l m =
     rw (asks-agree n w v line a q k.agree (omega (arith, l, m)), request_at-agree n w v q k.agree (omega (arith, l, m)))
     (ap (λ o. asks v line a q && is_upgrade (request_at v q) && o)
@@ -274,8 +292,11 @@ upgrading-agree n w v line a b k l =
 may_drop-agree : (n : ℕ) (w v : Trace) (line b a : ℕ) → Alike n w v → b + 1 < n → may_drop_at w line b a ≡ may_drop_at v line b a
 unfolding may_drop_at
 may_drop-agree n w v line b a k l =
-    rw (coming-agree n w v line a b k (omega (arith, l)), coming-agree n w v line a (b + 1) k (omega (arith, l)),
-      upgrading-agree n w v line a b k l) refl
+    rw (
+      coming-agree n w v line a b k (omega (arith, l)),
+      coming-agree n w v line a (b + 1) k (omega (arith, l)),
+      upgrading-agree n w v line a b k l,
+    ) refl
 
 pub stores-same : (f g : ℕ → Bool) (set : List Joint) → ((a : ℕ) → f a ≡ g a) → reached_by (is_after_stores f) set ≡ reached_by (is_after_stores g) set
 unfolding is_after_stores reached_by

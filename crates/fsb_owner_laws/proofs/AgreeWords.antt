@@ -1,24 +1,21 @@
 -- Orderly traces that agree so far show the same of a request, once it is decoded, and of a reply, once it is live.
-use Rattle.std.proofs.Common.{ℕ, ◌+◌, ◌-◌, ◌/◌, ◌<◌, ◌≤◌, ◌≡◌, Bool, true, false, ◌&&◌, not, nat_eq, nat_lt, length, Option, Some, None}
-use Rattle.std.proofs.Common.{refl, sym, ap, ◌∙◌, arith, inl, inr}
-use Rattle.std.specs.Option.{option_and_then, option_map}
-use Rattle.std.proofs.lemmas.Bool.{and_parts, both_ways, cases_Bool, false_from_ne_true, lt-ltb, ltb-true}
-use Rattle.fsb_count.specs.Clocks.{AgreeBelow, first_where}
-use Rattle.fsb_count.specs.Options.{is_at, is_before, is_some_and}
-use Rattle.fsb_count.proofs.Interface.{count_where-same, first_where-at, first_where-found, is_at-from, is_at-some, is_before-from, is_before-parts}
+use Rattle.std.proofs.Common.{ℕ, ◌+◌, ◌<◌, ◌≤◌, ◌≡◌, Bool, true, false, length, Option, Some, None}
+use Rattle.std.proofs.Common.{refl, sym, ◌∙◌, arith}
+use Rattle.std.proofs.lemmas.Bool.{and_parts, both_ways, false_from_ne_true}
+use Rattle.fsb_count.specs.Options.{is_before}
+use Rattle.fsb_count.proofs.Interface.{count_where-same, first_where-at, first_where-found, is_before-parts}
 use Rattle.fsb_signal.specs.declared.lines.TheConstants.Lines.{ADS}
-use Rattle.fsb_signal.specs.Samples.{line_at}
 use Rattle.fsb_trace.specs.Agree.{AgreeTo}
-use Rattle.fsb_trace.specs.At.{Trace, request_at}
-use Rattle.fsb_trace.specs.Requests.{have_same_id, is_live, is_reply, line_of, live_clock_of, live_count, live_number_of, live_request_of}
+use Rattle.fsb_trace.specs.At.{Trace}
+use Rattle.fsb_trace.specs.Requests.{is_live, live_number_of}
 use Rattle.fsb_trace.specs.Snoop.{snoop_end_of}
 use Rattle.fsb_trace.specs.Outcome.{is_deferred, response_clock_of}
-use Rattle.fsb_trace.specs.Flight.{is_live_reply_to, is_reply_to, reply_clock_of, reply_number_of}
-use Rattle.fsb_trace.proofs.Interface.{AgreeTo-sym, is_deferred-stays, is_live-agree, line_at-agree, live_clock_of-number}
-use Rattle.fsb_trace.proofs.Interface.{live_request_of-stays, request_at-agree, response_clock_of-stays, snoop_end_of-clock, winner_at-agree}
+use Rattle.fsb_trace.specs.Flight.{is_live_reply_to, is_reply_to, reply_clock_of}
+use Rattle.fsb_trace.proofs.Interface.{AgreeTo-sym, is_deferred-stays, is_live-agree, line_at-agree}
+use Rattle.fsb_trace.proofs.Interface.{live_request_of-stays, request_at-agree, response_clock_of-stays, winner_at-agree}
 use Rattle.fsb_timely.proofs.Interface.{line_of-agree}
 use Rattle.fsb_laws.specs.Orderly.{Orderly}
-use Rattle.fsb_laws.proofs.Interface.{deferred_response, has_answer, live_of_reply}
+use Rattle.fsb_laws.proofs.Interface.{deferred_response, has_answer}
 use Rattle.fsb_owners.specs.Shown.{agent_at, asks, names, purpose_at}
 
 -- two orderly traces whose first n samples are the same
@@ -94,8 +91,14 @@ live_reply-agree : (n : ℕ) (w v : Trace) (i p s r : ℕ) → AgreeTo n w v →
     → response_clock_of w i ≡ Some r → r < n → p + 3 < n → is_live_reply_to w i p ≡ is_live_reply_to v i p
 unfolding is_live_reply_to is_reply_to
 live_reply-agree n w v i p s r a e l f m k =
-    rw (is_live-agree n w v p a k, line_at-agree ADS n w v p a (omega (arith, k)), request_at-agree n w v p a (omega (arith, k)),
-      live_request_of-stays n w v i s a l e, f, response_clock_of-stays n w v i r a m f) refl
+    rw (
+      is_live-agree n w v p a k,
+      line_at-agree ADS n w v p a (omega (arith, k)),
+      request_at-agree n w v p a (omega (arith, k)),
+      live_request_of-stays n w v i s a l e,
+      f,
+      response_clock_of-stays n w v i r a m f,
+    ) refl
 
 -- what is known of a Deferred request and its reply at p
 pub record IsAnsweredAt (w : Trace) (i p : ℕ) : Type 0 where

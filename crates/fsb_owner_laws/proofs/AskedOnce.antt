@@ -1,12 +1,12 @@
 -- Requests of one agent for one line come one after the other, and a pending line is given to nobody, where no rule is broken.
-use Rattle.std.proofs.Common.{ℕ, ◌+◌, ◌-◌, ◌<◌, ◌≤◌, ◌≡◌, Bool, true, false, ◌&&◌, ◌||◌, not, nat_eq, nat_lt, length, List, Option, Some, None, ◌⊎◌}
+use Rattle.std.proofs.Common.{ℕ, ◌+◌, ◌-◌, ◌<◌, ◌≤◌, ◌≡◌, Bool, true, false, ◌&&◌, not, nat_eq, nat_lt, length, List, Option, Some, None, ◌⊎◌}
 use Rattle.std.proofs.Common.{refl, sym, ap, ◌∙◌, arith, inl, inr, if◌then◌else◌}
 use Rattle.std.specs.Option.{option_and_then, option_map}
-use Rattle.std.proofs.lemmas.Bool.{and_parts, both_ways, cases_Bool, cases_lt, eq-eqb, false_from_ne_true, le-ltb, lt-ltb, not-true}
+use Rattle.std.proofs.lemmas.Bool.{and_parts, both_ways, cases_Bool, cases_lt, false_from_ne_true, le-ltb, lt-ltb, not-true}
 use Rattle.fsb_count.specs.Clocks.{any_where, first_where}
 use Rattle.fsb_count.specs.Options.{is_at, is_before, is_some_and}
 use Rattle.fsb_count.proofs.Interface.{any_where-at, any_where-none, first_where-found, is_at-from, is_before-parts, nth_where-found}
-use Rattle.fsb_signal.specs.declared.lines.TheConstants.Lines.{ADS, DEFER, HITM}
+use Rattle.fsb_signal.specs.declared.lines.TheConstants.Lines.{ADS, HITM}
 use Rattle.fsb_signal.specs.Samples.{line_at}
 use Rattle.fsb_encode.specs.declared.request.Request.{Request}
 use Rattle.fsb_line.specs.declared.purpose.Purpose.{Purpose}
@@ -96,14 +96,32 @@ asker_by : (v : Trace) (line b i : ℕ) (e : Ender) (r : Bool) → Orderly v →
 asker_by v line b i e false o p s q og before n a k r h oi live =
     let same : e.0 ≡ i = some_same e.0 i h in
     record {
-      number = i; clock = q; begins = live; before = before; names_line = n; agent = a; kind = k; snoop = s; origin = oi; origin_clock = og;
+      number = i;
+      clock = q;
+      begins = live;
+      before = before;
+      names_line = n;
+      agent = a;
+      kind = k;
+      snoop = s;
+      origin = oi;
+      origin_clock = og;
       lasts = λ t l. plain_lasts v i b t o (ap (snoop_end_of v) (sym same) ∙ s) l;
       way = inl (record { request = r; same = same });
     }
 asker_by v line b i e true o p s q og before n a k r h oi live =
     let f = reply_of_parts v e.0 i (first_where-found (is_reply_of v e.0) (live_count v) i h).1 in
     record {
-      number = i; clock = q; begins = live; before = before; names_line = n; agent = a; kind = k; snoop = s; origin = oi; origin_clock = og;
+      number = i;
+      clock = q;
+      begins = live;
+      before = before;
+      names_line = n;
+      agent = a;
+      kind = k;
+      snoop = s;
+      origin = oi;
+      origin_clock = og;
       lasts = λ t l. reply_lasts v e.0 i f.0 b t o s f.1 f.2 l;
       way = inr (record { reply = r; clock = f.0; answered = f.1; number = f.2 });
     }
@@ -161,8 +179,13 @@ unfinished v line b d e a l =
 still_there : (v : Trace) (line b d : ℕ) (e : Ender) (a : IsAsker v line b e) → a.clock < d → d ≤ b → is_outstanding v d a.clock ≡ true
 unfolding is_outstanding is_dropped
 still_there v line b d e a l m =
-    rw ((named v line a.clock a.names_line).0, lt-ltb a.clock d l, no_reply v line a.clock a.names_line,
-      not_cancelled v a.clock (live_there v a.number a.clock a.begins), unfinished v line b d e a m) refl
+    rw (
+      (named v line a.clock a.names_line).0,
+      lt-ltb a.clock d l,
+      no_reply v line a.clock a.names_line,
+      not_cancelled v a.clock (live_there v a.number a.clock a.begins),
+      unfinished v line b d e a m,
+    ) refl
 
 asks_still : (v : Trace) (line b : ℕ) (e : Ender) (a : IsAsker v line b e) (agent d : ℕ) → e.1.0 ≡ agent → a.clock < d → d ≤ b
     → is_still_asking v line agent d ≡ true

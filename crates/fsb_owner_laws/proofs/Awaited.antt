@@ -1,7 +1,7 @@
 -- What agents may have of a line while one of them waits for the reply to its request.
-use Rattle.std.proofs.Common.{ℕ, ◌+◌, ◌<◌, ◌≡◌, Bool, true, false, ◌&&◌, ◌||◌, not, nat_eq, List, length, Option, Some, None, ◌⊎◌}
-use Rattle.std.proofs.Common.{refl, sym, ap, ◌∙◌, arith, inl, inr, cond, if◌then◌else◌}
-use Rattle.std.specs.List.{Contains, list_any}
+use Rattle.std.proofs.Common.{ℕ, ◌<◌, ◌≡◌, Bool, true, false, ◌&&◌, ◌||◌, not, nat_eq, length, ◌⊎◌}
+use Rattle.std.proofs.Common.{refl, sym, ap, ◌∙◌, arith, inl, inr, if◌then◌else◌}
+use Rattle.std.specs.List.{list_any}
 use Rattle.std.specs.Prelude.{slice_index_or}
 use Rattle.std.proofs.lemmas.Bool.{and_parts, both_ways, cases_Bool, eq-eqb, eqb-true, false_from_ne_true, not-true}
 use Rattle.std.proofs.lemmas.List.Folds.{list_any_at, list_any_none}
@@ -16,7 +16,7 @@ use Rattle.fsb_line.specs.declared.state.Mesi.TheVariants.{Exclusive, Invalid, M
 use Rattle.fsb_line.specs.States.{after_other, after_snoop, asks_line, is_held, is_modified, is_sole, state_after}
 use Rattle.fsb_owners.specs.Joint.{Joint, agents, alone, has_other_holder, has_other_owner, is_after_drops, is_after_snoop_end, is_after_stores}
 use Rattle.fsb_owners.specs.Joint.{is_kept_or_dropped, is_same_state, state_at}
-use Rattle.fsb_owners.specs.Possible.{fits_answer, may_ask, settled_at_end}
+use Rattle.fsb_owners.specs.Possible.{fits_answer, may_ask}
 use Rattle.fsb_owner_laws.specs.Losses.{fits_reply, has_other_sole}
 use Rattle.fsb_owner_laws.proofs.Members.{below_four, state_then}
 use Rattle.fsb_owner_laws.proofs.Quiet.{IsStore, drop_each, held_there, kept, same_states, store_parts}

@@ -1,7 +1,6 @@
 -- Which rule is broken where a set loses its last joint state at a request or at a snoop end.
-use Rattle.std.proofs.Common.{ℕ, ◌+◌, ◌-◌, ◌<◌, ◌≡◌, Bool, true, false, ◌&&◌, ◌||◌, not, nat_eq, nat_le, nat_lt, List, Option, Some, None}
+use Rattle.std.proofs.Common.{ℕ, ◌-◌, ◌<◌, ◌≡◌, Bool, true, false, ◌&&◌, ◌||◌, not, nat_le, nat_lt, List, Option, Some, None}
 use Rattle.std.proofs.Common.{refl, sym, ap, ◌∙◌, arith, if◌then◌else◌}
-use Rattle.std.specs.List.{list_all}
 use Rattle.std.proofs.lemmas.Bool.{and_parts, both_ways}
 use Rattle.std.proofs.lemmas.Bool.Decides.{nat_tests}
 use Rattle.fsb_count.specs.Options.{is_at, is_some_and}
@@ -10,9 +9,9 @@ use Rattle.fsb_signal.specs.Samples.{line_at}
 use Rattle.fsb_line.specs.declared.purpose.Purpose.{Purpose}
 use Rattle.fsb_line.specs.declared.purpose.Purpose.TheVariants.{Own, Read, Upgrade, WriteBack}
 use Rattle.fsb_line.specs.Links.{upgrades}
-use Rattle.fsb_line.specs.States.{asks_line, gets_line}
+use Rattle.fsb_line.specs.States.{gets_line}
 use Rattle.fsb_trace.specs.At.{Trace, line_back, request_at}
-use Rattle.fsb_trace.specs.Requests.{is_reply, line_of, live_request_of}
+use Rattle.fsb_trace.specs.Requests.{is_reply, line_of}
 use Rattle.fsb_owners.specs.Joint.{Joint}
 use Rattle.fsb_owners.specs.Possible.{after_answer, after_begin, asking, left_by, possible, possible_begun, possible_shown}
 use Rattle.fsb_owners.specs.Rules.{at_answer, at_decoding, is_answer_unfit, is_asked_in_vain, is_begun_unfit, is_holder_lacking}
@@ -174,12 +173,18 @@ answered : (first : List Joint) (v : Trace) (line c : ℕ) (e : Ender) (test : �
 unfolding of_answer is_some_and is_answer_unfit is_for_line
 answered first v line c e test p s f g =
     let n : names v line p.clock ≡ true = named_by v line p.clock (origin_clock_of v e.0) p.begins p.for_line in
-    rw (p.number, p.begins, of_request-at v line p.clock e.1.0 (λ line a. not (is_none_left (possible_begun first v line c))
-    && is_none_left (possible_shown first v line c) && test e.0 line a) n s p.agent, f, g) refl
+    rw (
+      p.number,
+      p.begins,
+      of_request-at v line p.clock e.1.0 (λ line a. not (is_none_left (possible_begun first v line c))
+          && is_none_left (possible_shown first v line c) && test e.0 line a) n s p.agent,
+      f,
+      g,
+    ) refl
 
 one_of_five : (w m h o r s t u x : Bool)
     → (((not w && m) || r) || ((not w && not m && o) || s) || ((not w && not m && not h && not o) || t)
-      || ((not w && not m && h && not o) || u) || (w || x)) ≡ true
+    || ((not w && not m && h && not o) || u) || (w || x)) ≡ true
 one_of_five true m h o r s t u x =
     either_second (((not true && m) || r) || ((not true && not m && o) || s) || ((not true && not m && not h && not o) || t)
     || ((not true && not m && h && not o) || u)) (true || x) refl
@@ -192,18 +197,20 @@ rules_of_answer : (first : List Joint) (v : Trace) (line c : ℕ) (e : Ender) �
     → is_spoiled v line ≡ false → is_none_left (possible_begun first v line c) ≡ false
     → is_none_left (possible_shown first v line c) ≡ true
     → (is_owner_lacking first v c || is_owner_silent first v c || is_holder_silent first v c
-      || is_holder_lacking first v c || is_written_when_lost first v c) ≡ true
+    || is_holder_lacking first v c || is_written_when_lost first v c) ≡ true
 unfolding is_owner_lacking is_owner_silent is_holder_silent is_holder_lacking is_written_when_lost at_answer
 rules_of_answer first v line c e p s f g =
     let w = is_of_write_back v e.0 in
     let m = line_at HITM v c in
     let h = line_at HIT v c in
     let o = is_owned_elsewhere first v c line e.1.0 in
-    rw (answered first v line c e (λ j line a. not (is_of_write_back v j) && line_at HITM v c) p s f g,
+    rw (
+      answered first v line c e (λ j line a. not (is_of_write_back v j) && line_at HITM v c) p s f g,
       answered first v line c e (λ j line a. not (is_of_write_back v j) && not (line_at HITM v c) && is_owned_elsewhere first v c line a) p s f g,
       answered first v line c e (λ j line a. not (is_of_write_back v j) && not (line_at HITM v c) && not (line_at HIT v c) && not (is_owned_elsewhere first v c line a)) p s f g,
       answered first v line c e (λ j line a. not (is_of_write_back v j) && not (line_at HITM v c) && line_at HIT v c && not (is_owned_elsewhere first v c line a)) p s f g,
-      answered first v line c e (λ j line a. is_of_write_back v j) p s f g)
+      answered first v line c e (λ j line a. is_of_write_back v j) p s f g,
+    )
     (one_of_five w m h o
     (nat_lt 0 c && of_answer first v (c - 1) (λ j line a. not (is_of_write_back v j) && line_at HITM v (c - 1)))
     (nat_lt 0 c && of_answer first v (c - 1) (λ j line a. not (is_of_write_back v j) && not (line_at HITM v (c - 1)) && is_owned_elsewhere first v (c - 1) line a))
@@ -215,7 +222,7 @@ broken_by : (first : List Joint) (v : Trace) (line c : ℕ) (o : Option Ender) �
     → is_none_left (possible_begun first v line c) ≡ false → is_none_left (possible_shown first v line c) ≡ true
     → is_none_left (step_by (left_by v c) o (possible_begun first v line c)) ≡ true
     → (is_owner_lacking first v c || is_owner_silent first v c || is_holder_silent first v c
-      || is_holder_lacking first v c || is_written_when_lost first v c) ≡ true
+    || is_holder_lacking first v c || is_written_when_lost first v c) ≡ true
 broken_by first v line c None h s f g n = absurd (both_ways (is_none_left (possible_begun first v line c)) f n)
 broken_by first v line c (Some e) h s f g n = rules_of_answer first v line c e (ender_parts v line c e h) s f g
 
@@ -227,7 +234,7 @@ shown_by first v line c = at_ender v line c (left_by v c) (possible_begun first 
 pub shown_breaks : (first : List Joint) (v : Trace) (line c : ℕ) → is_spoiled v line ≡ false
     → is_none_left (possible_begun first v line c) ≡ false → is_none_left (possible_shown first v line c) ≡ true
     → (is_owner_lacking first v c || is_owner_silent first v c || is_holder_silent first v c
-      || is_holder_lacking first v c || is_written_when_lost first v c) ≡ true
+    || is_holder_lacking first v c || is_written_when_lost first v c) ≡ true
 shown_breaks first v line c s f g =
     broken_by first v line c (ender v line c) refl s f g
     (ap (λ set. is_none_left set) (sym (shown_by first v line c)) ∙ g)

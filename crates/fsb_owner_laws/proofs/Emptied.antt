@@ -1,28 +1,22 @@
 -- Where the set of joint states of a line loses its last one.
-use Rattle.std.proofs.Common.{ℕ, zero, suc, ◌+◌, ◌-◌, ◌<◌, ◌≤◌, ◌≡◌, Bool, true, false, ◌&&◌, ◌||◌, not, nat_eq, nat_le, nat_lt, List, Option, Some, None}
-use Rattle.std.proofs.Common.{refl, sym, ap, ◌∙◌, arith, inl, inr, add-one, if◌then◌else◌}
-use Rattle.std.specs.List.{All, Contains, filter, list_all}
-use Rattle.std.proofs.lemmas.Bool.{and_parts, cases_Bool, lt-ltb}
-use Rattle.fsb_count.specs.Options.{is_at, is_some_and}
-use Rattle.fsb_count.proofs.Interface.{is_at-some}
-use Rattle.fsb_signal.specs.declared.lines.TheConstants.Lines.{ADS, HIT, HITM}
+use Rattle.std.proofs.Common.{ℕ, zero, suc, ◌+◌, ◌<◌, ◌≡◌, Bool, true, false, not, List, Option, Some, None}
+use Rattle.std.proofs.Common.{refl, ◌∙◌, add-one, if◌then◌else◌}
+use Rattle.fsb_signal.specs.declared.lines.TheConstants.Lines.{HIT, HITM}
 use Rattle.fsb_signal.specs.Samples.{line_at}
 use Rattle.fsb_line.specs.declared.purpose.Purpose.{Purpose}
-use Rattle.fsb_line.specs.declared.purpose.Purpose.TheVariants.{Own, Read, Upgrade, WriteBack}
 use Rattle.fsb_line.specs.declared.purpose.Settled.TheVariants.{Replied}
-use Rattle.fsb_line.specs.States.{is_modified}
-use Rattle.fsb_trace.specs.At.{Trace, line_back}
-use Rattle.fsb_trace.specs.Requests.{is_reply, line_of, live_request_of}
+use Rattle.fsb_trace.specs.At.{Trace}
+use Rattle.fsb_trace.specs.Requests.{is_reply, live_request_of}
 use Rattle.fsb_trace.specs.Winner.{symmetric_after, winner_at}
 use Rattle.fsb_trace.specs.declared.who.Who.{Who}
 use Rattle.fsb_trace.specs.declared.who.Who.TheVariants.{Priority, Symmetric}
 use Rattle.fsb_tied.proofs.Interface.{winner-four}
-use Rattle.fsb_owners.specs.Joint.{Joint, every_joint, is_after_drops, is_after_snoop_end, is_after_stores, reached_by, state_at}
+use Rattle.fsb_owners.specs.Joint.{Joint, is_after_drops, is_after_snoop_end, is_after_stores, reached_by, state_at}
 use Rattle.fsb_owners.specs.Possible.{after_answer, after_begin, after_clock, after_snoop_end, after_unseen, asking, at_snoop_end, by_request}
-use Rattle.fsb_owners.specs.Possible.{fits_answer, left_by, made_by, may_ask, possible, possible_begun, possible_shown, replied_to, settled_at_end, showing}
+use Rattle.fsb_owners.specs.Possible.{left_by, made_by, may_ask, possible, possible_begun, possible_shown, replied_to, settled_at_end, showing}
 use Rattle.fsb_owners.specs.Rules.{is_none_left}
 use Rattle.fsb_owners.specs.Shown.{agent_at, is_coming, is_for_line, is_turned, may_drop_at, names, origin_clock_of, purpose_at, snooped_at}
-use Rattle.fsb_owner_laws.specs.Losses.{AreCoherent, fits_reply, possible_turned, turned_by}
+use Rattle.fsb_owner_laws.specs.Losses.{AreCoherent, possible_turned, turned_by}
 use Rattle.fsb_owner_laws.proofs.Losses.{coherent_filter, coherent_reached}
 use Rattle.fsb_owner_laws.proofs.StepLosses.{fits_end, reply_keeps, request_keeps, showing_fits, unseen_keeps}
 
@@ -99,7 +93,7 @@ at_line f set to false e h = refl
 
 at_number : (v : Trace) (line : ℕ) (f : ByRequest) (set : List Joint) (o : Option ℕ)
     → elim o [ None ↦ set | Some j ↦ if is_for_line v line j then by_request v j (f j) set else set ]
-      ≡ step_by f (with_number v line o) set
+    ≡ step_by f (with_number v line o) set
 unfolding by_request
 at_number v line f set None = refl
 at_number v line f set (Some j) =
@@ -218,17 +212,20 @@ turned_or_lost v c j a kind set false l h e =
 
 lost_by_step : (v : Trace) (c : ℕ) (o : Option Ender) (set : List Joint) → ((e : Ender) → o ≡ Some e → e.1.0 < 4) → AreCoherent set
     → is_none_left (step_by (made_by v c) o (step_by (left_by v c) o set))
-      ≡ is_none_left (step_by (turned_by v c) o (step_by (left_by v c) o set))
+    ≡ is_none_left (step_by (turned_by v c) o (step_by (left_by v c) o set))
 lost_by_step v c None set l a = refl
 lost_by_step v c (Some e) set l a = turned_or_lost v c e.0 e.1.0 e.1.1 set (is_reply (live_request_of v e.0)) (l e refl) a refl
 
 lost_at_end : (v : Trace) (line c : ℕ) (set : List Joint) → AreCoherent set
     → is_none_left (after_snoop_end v line c (after_answer v line c set))
-      ≡ is_none_left (at_snoop_end v line c (turned_by v c) (after_answer v line c set))
+    ≡ is_none_left (at_snoop_end v line c (turned_by v c) (after_answer v line c set))
 unfolding after_snoop_end after_answer
 lost_at_end v line c set a =
-    rw (at_ender v line c (left_by v c) set, at_ender v line c (made_by v c) (step_by (left_by v c) (ender v line c) set),
-      at_ender v line c (turned_by v c) (step_by (left_by v c) (ender v line c) set))
+    rw (
+      at_ender v line c (left_by v c) set,
+      at_ender v line c (made_by v c) (step_by (left_by v c) (ender v line c) set),
+      at_ender v line c (turned_by v c) (step_by (left_by v c) (ender v line c) set),
+    )
     (lost_by_step v c (ender v line c) set (ender_four v line c) a)
 
 pub next : (first : List Joint) (v : Trace) (line c : ℕ) → AreCoherent first

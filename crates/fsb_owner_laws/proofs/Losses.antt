@@ -1,22 +1,14 @@
 -- Which joint states a step turns into others: it is computed for each of them.
-use Rattle.std.proofs.Common.{ℕ, suc, ◌+◌, ◌<◌, ◌≤◌, ◌≡◌, ◌≢◌, Bool, true, false, ◌&&◌, ◌||◌, not, nat_eq, List, [], ◌∷◌, refl, sym, ap, ◌∙◌}
-use Rattle.std.proofs.Common.{arith, inl, inr, length, map, ◌⊎◌}
-use Rattle.std.specs.List.{All, Contains, filter, list_all, list_any}
-use Rattle.std.proofs.lemmas.Bool.{cases_Bool, eq-eqb, ne_eqb}
+use Rattle.std.proofs.Common.{suc, ◌≡◌, Bool, true, false, ◌&&◌, ◌||◌, not, List, [], ◌∷◌, refl, sym, ap, ◌∙◌}
+use Rattle.std.proofs.Common.{arith, inl, inr}
+use Rattle.std.specs.List.{Contains, filter, list_all, list_any}
+use Rattle.std.proofs.lemmas.Bool.{cases_Bool}
 use Rattle.std.proofs.lemmas.List.Elements.{All-contains, All-contains_itself, All-filter}
 use Rattle.std.proofs.lemmas.List.Sums.{AllPass-from_list_all}
-use Rattle.fsb_count.specs.Clocks.{all_where, each_where}
-use Rattle.fsb_count.proofs.Interface.{each_where-at}
-use Rattle.fsb_line.specs.declared.purpose.Purpose.{Purpose}
-use Rattle.fsb_line.specs.declared.purpose.Purpose.TheVariants.{Own, Read, Upgrade, WriteBack}
-use Rattle.fsb_line.specs.declared.purpose.Settled.{Settled}
-use Rattle.fsb_line.specs.declared.purpose.Settled.TheVariants.{Replied}
-use Rattle.fsb_owners.specs.Joint.{Joint, agents, alone, every_joint, has_other_holder, has_other_owner, is_after_drops}
-use Rattle.fsb_owners.specs.Joint.{is_after_snoop_end, is_after_stores, is_kept_or_dropped, is_same_joint, is_same_state}
-use Rattle.fsb_owners.specs.Joint.{reached_by, sharing, state_at, unheld}
-use Rattle.fsb_owners.specs.Possible.{fits_answer, may_ask, replied_to, settled_at_end, showing}
+use Rattle.fsb_owners.specs.Joint.{Joint, every_joint}
+use Rattle.fsb_owners.specs.Joint.{reached_by}
 use Rattle.fsb_owners.specs.Rules.{is_none_left}
-use Rattle.fsb_owner_laws.specs.Losses.{AreCoherent, fits_reply, has_other_sole}
+use Rattle.fsb_owner_laws.specs.Losses.{AreCoherent}
 
 -- both answers are the same
 abbrev pub is_same : Bool → Bool → Bool

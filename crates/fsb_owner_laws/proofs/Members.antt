@@ -1,8 +1,7 @@
 -- What all joint states of a set are, and stay.
-use Rattle.std.proofs.Common.{ℕ, zero, suc, ◌+◌, ◌<◌, ◌≡◌, Bool, true, false, ◌&&◌, ◌||◌, not, nat_eq, List, [], ◌∷◌, Option, Some, None}
-use Rattle.std.proofs.Common.{refl, sym, ap, ◌∙◌, arith, inl, inr, length, cond, map, if◌then◌else◌}
-use Rattle.std.specs.List.{All, Contains, filter, list_any}
-use Rattle.std.proofs.lemmas.Bool.{and_parts, cases_Bool}
+use Rattle.std.proofs.Common.{ℕ, zero, suc, ◌+◌, ◌<◌, ◌≡◌, Bool, true, false, not, nat_eq, List, [], ◌∷◌, Option, Some, None}
+use Rattle.std.proofs.Common.{refl, sym, ap, ◌∙◌, arith, length, cond, map, if◌then◌else◌}
+use Rattle.std.specs.List.{Contains, filter, list_any}
 use Rattle.std.proofs.lemmas.List.Elements.{All-contains, All-contains_itself, All-filter}
 use Rattle.std.specs.Prelude.{slice_index_or}
 use Rattle.fsb_line.specs.declared.purpose.Purpose.{Purpose}

@@ -1,9 +1,9 @@
 -- The verdict of ownership, one sample on.
-use Rattle.std.proofs.Common.{ℕ, suc, ◌+◌, ◌<◌, ◌≡◌, Bool, true, false, ◌&&◌, length, List, Option, Some, None, is_some, nat_lt}
-use Rattle.std.proofs.Common.{refl, sym, ap, ◌∙◌, arith, inl, inr, if◌then◌else◌, add-one}
+use Rattle.std.proofs.Common.{ℕ, suc, ◌+◌, ◌<◌, ◌≡◌, Bool, true, false, length, List, Option, Some, None, is_some}
+use Rattle.std.proofs.Common.{refl, sym, ap, ◌∙◌, arith, if◌then◌else◌, add-one}
 use Rattle.std.specs.Option.{option_and_then, option_map}
-use Rattle.std.proofs.lemmas.Bool.{cases_Bool, lt-ltb}
-use Rattle.fsb_count.specs.Clocks.{AgreeBelow, first_where}
+use Rattle.std.proofs.lemmas.Bool.{lt-ltb}
+use Rattle.fsb_count.specs.Clocks.{first_where}
 use Rattle.fsb_count.proofs.Interface.{first_where-found, first_where-same}
 use Rattle.fsb_signal.specs.declared.sample.Sample.{Sample}
 use Rattle.fsb_trace.specs.Agree.{AgreeTo}
@@ -66,8 +66,11 @@ broken_before : (first : List Joint) (h v : Trace) (c j : ℕ) → AgreeTo (leng
     → is_ownership_broken first h c j ≡ is_ownership_broken first v c j
 unfolding is_ownership_broken
 broken_before first h v c j a l =
-    rw (lt-ltb c (length h) l, lt-ltb c (length v) (omega (arith, l, a.right)),
-      take-agree (c + 1) h v (AgreeTo-less (length h) (c + 1) h v (omega (arith, l)) a)) refl
+    rw (
+      lt-ltb c (length h) l,
+      lt-ltb c (length v) (omega (arith, l, a.right)),
+      take-agree (c + 1) h v (AgreeTo-less (length h) (c + 1) h v (omega (arith, l)) a),
+    ) refl
 
 pub verdict-more : (first : List Joint) (h : Trace) (x : Sample) (v : Trace) → OneMore h x v
     → ownership_verdict first v ≡ or_at (is_ownership_broken first v) 32 (length h) (ownership_verdict first h)

@@ -1,7 +1,7 @@
 -- A line of which nothing is shown keeps its joint states: stores and drops that happened already add none.
-use Rattle.std.proofs.Common.{ℕ, zero, suc, ◌+◌, ◌<◌, ◌≡◌, Bool, true, false, ◌&&◌, ◌||◌, not, nat_eq, List, [], ◌∷◌, Option, Some, None}
-use Rattle.std.proofs.Common.{refl, sym, ap, ◌∙◌, arith, inl, inr, ◌⊎◌, map, if◌then◌else◌}
-use Rattle.std.specs.List.{All, Contains, filter, list_all, list_any}
+use Rattle.std.proofs.Common.{ℕ, suc, ◌+◌, ◌<◌, ◌≡◌, Bool, true, false, ◌&&◌, ◌||◌, not, List, [], ◌∷◌, Option, Some, None}
+use Rattle.std.proofs.Common.{refl, sym, ap, ◌∙◌, arith, inl, inr, ◌⊎◌, if◌then◌else◌}
+use Rattle.std.specs.List.{Contains, filter, list_all, list_any}
 use Rattle.std.specs.Cmp.Lexicographic.{pointwise}
 use Rattle.std.proofs.lemmas.Bool.{and_parts, both_ways, cases_Bool}
 use Rattle.std.proofs.lemmas.List.Elements.{All-contains}
@@ -12,16 +12,14 @@ use Rattle.fsb_count.proofs.Interface.{each_where-at}
 use Rattle.fsb_line.specs.declared.purpose.Purpose.{Purpose}
 use Rattle.fsb_line.specs.declared.state.Mesi.{Mesi}
 use Rattle.fsb_line.specs.declared.state.Mesi.TheVariants.{Exclusive, Invalid, Modified, Shared}
-use Rattle.fsb_line.specs.States.{is_held, is_modified, is_sole}
 use Rattle.fsb_trace.specs.At.{Trace}
-use Rattle.fsb_owners.specs.Joint.{Joint, agents, alone, every_joint, is_after_drops, is_after_stores, is_kept_or_dropped}
+use Rattle.fsb_owners.specs.Joint.{Joint, alone, every_joint, is_after_drops, is_after_stores, is_kept_or_dropped}
 use Rattle.fsb_owners.specs.Joint.{is_same_joint, is_same_state, reached_by, sharing, state_at, unheld}
 use Rattle.fsb_owners.specs.Possible.{after_answer, after_begin, after_clock, after_snoop_end, after_unseen, at_snoop_end, by_request, left_by, made_by}
 use Rattle.fsb_owners.specs.Shown.{is_coming, is_for_line, may_drop_at, names, snooped_at}
-use Rattle.fsb_owner_laws.specs.Losses.{AreCoherent}
 use Rattle.fsb_owner_laws.proofs.AgreePossible.{drops-same, stores-same}
 use Rattle.fsb_owner_laws.proofs.AgreeWords.{same_answers}
-use Rattle.fsb_owner_laws.proofs.Losses.{any_filter, coherent_reached, is_same}
+use Rattle.fsb_owner_laws.proofs.Losses.{any_filter}
 use Rattle.fsb_owner_laws.proofs.StepLosses.{drops_stay, same_joint, stores_stay}
 
 or_left : (a b : Bool) → a ≡ false → (a || b) ≡ b
@@ -42,8 +40,10 @@ any_at p xs x c t = list_any_at p xs c.0 x c.1 (ap p c.2 ∙ t)
 filter_alike : (p q : Joint → Bool) (xs : List Joint) → ((x : Joint) → Contains xs x → p x ≡ q x) → filter p xs ≡ filter q xs
 filter_alike p q [] h = refl
 filter_alike p q (x ∷ xs) h =
-    rw (h x (0, omega arith, refl),
-      filter_alike p q xs (λ y c. h y (suc c.0, (let l = c.1 in omega (arith, l)), c.2))) refl
+    rw (
+      h x (0, omega arith, refl),
+      filter_alike p q xs (λ y c. h y (suc c.0, (let l = c.1 in omega (arith, l)), c.2)),
+    ) refl
 
 -- a set that the step does not leave keeps its joint states
 pub closed : (step : Joint → Joint → Bool) (p : Joint → Bool) → ((x : Joint) → Contains every_joint x → step x x ≡ true)
@@ -115,10 +115,12 @@ unfolding is_after_drops
 drops_on may x y z e f =
     let p = drop_parts may x y e in
     let r = drop_parts may y z f in
-    rw (dropped_on (may 0) (state_at x 0) (state_at y 0) (state_at z 0) p.0 r.0,
+    rw (
+      dropped_on (may 0) (state_at x 0) (state_at y 0) (state_at z 0) p.0 r.0,
       dropped_on (may 1) (state_at x 1) (state_at y 1) (state_at z 1) p.1 r.1,
       dropped_on (may 2) (state_at x 2) (state_at y 2) (state_at z 2) p.2 r.2,
-      dropped_on (may 3) (state_at x 3) (state_at y 3) (state_at z 3) p.3 r.3) refl
+      dropped_on (may 3) (state_at x 3) (state_at y 3) (state_at z 3) p.3 r.3,
+    ) refl
 
 pub same_states : (s t : Mesi) → is_same_state s t ≡ true → s ≡ t
 unfolding is_same_state
@@ -287,7 +289,10 @@ drops_closed : (ready may : ℕ → Bool) (set : List Joint) (x y : Joint) → C
 drops_closed ready may set x y cx cy e d =
     let h = left_parts ready may set x e in
     left_from ready may set y (record {
-      before = h.before; coherent = h.coherent; stored = h.stored; dropped = drops_on may h.before x y h.dropped d;
+      before = h.before;
+      coherent = h.coherent;
+      stored = h.stored;
+      dropped = drops_on may h.before x y h.dropped d;
     })
 
 -- before a store from Exclusive the line was Exclusive there in the set itself
@@ -330,7 +335,7 @@ as_filter ready may set = refl
 -- stores and drops by the same agents once more add none
 unseen_twice : (ready may : ℕ → Bool) (set : List Joint)
     → reached_by (is_after_drops may) (reached_by (is_after_stores ready) (reached_by (is_after_drops may) (reached_by (is_after_stores ready) set)))
-      ≡ reached_by (is_after_drops may) (reached_by (is_after_stores ready) set)
+    ≡ reached_by (is_after_drops may) (reached_by (is_after_stores ready) set)
 unseen_twice ready may set =
     ap (λ c. reached_by (is_after_drops may) (reached_by (is_after_stores ready) c)) (as_filter ready may set)
     ∙ ap (reached_by (is_after_drops may))

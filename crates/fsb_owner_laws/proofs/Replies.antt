@@ -1,8 +1,8 @@
 -- The others leave a line to the request that waits for its reply, where no rule of ownership is broken.
-use Rattle.std.proofs.Common.{ℕ, zero, suc, ◌+◌, ◌-◌, ◌<◌, ◌≤◌, ◌≡◌, Bool, true, false, ◌&&◌, ◌||◌, not, nat_eq, nat_lt, length, List, [], ◌∷◌, Option, Some, None, ◌⊎◌}
-use Rattle.std.proofs.Common.{refl, sym, ap, subst, ◌∙◌, arith, inl, inr, if◌then◌else◌, add-one}
-use Rattle.std.specs.List.{Contains, filter}
-use Rattle.std.proofs.lemmas.Bool.{and_parts, both_ways, cases_Bool, cases_eq, cases_lt, eq-eqb, eqb-true, false_from_ne_true, not-true}
+use Rattle.std.proofs.Common.{ℕ, zero, suc, ◌+◌, ◌<◌, ◌≤◌, ◌≡◌, Bool, true, false, ◌&&◌, ◌||◌, not, nat_eq, length, List, [], ◌∷◌, Option, Some, None, ◌⊎◌}
+use Rattle.std.proofs.Common.{refl, sym, ap, subst, ◌∙◌, arith, inl, inr, if◌then◌else◌}
+use Rattle.std.specs.List.{filter}
+use Rattle.std.proofs.lemmas.Bool.{both_ways, cases_eq, cases_lt, eqb-true, false_from_ne_true}
 use Rattle.fsb_count.specs.Options.{is_some_and}
 use Rattle.fsb_signal.specs.declared.lines.TheConstants.Lines.{DEFER, HIT, HITM}
 use Rattle.fsb_signal.specs.Samples.{line_at}
@@ -17,22 +17,20 @@ use Rattle.fsb_trace.specs.Outcome.{is_deferred}
 use Rattle.fsb_trace.specs.Flight.{reply_clock_of}
 use Rattle.fsb_trace.proofs.Interface.{live_clock_of-number, snoop_end_of-clock, snoop_end_of-rises}
 use Rattle.fsb_laws.proofs.Interface.{live_of_reply}
-use Rattle.fsb_laws.specs.Orderly.{Orderly}
-use Rattle.fsb_owners.specs.Joint.{Joint, is_after_drops, is_after_snoop_end, is_after_stores, reached_by, state_at}
+use Rattle.fsb_owners.specs.Joint.{Joint, is_after_snoop_end, state_at}
 use Rattle.fsb_owners.specs.Possible.{after_answer, after_begin, after_clock, after_snoop_end, after_unseen, asking, left_by, made_by, may_ask}
-use Rattle.fsb_owners.specs.Possible.{possible, possible_begun, possible_shown, replied_to, settled_at_end, showing}
-use Rattle.fsb_owners.specs.Rules.{has_other_hit, is_asked_twice, is_given_again, is_hit_of_reply_wrong, is_none_left, is_served_or_deferred, of_request}
-use Rattle.fsb_owners.specs.Shown.{agent_at, is_for_line, is_spoiled, is_turned, names, origin_clock_of, origin_of, purpose_at, snooped_at}
+use Rattle.fsb_owners.specs.Possible.{possible, possible_begun, possible_shown, replied_to, settled_at_end}
+use Rattle.fsb_owners.specs.Rules.{has_other_hit, is_hit_of_reply_wrong, is_none_left, is_served_or_deferred, of_request}
+use Rattle.fsb_owners.specs.Shown.{agent_at, is_spoiled, is_turned, names, origin_clock_of, origin_of}
 use Rattle.fsb_owner_laws.specs.Losses.{AreCoherent, fits_reply, possible_turned, turned_by}
 use Rattle.fsb_owner_laws.specs.Unbroken.{IsUnbroken}
-use Rattle.fsb_owner_laws.proofs.AgreeEnders.{ender_from, for_line-from, snooped_found, snooped_from}
+use Rattle.fsb_owner_laws.proofs.AgreeEnders.{ender_from, for_line-from, snooped_from}
 use Rattle.fsb_owner_laws.proofs.AgreeWords.{IsPutOff, put_off, reply_behind, reply_found, some_same}
 use Rattle.fsb_owner_laws.proofs.AskedOnce.{IsAsker, IsPlain, IsReplied, asker, deferred_quiet, not_answered, not_given, not_twice, number_is, request_no_reply}
 use Rattle.fsb_owner_laws.proofs.Awaited.{IsAwaited, IsKeptOut, asks_out, awaited_after_drops, awaited_after_stores, awaited_after_turn}
 use Rattle.fsb_owner_laws.proofs.Awaited.{awaited_after_written, awaited_from, out_after_drops, out_after_end, out_after_stores, reply_fits, waits_fit}
-use Rattle.fsb_owner_laws.proofs.BrokenRules.{IsEnder, ender_parts, of_request-at, shown_by}
+use Rattle.fsb_owner_laws.proofs.BrokenRules.{ender_parts, of_request-at, shown_by}
 use Rattle.fsb_owner_laws.proofs.Emptied.{Ender, at_ender, ender, ender_four, next, step_by}
-use Rattle.fsb_owner_laws.proofs.Losses.{none_filter}
 use Rattle.fsb_owner_laws.proofs.Members.{Has, has_begin, has_filter, has_reached, has_unseen}
 use Rattle.fsb_owner_laws.proofs.StepLosses.{fits_end, showing_fits}
 
@@ -126,7 +124,7 @@ other_agent first v line c b e f u a k l m n =
         | inr z ↦
             let q : k.clock ≡ a.asker.clock = omega (arith, y, z) in
             let i : k.number ≡ a.asker.number = sym (number_is v k.number k.clock k.begins) ∙ ap (live_number_of v) q
-                ∙ number_is v a.asker.number a.asker.clock a.asker.begins in
+            ∙ number_is v a.asker.number a.asker.clock a.asker.begins in
             elim (same_request v line c b e f a k i) [ inl w ↦ omega (arith, w, m) | inr w ↦ n w ]
       ]
     ])
@@ -135,7 +133,7 @@ other_agent first v line c b e f u a k l m n =
 made_has : (P R : Joint → Type 0) (v : Trace) (b j a : ℕ) (kind : Purpose) (set : List Joint) (r : Bool) → is_reply (live_request_of v j) ≡ r
     → (is_reply (live_request_of v j) ≡ true → (x y : Joint) → P x → is_after_snoop_end a kind Replied (line_at HIT v b) x y ≡ true → R y)
     → (is_reply (live_request_of v j) ≡ false → (x y : Joint) → P x → fits_end (line_at HIT v b) (line_at HITM v b) a kind x ≡ true
-      → is_after_snoop_end a kind (settled_at_end (line_at HITM v b) (is_turned v j) kind) (line_at HIT v b) x y ≡ true → R y)
+    → is_after_snoop_end a kind (settled_at_end (line_at HITM v b) (is_turned v j) kind) (line_at HIT v b) x y ≡ true → R y)
     → Has P set → Has R (made_by v b j a kind (left_by v b j a kind set))
 unfolding made_by left_by replied_to
 made_has P R v b j a kind set true e f g h =
@@ -235,7 +233,7 @@ sent_back WriteBack e = absurd (cc)
 begins_waiting : (first : List Joint) (v : Trace) (line c : ℕ) (e f : Ender) → IsUnbroken first v line c → (a : IsAnswer v line c e)
     → f ≡ (a.asker.number, e.1) → (set : List Joint) → Has (IsKeptOut e.1.0) set
     → Has (IsAwaited (line_at HIT v a.put.snoop) e.1.0 e.1.1)
-      (made_by v a.put.snoop f.0 f.1.0 f.1.1 (left_by v a.put.snoop f.0 f.1.0 f.1.1 set))
+    (made_by v a.put.snoop f.0 f.1.0 f.1.1 (left_by v a.put.snoop f.0 f.1.0 f.1.1 set))
 begins_waiting first v line c e f u a same set h =
     let i = a.asker.number in
     let s = a.put.snoop in
@@ -345,7 +343,7 @@ waiting_end first v line c b e f u a l m s hit set h =
 -- one clock on
 wait_from : (first : List Joint) (v : Trace) (line c : ℕ) (e : Ender) → IsUnbroken first v line c → (a : IsAnswer v line c e) (set : List Joint)
     → Has (IsKeptOut e.1.0) set → Has (IsAwaited (line_at HIT v a.put.snoop) e.1.0 e.1.1)
-      (after_unseen v line a.put.snoop (after_snoop_end v line a.put.snoop (after_answer v line a.put.snoop set)))
+    (after_unseen v line a.put.snoop (after_snoop_end v line a.put.snoop (after_answer v line a.put.snoop set)))
 wait_from first v line c e u a set h =
     let s = a.put.snoop in
     let own = own_end v line c e a in
@@ -393,7 +391,7 @@ middle_off false d e h = refl
 hit_by : (v : Trace) (line c j i q a : ℕ) → is_reply (live_request_of v j) ≡ true → origin_of v j ≡ Some i → origin_clock_of v j ≡ Some q
     → names v line q ≡ true → is_spoiled v line ≡ false → agent_at v q ≡ Some a
     → (is_reply (live_request_of v j) && is_some_and (origin_of v j) (λ i. has_other_hit v c i)
-      && is_some_and (origin_clock_of v j) (λ q. of_request v q (λ line a. true))) ≡ false
+    && is_some_and (origin_clock_of v j) (λ q. of_request v q (λ line a. true))) ≡ false
     → has_other_hit v c i ≡ false
 unfolding is_some_and
 hit_by v line c j i q a r o oc n s g h =
@@ -458,7 +456,11 @@ turned_reply first v line c e u s r =
       | inl b ↦ λ x m. write_back_fits (line_at HIT v c) e.1.0 e.1.1 x b
       | inr t ↦ subst (Has (λ x. fits_reply (line_at HIT v c) e.1.0 e.1.1 x ≡ true)) (sym (shown_all first v line c e s r))
           (fit_all first v line c e u (record {
-            shown = s; asker = k; way = w; put = put_off v k.number u.orderly w.answered.deferred; asks = t;
+            shown = s;
+            asker = k;
+            way = w;
+            put = put_off v k.number u.orderly w.answered.deferred;
+            asks = t;
             four = ender_four v line c e s;
           }))
     ])

@@ -1,6 +1,6 @@
 -- What is lost at a snoop end, at a reply, and by stores and drops.
-use Rattle.std.proofs.Common.{ℕ, ◌+◌, ◌<◌, ◌≡◌, Bool, true, false, ◌&&◌, ◌||◌, not, nat_eq, List, [], ◌∷◌, refl, sym, ap, ◌∙◌, arith, map}
-use Rattle.std.specs.List.{All, Contains, filter, list_all, list_any}
+use Rattle.std.proofs.Common.{ℕ, ◌+◌, ◌<◌, ◌≡◌, Bool, true, false, ◌&&◌, not, List, [], ◌∷◌, refl, ap, ◌∙◌}
+use Rattle.std.specs.List.{Contains, filter, list_all, list_any}
 use Rattle.std.proofs.lemmas.Bool.{and_parts}
 use Rattle.std.proofs.lemmas.List.Folds.{list_any_at}
 use Rattle.fsb_count.specs.Clocks.{all_where, each_where}
@@ -10,16 +10,16 @@ use Rattle.fsb_line.specs.declared.purpose.Purpose.TheVariants.{Own, Read, Upgra
 use Rattle.fsb_line.specs.declared.purpose.Settled.TheVariants.{Replied}
 use Rattle.fsb_line.specs.declared.state.Mesi.{Mesi}
 use Rattle.fsb_line.specs.declared.state.Mesi.TheVariants.{Exclusive, Invalid, Modified, Shared}
-use Rattle.fsb_line.specs.States.{is_held, is_modified, is_sole, state_after}
+use Rattle.fsb_line.specs.States.{is_modified}
 use Rattle.fsb_trace.specs.At.{Trace}
-use Rattle.fsb_owners.specs.Joint.{Joint, agents, alone, every_joint, has_other_holder, has_other_owner, is_after_drops}
+use Rattle.fsb_owners.specs.Joint.{Joint, alone, every_joint, has_other_holder, has_other_owner, is_after_drops}
 use Rattle.fsb_owners.specs.Joint.{is_after_snoop_end, is_after_stores, is_kept_or_dropped, is_same_joint, is_same_state}
 use Rattle.fsb_owners.specs.Joint.{reached_by, sharing, state_at, unheld}
 use Rattle.fsb_owners.specs.Possible.{after_unseen, fits_answer, replied_to, settled_at_end, showing}
 use Rattle.fsb_owners.specs.Rules.{is_none_left}
 use Rattle.fsb_owners.specs.Shown.{is_coming, may_drop_at}
 use Rattle.fsb_owner_laws.specs.Losses.{AreCoherent, fits_reply, has_other_sole}
-use Rattle.fsb_owner_laws.proofs.Losses.{coherent_reached, is_same, lands, none_filter, none_reached, any_alike, alike, reached_from, reached_where}
+use Rattle.fsb_owner_laws.proofs.Losses.{coherent_reached, is_same, lands, none_reached, any_alike, alike, reached_from, reached_where}
 
 -- a test of an answer, at both
 abbrev of_both : (Bool → Bool) → Bool
@@ -84,7 +84,7 @@ kept_at hit hitm turned asker kind l =
 
 pub request_keeps : (hit hitm turned : Bool) (asker : ℕ) (kind : Purpose) (set : List Joint) → asker < 4 → AreCoherent set
     → is_none_left (reached_by (is_after_snoop_end asker kind (settled_at_end hitm turned kind) hit) (showing hit hitm asker kind set))
-      ≡ is_none_left (showing hit hitm asker kind set)
+    ≡ is_none_left (showing hit hitm asker kind set)
 unfolding keeps
 request_keeps hit hitm turned asker kind set l a =
     rw (showing_fits hit hitm asker kind set)
@@ -167,8 +167,12 @@ kept_self may s = rw (same_state s) refl
 pub drops_stay : (may : ℕ → Bool) (x : Joint) → Contains every_joint x → is_after_drops may x x ≡ true
 unfolding is_after_drops
 drops_stay may x e =
-    rw (kept_self (may 0) (state_at x 0), kept_self (may 1) (state_at x 1), kept_self (may 2) (state_at x 2),
-      kept_self (may 3) (state_at x 3)) refl
+    rw (
+      kept_self (may 0) (state_at x 0),
+      kept_self (may 1) (state_at x 1),
+      kept_self (may 2) (state_at x 2),
+      kept_self (may 3) (state_at x 3),
+    ) refl
 
 pub unseen_keeps : (v : Trace) (line c : ℕ) (set : List Joint) → AreCoherent set
     → is_none_left (after_unseen v line c set) ≡ is_none_left set

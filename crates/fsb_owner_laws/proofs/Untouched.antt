@@ -1,28 +1,27 @@
 -- A line that nobody names keeps the joint states that it may have at first.
-use Rattle.std.proofs.Common.{ℕ, zero, suc, ◌+◌, ◌<◌, ◌≡◌, Bool, true, false, ◌&&◌, ◌||◌, not, length, List, [], ◌∷◌, Option, Some, None}
-use Rattle.std.proofs.Common.{refl, sym, ap, ◌∙◌, arith, inl, inr, map}
+use Rattle.std.proofs.Common.{ℕ, zero, suc, ◌+◌, ◌<◌, ◌≡◌, Bool, true, false, ◌&&◌, ◌||◌, not, length, List, [], ◌∷◌, Some}
+use Rattle.std.proofs.Common.{refl, sym, ap, ◌∙◌, arith, inl, inr}
 use Rattle.std.specs.List.{Contains, filter, list_all}
 use Rattle.std.proofs.lemmas.List.Elements.{All-contains}
 use Rattle.std.proofs.lemmas.List.Sums.{AllPass-from_list_all}
-use Rattle.std.proofs.lemmas.Bool.{both_ways, cases_Bool, false_from_ne_true}
+use Rattle.std.proofs.lemmas.Bool.{both_ways, false_from_ne_true}
 use Rattle.fsb_count.specs.Clocks.{all_where, each_where}
 use Rattle.fsb_count.specs.Options.{is_some_and}
 use Rattle.fsb_count.proofs.Interface.{each_where-at}
 use Rattle.fsb_line.specs.declared.state.Mesi.{Mesi}
 use Rattle.fsb_line.specs.declared.state.Mesi.TheVariants.{Exclusive, Invalid, Modified, Shared}
-use Rattle.fsb_line.specs.States.{is_held}
 use Rattle.fsb_trace.specs.At.{Trace}
 use Rattle.fsb_trace.proofs.Interface.{snoop_end_of-clock}
 use Rattle.fsb_laws.specs.Orderly.{Orderly}
-use Rattle.fsb_owners.specs.Joint.{Joint, agents, alone, every_joint, is_after_drops, is_after_stores, is_kept_or_dropped}
+use Rattle.fsb_owners.specs.Joint.{Joint, alone, every_joint, is_after_drops, is_after_stores, is_kept_or_dropped}
 use Rattle.fsb_owners.specs.Joint.{is_same_joint, is_same_state, reached_by, sharing, state_at, unheld}
 use Rattle.fsb_owners.specs.Possible.{after_clock, after_unseen, possible}
 use Rattle.fsb_owners.specs.Shown.{is_coming, is_for_line, may_drop_at, names, origin_clock_of, snooped_at}
 use Rattle.fsb_owner_laws.proofs.AgreeEnders.{origin_parts, snooped_found}
 use Rattle.fsb_owner_laws.proofs.AgreePossible.{some_and}
 use Rattle.fsb_owner_laws.proofs.AgreeWords.{itself}
-use Rattle.fsb_owner_laws.proofs.Quiet.{IsStore, clock_quiet, closed, drop_each, kept, same_joints, same_states, store_parts}
-use Rattle.fsb_owner_laws.proofs.StepLosses.{drops_stay, same_joint, stores_stay}
+use Rattle.fsb_owner_laws.proofs.Quiet.{clock_quiet, closed, drop_each, kept, same_joints, same_states, store_parts}
+use Rattle.fsb_owner_laws.proofs.StepLosses.{drops_stay, stores_stay}
 
 -- stores and drops by anybody leave the set as it is
 abbrev IsSettled : List Joint → Type 0
@@ -94,8 +93,12 @@ unfolding nothing
 unheld_dropped may x y cx cy u d =
     let e : is_after_drops may unheld y ≡ true = ap (λ j. is_after_drops may j y) (sym (same_joints x unheld u)) ∙ d in
     nothing_unheld y cy
-    (rw (agent_dropped may y 0 (omega arith) e, agent_dropped may y 1 (omega arith) e, agent_dropped may y 2 (omega arith) e,
-      agent_dropped may y 3 (omega arith) e) refl)
+    (rw (
+      agent_dropped may y 0 (omega arith) e,
+      agent_dropped may y 1 (omega arith) e,
+      agent_dropped may y 2 (omega arith) e,
+      agent_dropped may y 3 (omega arith) e,
+    ) refl)
 
 pub unheld_settled : IsSettled (unheld ∷ [])
 unheld_settled ready may =

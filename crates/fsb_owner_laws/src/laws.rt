@@ -22,7 +22,7 @@ pub fn steps_keep_lines_coherent()
     ensures request { (hit hitm turned : Bool) (asker : ℕ) (kind : Purpose) (set : List Joint) →
         asker < 4 → AreCoherent set →
         is_none_left (reached_by (is_after_snoop_end asker kind (settled_at_end hitm turned kind) hit)
-          (showing hit hitm asker kind set))
+        (showing hit hitm asker kind set))
         ≡ is_none_left (showing hit hitm asker kind set) }
     ensures reply { (hit : Bool) (asker : ℕ) (kind : Purpose) (set : List Joint) → asker < 4 →
         AreCoherent set →

@@ -1,7 +1,8 @@
 //! What the wires show of one line, and which event leaves no joint state.
 
-use fsb_joint::{Begun, JointSet, SnoopEnd};
+use fsb_joint::{Begun, JointSet, LineSets, SnoopEnd};
 use fsb_line::Purpose;
+use std::alloc::AllocError;
 
 /// What the wires show.
 #[derive(Clone, Copy)]
@@ -185,4 +186,15 @@ fn ownership_is_told(rt: HostRuntime) {
     let owned = after(JointSet::unheld(), Ends(0, Own, false, false, false));
     assert!(rt; owned.is_owned_elsewhere(1) && !owned.is_owned_elsewhere(0));
     assert!(rt; !JointSet::every().is_owned_elsewhere(1) && !JointSet::unheld().is_owned_elsewhere(1));
+}
+
+#[test]
+fn lines_have_their_own_sets(rt: HostRuntime) -> Result<(), AllocError> {
+    let mut lines = LineSets::new(rt.alloc(), JointSet::unheld());
+    let owned = after(JointSet::unheld(), Ends(0, Own, false, false, false));
+    lines.insert(2, owned)?;
+    assert!(rt; lines.get(2) == owned && lines.get(3) == JointSet::unheld());
+    lines.insert(2, JointSet::every())?;
+    assert!(rt; lines.get(2) == JointSet::every() && lines.get(0) == JointSet::unheld());
+    Ok(())
 }
