@@ -7,7 +7,8 @@ use Rattle.fsb_signal.specs.Samples.{line_at}
 use Rattle.fsb_trace.specs.At.{Trace}
 use Rattle.fsb_trace.specs.Requests.{is_reply, live_request_of}
 use Rattle.fsb_owners.specs.Joint.{Joint, is_after_snoop_end, reached_by}
-use Rattle.fsb_owners.specs.Possible.{after_answer, after_begin, after_snoop_end, asking, at_snoop_end, by_request, left_by, made_by}
+use Rattle.fsb_owners.specs.Possible.{after_answer, after_begin, after_snoop_end, asking, at_snoop_end, by_request}
+use Rattle.fsb_owners.specs.Possible.{left_by, made_by}
 use Rattle.fsb_owners.specs.Possible.{replied_to, settled_at_end, showing}
 use Rattle.fsb_owners.specs.Shown.{agent_at, is_for_line, is_turned, names, origin_clock_of, purpose_at, snooped_at}
 use Rattle.fsb_joint.specs.declared.line_clock.Begun.{Begun}

@@ -3,7 +3,8 @@ use Rattle.std.proofs.Common.{ℕ, ◌/◌, ◌%◌, ◌*◌, ◌^◌, ◌<◌, 
 use Rattle.fsb_count.specs.Clocks.{all_where, each_where}
 use Rattle.fsb_line.specs.declared.state.Mesi.{Mesi}
 use Rattle.fsb_line.specs.declared.state.Mesi.TheVariants.{Exclusive, Invalid, Modified, Shared}
-use Rattle.fsb_owners.specs.Joint.{alone, every_joint, has_other_holder, has_other_owner, is_same_state, sharing, state_at, unheld}
+use Rattle.fsb_owners.specs.Joint.{alone, every_joint, has_other_holder, has_other_owner, is_same_state, sharing}
+use Rattle.fsb_owners.specs.Joint.{state_at, unheld}
 use Rattle.fsb_joint.specs.Sets.{joint_at}
 use Rattle.fsb_joint.proofs.Where.{at_each, is_same, same}
 

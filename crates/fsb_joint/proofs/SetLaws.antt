@@ -1,5 +1,6 @@
 -- What a set is after its bits were chosen.
-use Rattle.std.proofs.Common.{ℕ, ◌+◌, ◌*◌, ◌%◌, ◌^◌, ◌<◌, ◌≡◌, Bool, true, false, ◌&&◌, ◌||◌, not, nat_eq, nat_lt, List, [], ◌∷◌, map, refl, sym, ap, ◌∙◌}
+use Rattle.std.proofs.Common.{ℕ, ◌+◌, ◌*◌, ◌%◌, ◌^◌, ◌<◌, ◌≡◌, Bool, true, false, ◌&&◌, ◌||◌, not, nat_eq, nat_lt, List}
+use Rattle.std.proofs.Common.{[], ◌∷◌, map, refl, sym, ap, ◌∙◌}
 use Rattle.std.proofs.Common.{arith, inl, inr}
 use Rattle.std.specs.Int.RustNames.{bit_or}
 use Rattle.std.specs.List.{filter, list_all, list_any}
@@ -7,7 +8,8 @@ use Rattle.std.proofs.lemmas.Bool.{cases_eq}
 use Rattle.std.proofs.lemmas.Bool.Decides.{nat_tests}
 use Rattle.fsb_count.specs.Clocks.{all_where, any_where, each_where}
 use Rattle.fsb_count.proofs.Interface.{any_where-more, each_where-at, nat_lt-more}
-use Rattle.fsb_owners.specs.Joint.{Joint, agents, alone, every_joint, has_other_owner, is_after_drops, is_after_stores, reached_by, sharing, unheld}
+use Rattle.fsb_owners.specs.Joint.{Joint, agents, alone, every_joint, has_other_owner, is_after_drops, is_after_stores}
+use Rattle.fsb_owners.specs.Joint.{reached_by, sharing, unheld}
 use Rattle.fsb_owners.specs.Rules.{is_none_left}
 use Rattle.fsb_joint.specs.declared.steps.Step.TheVariants.{Drops, Stores}
 use Rattle.fsb_joint.specs.declared.steps.Test.TheVariants.{Unowned}

@@ -6,7 +6,8 @@ use Rattle.fsb_signal.specs.Samples.{line_at}
 use Rattle.fsb_trace.specs.At.{Trace}
 use Rattle.fsb_trace.specs.Requests.{is_reply, live_request_of}
 use Rattle.fsb_owners.specs.Joint.{agents}
-use Rattle.fsb_owners.specs.Shown.{agent_at, is_coming, is_for_line, is_turned, may_drop_at, names, origin_clock_of, purpose_at, snooped_at}
+use Rattle.fsb_owners.specs.Shown.{agent_at, is_coming, is_for_line, is_turned, may_drop_at, names, origin_clock_of}
+use Rattle.fsb_owners.specs.Shown.{purpose_at, snooped_at}
 use Rattle.fsb_joint.specs.declared.line_clock.Begun.{Begun}
 use Rattle.fsb_joint.specs.declared.line_clock.SnoopEnd.{SnoopEnd}
 

@@ -15,7 +15,8 @@ use Rattle.fsb_trace.proofs.Interface.{live_below_count, live_clock_of-number, l
 use Rattle.fsb_trace.proofs.Interface.{snoop_end_of-clock, snoop_end_of-rises, snoop_end_of-stays}
 use Rattle.fsb_laws.proofs.Interface.{live_of_reply}
 use Rattle.fsb_owners.specs.Shown.{is_for_line, is_reply_of, names, origin_clock_of, origin_of, snooped_at}
-use Rattle.fsb_owner_laws.proofs.AgreeWords.{Alike, IsAnsweredAt, agent_at-agree, answered_stays, live_number-agree, names-agree, purpose_at-agree}
+use Rattle.fsb_owner_laws.proofs.AgreeWords.{Alike, IsAnsweredAt, agent_at-agree, answered_stays, live_number-agree}
+use Rattle.fsb_owner_laws.proofs.AgreeWords.{names-agree, purpose_at-agree}
 use Rattle.fsb_owner_laws.proofs.AgreeWords.{itself, put_off, reply_behind, reply_found, same_options, some_same, turned_round}
 use Rattle.fsb_owner_laws.proofs.BrokenRules.{IsEnder, ender_parts}
 use Rattle.fsb_owner_laws.proofs.Emptied.{Ender, ender}
@@ -153,7 +154,8 @@ pub for_line-from : (v : Trace) (line j q : ℕ) → origin_clock_of v j ≡ Som
 unfolding is_for_line is_some_and
 for_line-from v line j q e = rw e refl
 
-ender_stays : (n : ℕ) (w v : Trace) (line b : ℕ) (e : Ender) → Alike n w v → b < n → ender w line b ≡ Some e → ender v line b ≡ Some e
+ender_stays : (n : ℕ) (w v : Trace) (line b : ℕ) (e : Ender) → Alike n w v → b < n → ender w line b ≡ Some e
+    → ender v line b ≡ Some e
 ender_stays n w v line b e k l h =
     let p = ender_parts w line b e h in
     let s = snooped_found w b e.0 p.number in

@@ -1,5 +1,6 @@
 -- What is possible before a clock rests on the samples up to that clock.
-use Rattle.std.proofs.Common.{ℕ, zero, suc, ◌+◌, ◌<◌, ◌≤◌, ◌≡◌, Bool, true, false, ◌&&◌, ◌||◌, not, nat_eq, nat_lt, length, List, Option, Some, None}
+use Rattle.std.proofs.Common.{ℕ, zero, suc, ◌+◌, ◌<◌, ◌≤◌, ◌≡◌, Bool, true, false, ◌&&◌, ◌||◌, not, nat_eq, nat_lt}
+use Rattle.std.proofs.Common.{length, List, Option, Some, None}
 use Rattle.std.proofs.Common.{refl, sym, ap, ◌∙◌, arith, inl, inr}
 use Rattle.std.proofs.lemmas.Bool.{and_parts, both_ways, cases_Bool, cases_eq, eq-eqb, false_from_ne_true, ltb-true, not-true}
 use Rattle.fsb_count.specs.Options.{is_before, is_some_and}
@@ -13,18 +14,24 @@ use Rattle.fsb_trace.specs.Requests.{is_cancelled, is_live, is_upgrade, live_cou
 use Rattle.fsb_trace.specs.Snoop.{snoop_end_of}
 use Rattle.fsb_trace.specs.Outcome.{is_deferred}
 use Rattle.fsb_trace.specs.Response.{end_of}
-use Rattle.fsb_trace.specs.Flight.{is_dropped, is_finished, is_outstanding, last_clock_of, reply_clock_of, reply_end_of, reply_number_of}
-use Rattle.fsb_trace.proofs.Interface.{end_of-response, end_of-stays, is_cancelled-agree, is_deferred-stays, is_live-agree, line_at-agree}
-use Rattle.fsb_trace.proofs.Interface.{line_at_snoop_end-stays, live_below_count, live_clock_of-number, live_request_of-stays, request_at-agree}
+use Rattle.fsb_trace.specs.Flight.{is_dropped, is_finished, is_outstanding, last_clock_of, reply_clock_of, reply_end_of}
+use Rattle.fsb_trace.specs.Flight.{reply_number_of}
+use Rattle.fsb_trace.proofs.Interface.{end_of-response, end_of-stays, is_cancelled-agree, is_deferred-stays}
+use Rattle.fsb_trace.proofs.Interface.{is_live-agree, line_at-agree}
+use Rattle.fsb_trace.proofs.Interface.{line_at_snoop_end-stays, live_below_count, live_clock_of-number}
+use Rattle.fsb_trace.proofs.Interface.{live_request_of-stays, request_at-agree}
 use Rattle.fsb_trace.proofs.Interface.{snoop_end_of-clock, snoop_end_of-stays}
 use Rattle.fsb_laws.specs.Orderly.{Orderly}
 use Rattle.fsb_laws.proofs.Interface.{end_after_clock, has_answer, last_clock_of-deferred, last_clock_of-plain, live_of_reply}
 use Rattle.fsb_owners.specs.Joint.{Joint, is_after_drops, is_after_stores, reached_by}
-use Rattle.fsb_owners.specs.Possible.{after_answer, after_begin, after_clock, after_snoop_end, after_unseen, left_by, made_by, possible}
-use Rattle.fsb_owners.specs.Shown.{asks, brings_bytes, is_coming, is_coming_by, is_turned, is_upgrading, may_drop_at, origin_clock_of, purpose_at}
+use Rattle.fsb_owners.specs.Possible.{after_answer, after_begin, after_clock, after_snoop_end, after_unseen, left_by}
+use Rattle.fsb_owners.specs.Possible.{made_by, possible}
+use Rattle.fsb_owners.specs.Shown.{asks, brings_bytes, is_coming, is_coming_by, is_turned, is_upgrading, may_drop_at}
+use Rattle.fsb_owners.specs.Shown.{origin_clock_of, purpose_at}
 use Rattle.fsb_owner_laws.proofs.AgreeEnders.{ender-agree, ender_snoop, origin_parts}
 use Rattle.fsb_owner_laws.proofs.AgreeWords.{Alike, agent_at-agree, answered_stays, asks-agree, live_number-agree, names-agree}
-use Rattle.fsb_owner_laws.proofs.AgreeWords.{purpose_at-agree, put_off, reply_behind, reply_found, same_answers, some_same, turned_round}
+use Rattle.fsb_owner_laws.proofs.AgreeWords.{purpose_at-agree, put_off, reply_behind, reply_found, same_answers}
+use Rattle.fsb_owner_laws.proofs.AgreeWords.{some_same, turned_round}
 use Rattle.fsb_owner_laws.proofs.Emptied.{Ender, at_ender, ender, step_by}
 
 begin-agree : (n : ℕ) (w v : Trace) (line b : ℕ) (set : List Joint) → AgreeTo n w v → b + 1 < n
@@ -84,7 +91,8 @@ end-agree n w v line b set k l =
     ∙ sym (at_ender v line b (made_by v b) set)
 
 -- bytes under way: by a request whose snoop end is seen
-gets : (n : ℕ) (w v : Trace) (q : ℕ) → AgreeTo n w v → q + 1 < n → is_some_and (purpose_at w q) gets_line ≡ is_some_and (purpose_at v q) gets_line
+gets : (n : ℕ) (w v : Trace) (q : ℕ) → AgreeTo n w v → q + 1 < n
+    → is_some_and (purpose_at w q) gets_line ≡ is_some_and (purpose_at v q) gets_line
 gets n w v q a l = ap (λ o. is_some_and o gets_line) (purpose_at-agree n w v q a l)
 
 brings-agree : (n : ℕ) (w v : Trace) (j s q : ℕ) → Alike n w v → s < n → snoop_end_of w j ≡ Some s → origin_clock_of w j ≡ Some q
@@ -145,7 +153,8 @@ coming_stays n w v line a c j k m t =
       ) refl,
     )
 
-coming_through : (n : ℕ) (w v : Trace) (line a c : ℕ) → Alike n w v → c ≤ n → is_coming w line a c ≡ true → is_coming v line a c ≡ true
+coming_through : (n : ℕ) (w v : Trace) (line a c : ℕ) → Alike n w v → c ≤ n → is_coming w line a c ≡ true
+    → is_coming v line a c ≡ true
 unfolding is_coming
 coming_through n w v line a c k m t =
     let f = any_where-found (is_coming_by w line a c) (live_count w) t in
@@ -178,7 +187,8 @@ unfolding reply_end_of reply_number_of
 reply_end w i e None h f = absurd (let z = rw h at f in let no : ⊥ = cc in no)
 reply_end w i e (Some p) h f = (p, h, let z = rw h at f in z)
 
-reply_end-from : (w : Trace) (i e p : ℕ) → reply_clock_of w i ≡ Some p → end_of w (live_number_of w p) ≡ Some e → reply_end_of w i ≡ Some e
+reply_end-from : (w : Trace) (i e p : ℕ) → reply_clock_of w i ≡ Some p → end_of w (live_number_of w p) ≡ Some e
+    → reply_end_of w i ≡ Some e
 unfolding reply_end_of reply_number_of
 reply_end-from w i e p h f = rw h f
 
@@ -189,20 +199,23 @@ end_kept n w v i e k l h =
     let s = has_answer w r.0 i (k.left.timely i r.0 r.1) in
     end_of-stays n w v i s.snoop e k.agree (omega (arith, s.before, r.2, l)) s.is_snoop l h
 
-not_deferred_kept : (n : ℕ) (w v : Trace) (i e : ℕ) → Alike n w v → e < n → end_of w i ≡ Some e → is_deferred w i ≡ is_deferred v i
+not_deferred_kept : (n : ℕ) (w v : Trace) (i e : ℕ) → Alike n w v → e < n → end_of w i ≡ Some e
+    → is_deferred w i ≡ is_deferred v i
 not_deferred_kept n w v i e k l h =
     let r = end_of-response w i e h in
     let s = has_answer w r.0 i (k.left.timely i r.0 r.1) in
     is_deferred-stays n w v i s.snoop r.0 k.agree (omega (arith, s.before, r.2, l)) s.is_snoop (omega (arith, r.2, l)) r.1
 
 -- the end of a live request lies behind its first clock
-pub clock_of_end : (w : Trace) (q e : ℕ) → Orderly w → is_live w q ≡ true → q < length w → end_of w (live_number_of w q) ≡ Some e → q + 6 ≤ e
+pub clock_of_end : (w : Trace) (q e : ℕ) → Orderly w → is_live w q ≡ true → q < length w
+    → end_of w (live_number_of w q) ≡ Some e → q + 6 ≤ e
 clock_of_end w q e o t l h =
     let p = end_after_clock w (live_number_of w q) e o h in
     let same : p.0 ≡ q = some_same p.0 q (sym p.1 ∙ live_clock_of-number w q l t) in
     omega (arith, same, p.2)
 
-finished_plain : (n : ℕ) (w v : Trace) (b q e : ℕ) → Alike n w v → b < n → q < b → is_live w q ≡ true → is_deferred w (live_number_of w q) ≡ false
+finished_plain : (n : ℕ) (w v : Trace) (b q e : ℕ) → Alike n w v → b < n → q < b → is_live w q ≡ true
+    → is_deferred w (live_number_of w q) ≡ false
     → end_of w (live_number_of w q) ≡ Some e → e < b
     → (is_live v q ≡ true) × (is_before (last_clock_of v (live_number_of v q)) b ≡ true)
 finished_plain n w v b q e k l m t f h low =
@@ -215,7 +228,8 @@ finished_plain n w v b q e k l m t f h low =
       rw (← number, last_clock_of-plain v (live_number_of w q) plain) (is_before-from (end_of v (live_number_of w q)) e b there low),
     )
 
-finished_deferred : (n : ℕ) (w v : Trace) (b q e : ℕ) → Alike n w v → b < n → q < b → is_live w q ≡ true → is_deferred w (live_number_of w q) ≡ true
+finished_deferred : (n : ℕ) (w v : Trace) (b q e : ℕ) → Alike n w v → b < n → q < b → is_live w q ≡ true
+    → is_deferred w (live_number_of w q) ≡ true
     → reply_end_of w (live_number_of w q) ≡ Some e → e < b
     → (is_live v q ≡ true) × (is_before (last_clock_of v (live_number_of v q)) b ≡ true)
 finished_deferred n w v b q e k l m t f h low =
@@ -252,7 +266,8 @@ finished_by n w v b q k l m t =
       | inr f ↦ finished_plain n w v b q e.0 k l m p.0 f (sym (last_clock_of-plain w i f) ∙ e.1) e.2
     ]
 
-finished_stays : (n : ℕ) (w v : Trace) (b q : ℕ) → Alike n w v → b < n → q < b → is_finished w b q ≡ true → is_finished v b q ≡ true
+finished_stays : (n : ℕ) (w v : Trace) (b q : ℕ) → Alike n w v → b < n → q < b → is_finished w b q ≡ true
+    → is_finished v b q ≡ true
 unfolding is_finished
 finished_stays n w v b q k l m t = let p = finished_by n w v b q k l m t in rw (p.0, p.1) refl
 
@@ -282,7 +297,8 @@ upgrading_at n w v line a b q k l m =
       | inr o ↦ rw (outstanding-agree n w v b q k (omega (arith, l)) (omega (arith, m, o))) refl
     ]))
 
-upgrading-agree : (n : ℕ) (w v : Trace) (line a b : ℕ) → Alike n w v → b + 1 < n → is_upgrading w line a b ≡ is_upgrading v line a b
+upgrading-agree : (n : ℕ) (w v : Trace) (line a b : ℕ) → Alike n w v → b + 1 < n
+    → is_upgrading w line a b ≡ is_upgrading v line a b
 unfolding is_upgrading
 upgrading-agree n w v line a b k l =
     any_where-same (λ q. asks w line a q && is_upgrade (request_at w q) && (nat_eq q b || is_outstanding w b q))
@@ -298,11 +314,13 @@ may_drop-agree n w v line b a k l =
       upgrading-agree n w v line a b k l,
     ) refl
 
-pub stores-same : (f g : ℕ → Bool) (set : List Joint) → ((a : ℕ) → f a ≡ g a) → reached_by (is_after_stores f) set ≡ reached_by (is_after_stores g) set
+pub stores-same : (f g : ℕ → Bool) (set : List Joint) → ((a : ℕ) → f a ≡ g a)
+    → reached_by (is_after_stores f) set ≡ reached_by (is_after_stores g) set
 unfolding is_after_stores reached_by
 stores-same f g set h = rw (h 0, h 1, h 2, h 3) refl
 
-pub drops-same : (f g : ℕ → Bool) (set : List Joint) → ((a : ℕ) → f a ≡ g a) → reached_by (is_after_drops f) set ≡ reached_by (is_after_drops g) set
+pub drops-same : (f g : ℕ → Bool) (set : List Joint) → ((a : ℕ) → f a ≡ g a)
+    → reached_by (is_after_drops f) set ≡ reached_by (is_after_drops g) set
 unfolding is_after_drops reached_by
 drops-same f g set h = rw (h 0, h 1, h 2, h 3) refl
 

@@ -34,7 +34,8 @@ pub same_answers : (a b : Bool) → (a ≡ true → b ≡ true) → (b ≡ true 
 same_answers true b f g = sym (f refl)
 same_answers false b f g = sym (false_from_ne_true b (λ t. both_ways false refl (g t)))
 
-pub same_options : {A : Type 0} (o p : Option A) → ((x : A) → o ≡ Some x → p ≡ Some x) → ((x : A) → p ≡ Some x → o ≡ Some x) → o ≡ p
+pub same_options : {A : Type 0} (o p : Option A) → ((x : A) → o ≡ Some x → p ≡ Some x)
+    → ((x : A) → p ≡ Some x → o ≡ Some x) → o ≡ p
 same_options (Some x) p f g = sym (f x refl)
 same_options None None f g = refl
 same_options None (Some x) f g = g x refl

@@ -1,29 +1,36 @@
 -- Requests of one agent for one line come one after the other, and a pending line is given to nobody, where no rule is broken.
-use Rattle.std.proofs.Common.{ℕ, ◌+◌, ◌-◌, ◌<◌, ◌≤◌, ◌≡◌, Bool, true, false, ◌&&◌, not, nat_eq, nat_lt, length, List, Option, Some, None, ◌⊎◌}
+use Rattle.std.proofs.Common.{ℕ, ◌+◌, ◌-◌, ◌<◌, ◌≤◌, ◌≡◌, Bool, true, false, ◌&&◌, not, nat_eq, nat_lt, length, List}
+use Rattle.std.proofs.Common.{Option, Some, None, ◌⊎◌}
 use Rattle.std.proofs.Common.{refl, sym, ap, ◌∙◌, arith, inl, inr, if◌then◌else◌}
 use Rattle.std.specs.Option.{option_and_then, option_map}
 use Rattle.std.proofs.lemmas.Bool.{and_parts, both_ways, cases_Bool, cases_lt, false_from_ne_true, le-ltb, lt-ltb, not-true}
 use Rattle.fsb_count.specs.Clocks.{any_where, first_where}
 use Rattle.fsb_count.specs.Options.{is_at, is_before, is_some_and}
-use Rattle.fsb_count.proofs.Interface.{any_where-at, any_where-none, first_where-found, is_at-from, is_before-parts, nth_where-found}
+use Rattle.fsb_count.proofs.Interface.{any_where-at, any_where-none, first_where-found, is_at-from, is_before-parts}
+use Rattle.fsb_count.proofs.Interface.{nth_where-found}
 use Rattle.fsb_signal.specs.declared.lines.TheConstants.Lines.{ADS, HITM}
 use Rattle.fsb_signal.specs.Samples.{line_at}
 use Rattle.fsb_encode.specs.declared.request.Request.{Request}
 use Rattle.fsb_line.specs.declared.purpose.Purpose.{Purpose}
 use Rattle.fsb_line.specs.States.{asks_line}
 use Rattle.fsb_trace.specs.At.{Trace, request_at, response_code_at}
-use Rattle.fsb_trace.specs.Requests.{is_cancelled, is_live, is_reply, line_of, live_clock_of, live_count, live_number_of, live_request_of}
+use Rattle.fsb_trace.specs.Requests.{is_cancelled, is_live, is_reply, line_of, live_clock_of, live_count}
+use Rattle.fsb_trace.specs.Requests.{live_number_of, live_request_of}
 use Rattle.fsb_trace.specs.Snoop.{line_at_snoop_end, snoop_end_of}
 use Rattle.fsb_trace.specs.Outcome.{is_deferral, is_deferred, live_response_of, outcome_of, response_code_of, told_by, told_with}
 use Rattle.fsb_trace.specs.declared.outcome.Outcome.TheVariants.{Failed}
 use Rattle.fsb_trace.specs.Response.{end_of}
-use Rattle.fsb_trace.specs.Flight.{is_dropped, is_finished, is_outstanding, last_clock_of, reply_clock_of, reply_end_of, reply_number_of}
-use Rattle.fsb_trace.proofs.Interface.{end_of-response, live_below_count, live_clock_of-number, live_clock_of-rises, snoop_end_of-clock}
+use Rattle.fsb_trace.specs.Flight.{is_dropped, is_finished, is_outstanding, last_clock_of, reply_clock_of, reply_end_of}
+use Rattle.fsb_trace.specs.Flight.{reply_number_of}
+use Rattle.fsb_trace.proofs.Interface.{end_of-response, live_below_count, live_clock_of-number, live_clock_of-rises}
+use Rattle.fsb_trace.proofs.Interface.{snoop_end_of-clock}
 use Rattle.fsb_laws.specs.Orderly.{Orderly}
 use Rattle.fsb_laws.proofs.Interface.{has_answer, last_clock_of-deferred, last_clock_of-plain, live_of_reply}
 use Rattle.fsb_owners.specs.Joint.{Joint}
-use Rattle.fsb_owners.specs.Rules.{at_decoding, is_answered_below, is_asked_twice, is_given_again, is_given_again_to, is_served_or_deferred, of_request}
-use Rattle.fsb_owners.specs.Shown.{agent_at, asks, is_for_line, is_reply_of, is_spoiled, is_still_asking, names, origin_clock_of, origin_of, purpose_at}
+use Rattle.fsb_owners.specs.Rules.{at_decoding, is_answered_below, is_asked_twice, is_given_again, is_given_again_to}
+use Rattle.fsb_owners.specs.Rules.{is_served_or_deferred, of_request}
+use Rattle.fsb_owners.specs.Shown.{agent_at, asks, is_for_line, is_reply_of, is_spoiled, is_still_asking, names}
+use Rattle.fsb_owners.specs.Shown.{origin_clock_of, origin_of, purpose_at}
 use Rattle.fsb_owner_laws.proofs.AgreeEnders.{origin_parts, reply_of_parts, snooped_found, some_number}
 use Rattle.fsb_owner_laws.proofs.AgreePossible.{clock_of_end, reply_end}
 use Rattle.fsb_owner_laws.proofs.AgreeWords.{IsAnsweredAt, itself, put_off, reply_behind, reply_found, some_same}
@@ -90,9 +97,11 @@ reply_lasts v j i p b t o s a n e =
     snoop_before_end v j b t o s (ap (end_of v) (sym (ap (live_number_of v) same ∙ n)) ∙ r.2)
 
 asker_by : (v : Trace) (line b i : ℕ) (e : Ender) (r : Bool) → Orderly v → IsEnder v line b e → snoop_end_of v e.0 ≡ Some b
-    → (q : ℕ) → origin_clock_of v e.0 ≡ Some q → q + 4 ≤ b → names v line q ≡ true → agent_at v q ≡ Some e.1.0 → purpose_at v q ≡ Some e.1.1
+    → (q : ℕ) → origin_clock_of v e.0 ≡ Some q → q + 4 ≤ b → names v line q ≡ true → agent_at v q ≡ Some e.1.0
+    → purpose_at v q ≡ Some e.1.1
     → is_reply (live_request_of v e.0) ≡ r
-    → (if r then first_where (is_reply_of v e.0) (live_count v) else Some e.0) ≡ Some i → origin_of v e.0 ≡ Some i → live_clock_of v i ≡ Some q → IsAsker v line b e
+    → (if r then first_where (is_reply_of v e.0) (live_count v) else Some e.0) ≡ Some i → origin_of v e.0 ≡ Some i
+    → live_clock_of v i ≡ Some q → IsAsker v line b e
 asker_by v line b i e false o p s q og before n a k r h oi live =
     let same : e.0 ≡ i = some_same e.0 i h in
     record {
@@ -163,7 +172,8 @@ unfolding names
 no_reply v line q t =
     not-true (is_reply (request_at v q)) (and_parts (line_at ADS v q && is_at (line_of v q) line) (not (is_reply (request_at v q))) t).1
 
-pub request_no_reply : (v : Trace) (line i q : ℕ) → live_clock_of v i ≡ Some q → names v line q ≡ true → is_reply (live_request_of v i) ≡ false
+pub request_no_reply : (v : Trace) (line i q : ℕ) → live_clock_of v i ≡ Some q → names v line q ≡ true
+    → is_reply (live_request_of v i) ≡ false
 unfolding live_request_of
 request_no_reply v line i q e n = rw e (no_reply v line q n)
 
@@ -176,7 +186,8 @@ unfinished v line b d e a l =
     let late = a.lasts p.0 (ap (last_clock_of v) (sym (number_is v a.number a.clock a.begins)) ∙ p.1) in
     omega (arith, late, p.2, l))
 
-still_there : (v : Trace) (line b d : ℕ) (e : Ender) (a : IsAsker v line b e) → a.clock < d → d ≤ b → is_outstanding v d a.clock ≡ true
+still_there : (v : Trace) (line b d : ℕ) (e : Ender) (a : IsAsker v line b e) → a.clock < d → d ≤ b
+    → is_outstanding v d a.clock ≡ true
 unfolding is_outstanding is_dropped
 still_there v line b d e a l m =
     rw (
@@ -196,7 +207,8 @@ asks_still v line b e a agent d same l m =
 
 -- an earlier request of the agent is not outstanding where it asks again
 pub not_twice : (first : List Joint) (v : Trace) (line b p : ℕ) (e f : Ender) (a : IsAsker v line b e) (k : IsAsker v line p f)
-    → is_spoiled v line ≡ false → e.1.0 ≡ f.1.0 → a.clock < k.clock → k.clock ≤ b → is_asked_twice first v (k.clock + 1) ≡ false → ⊥
+    → is_spoiled v line ≡ false → e.1.0 ≡ f.1.0 → a.clock < k.clock → k.clock ≤ b
+    → is_asked_twice first v (k.clock + 1) ≡ false → ⊥
 unfolding is_asked_twice
 not_twice first v line b p e f a k s same l m unbroken =
     let back : k.clock + 1 - 1 ≡ k.clock = omega arith in
@@ -207,7 +219,8 @@ not_twice first v line b p e f a k s same l m unbroken =
     (ap (λ q. is_still_asking v line f.1.0 q) back ∙ asked))
 
 -- a request that is Deferred has no HITM#
-told_quiet : (handed : Bool) (request : Option Request) (code : ℕ) → is_deferral (told_with handed request code) ≡ true → handed ≡ false
+told_quiet : (handed : Bool) (request : Option Request) (code : ℕ)
+    → is_deferral (told_with handed request code) ≡ true → handed ≡ false
 unfolding is_deferral
 told_quiet false request code e = refl
 told_quiet true request code e =
@@ -235,7 +248,8 @@ not_answered v i p b s e f l = rw (e, f) (le-ltb b s l)
 last_off : (a b c d : Bool) → a ≡ true → b ≡ true → c ≡ true → (a && b && c && d) ≡ false → d ≡ false
 last_off a b c d e f g h = let k = rw (e, f, g) at h in k
 
-in_order : (v : Trace) (i j s t : ℕ) → snoop_end_of v i ≡ Some s → snoop_end_of v j ≡ Some t → s < t → is_answered_below v i t ≡ false
+in_order : (v : Trace) (i j s t : ℕ) → snoop_end_of v i ≡ Some s → snoop_end_of v j ≡ Some t → s < t
+    → is_answered_below v i t ≡ false
     → is_some_and (snoop_end_of v i) (λ t. is_some_and (snoop_end_of v j) (λ s. nat_lt t s && not (is_answered_below v i s))) ≡ true
 unfolding is_some_and
 in_order v i j s t e f l n = rw (e, f, lt-ltb s t l, n) refl
@@ -247,7 +261,8 @@ unfolding is_some_and
 same_line v line i j p q a e n s g f m =
     rw (e, f) (of_request-at v line p a (λ line a. names v line q) n s g ∙ m)
 
-asked_kind : (v : Trace) (j q : ℕ) (kind : Purpose) → live_clock_of v j ≡ Some q → purpose_at v q ≡ Some kind → asks_line kind ≡ true
+asked_kind : (v : Trace) (j q : ℕ) (kind : Purpose) → live_clock_of v j ≡ Some q → purpose_at v q ≡ Some kind
+    → asks_line kind ≡ true
     → is_some_and (option_and_then (purpose_at v) (live_clock_of v j)) asks_line ≡ true
 unfolding is_some_and
 asked_kind v j q kind e k t = rw (e, k) t

@@ -14,7 +14,8 @@ use Rattle.fsb_line.specs.declared.purpose.Settled.TheVariants.{Deferred, Grante
 use Rattle.fsb_line.specs.declared.state.Mesi.{Mesi}
 use Rattle.fsb_line.specs.declared.state.Mesi.TheVariants.{Exclusive, Invalid, Modified, Shared}
 use Rattle.fsb_line.specs.States.{after_other, after_snoop, asks_line, is_held, is_modified, is_sole, state_after}
-use Rattle.fsb_owners.specs.Joint.{Joint, agents, alone, has_other_holder, has_other_owner, is_after_drops, is_after_snoop_end, is_after_stores}
+use Rattle.fsb_owners.specs.Joint.{Joint, agents, alone, has_other_holder, has_other_owner, is_after_drops}
+use Rattle.fsb_owners.specs.Joint.{is_after_snoop_end, is_after_stores}
 use Rattle.fsb_owners.specs.Joint.{is_kept_or_dropped, is_same_state, state_at}
 use Rattle.fsb_owners.specs.Possible.{fits_answer, may_ask}
 use Rattle.fsb_owner_laws.specs.Losses.{fits_reply, has_other_sole}
@@ -47,7 +48,8 @@ without true false true e = absurd (cc)
 without false true true e = absurd (cc)
 without false false true e = absurd (cc)
 
-silent : (owner held : Bool) → (if owner then false && not false else (if held then false && not false else not false && not false)) ≡ true
+silent : (owner held : Bool)
+    → (if owner then false && not false else (if held then false && not false else not false && not false)) ≡ true
     → held ≡ false
 silent owner false e = refl
 silent true true e = absurd (cc)
@@ -129,7 +131,8 @@ kept_out s kind Deferred e = snooped_out s kind e
 kept_out s kind Written e = snooped_out s kind e
 kept_out s kind Replied e = e
 
-snoop_suits : (hit : Bool) (k : Purpose) (s : Mesi) (kind : Purpose) → suits_wait hit k s ≡ true → suits_wait hit k (after_snoop s kind) ≡ true
+snoop_suits : (hit : Bool) (k : Purpose) (s : Mesi) (kind : Purpose) → suits_wait hit k s ≡ true
+    → suits_wait hit k (after_snoop s kind) ≡ true
 snoop_suits hit k s WriteBack e = e
 snoop_suits hit k s Own e = suits_none hit k
 snoop_suits hit k s Upgrade e = suits_none hit k
@@ -164,7 +167,8 @@ drop_out false Shared Modified e f = absurd (cc)
 drop_out may Exclusive Modified e f = absurd (cc)
 drop_out may Modified Modified e f = absurd (cc)
 
-drop_kept : (may : Bool) (s t : Mesi) → is_kept_or_dropped may s t ≡ true → (is_same_state s t ≡ true) ⊎ (is_same_state Invalid t ≡ true)
+drop_kept : (may : Bool) (s t : Mesi) → is_kept_or_dropped may s t ≡ true
+    → (is_same_state s t ≡ true) ⊎ (is_same_state Invalid t ≡ true)
 unfolding is_kept_or_dropped
 drop_kept may s t e =
     elim (cases_Bool (is_same_state s t)) [
@@ -172,7 +176,8 @@ drop_kept may s t e =
       | inr other ↦ inr (and_parts (may && not (is_modified s)) (is_same_state Invalid t) (let h = rw other at e in h)).1
     ]
 
-pub out_after_drops : (a : ℕ) → a < 4 → (may : ℕ → Bool) (x y : Joint) → IsKeptOut a x → is_after_drops may x y ≡ true → IsKeptOut a y
+pub out_after_drops : (a : ℕ) → a < 4 → (may : ℕ → Bool) (x y : Joint) → IsKeptOut a x
+    → is_after_drops may x y ≡ true → IsKeptOut a y
 out_after_drops a l may x y h e =
     drop_out (may a) (state_at x a) (state_at y a) (each_where-at (kept may x y) 4 (drop_each may x y e) a l) h
 
@@ -221,14 +226,16 @@ stored_out ready x y a b l h k =
       | inr f ↦ ap (λ j. is_sole (state_at j a)) k.to ∙ ap (λ s. is_sole s) (invalid_elsewhere a b l k.agent f)
     ]
 
-pub out_after_stores : (a : ℕ) → a < 4 → (ready : ℕ → Bool) (x y : Joint) → IsKeptOut a x → is_after_stores ready x y ≡ true → IsKeptOut a y
+pub out_after_stores : (a : ℕ) → a < 4 → (ready : ℕ → Bool) (x y : Joint) → IsKeptOut a x
+    → is_after_stores ready x y ≡ true → IsKeptOut a y
 out_after_stores a l ready x y h e =
     elim (store_parts ready x y e) [
       | inl same ↦ rw same at h
       | inr k ↦ stored_out ready x y a k.0 l h k.1
     ]
 
-no_store : (hit : Bool) (kind : Purpose) (ready : ℕ → Bool) (x y : Joint) (a b : ℕ) → IsAwaited hit a kind x → IsStore ready x y b → ⊥
+no_store : (hit : Bool) (kind : Purpose) (ready : ℕ → Bool) (x y : Joint) (a b : ℕ) → IsAwaited hit a kind x
+    → IsStore ready x y b → ⊥
 no_store hit kind ready x y a b h k =
     let there : is_sole (state_at x b) ≡ true =
     ap (λ j. is_sole (state_at j b)) k.from ∙ ap (λ s. is_sole s) (exclusive_there b k.agent) in
@@ -281,7 +288,8 @@ awaited_after_written asker shared hit a k l n x y h e = record {
 }
 
 -- no agent has the line Modified meanwhile
-unmodified : (hit : Bool) (a : ℕ) (k : Purpose) (x : Joint) → IsAwaited hit a k x → (b : ℕ) → b < 4 → is_modified (state_at x b) ≡ false
+unmodified : (hit : Bool) (a : ℕ) (k : Purpose) (x : Joint) → IsAwaited hit a k x → (b : ℕ) → b < 4
+    → is_modified (state_at x b) ≡ false
 unmodified hit a k x h b l =
     elim (cases_Bool (nat_eq b a)) [
       | inl t ↦ ap (λ n. is_modified (state_at x n)) (eqb-true b a t) ∙ not_modified (state_at x a) h.own
@@ -336,7 +344,8 @@ without_hit : (asker : ℕ) (x : Joint) → fits_answer false false asker x ≡ 
 unfolding fits_answer
 without_hit asker x e = silent (has_other_owner asker x) (has_other_holder asker x) e
 
-begins_wait : (hit : Bool) (asker : ℕ) (kind : Purpose) (x : Joint) (b : ℕ) → asks_line kind ≡ true → fits_end hit false asker kind x ≡ true
+begins_wait : (hit : Bool) (asker : ℕ) (kind : Purpose) (x : Joint) (b : ℕ) → asks_line kind ≡ true
+    → fits_end hit false asker kind x ≡ true
     → b < 4 → nat_eq b asker ≡ false → suits_wait hit kind (after_snoop (state_at x b) kind) ≡ true
 unfolding fits_end
 begins_wait true asker Read x b t e l n = ap not (read_kept_out (state_at x b))
@@ -357,12 +366,14 @@ awaited_from hit asker kind l t x y h f e = record {
 }
 
 -- the reply then fits
-no_sole : (asker : ℕ) (x : Joint) → ((b : ℕ) → b < 4 → nat_eq b asker ≡ false → is_sole (state_at x b) ≡ false) → has_other_sole asker x ≡ false
+no_sole : (asker : ℕ) (x : Joint) → ((b : ℕ) → b < 4 → nat_eq b asker ≡ false → is_sole (state_at x b) ≡ false)
+    → has_other_sole asker x ≡ false
 unfolding has_other_sole
 no_sole asker x h = list_any_none (λ a. not (nat_eq a asker) && is_sole (state_at x a)) agents
     (λ k d l. off_at (λ a. is_sole (state_at x a)) asker (slice_index_or agents k d) (h (slice_index_or agents k d) (below_agents k d l)))
 
-no_held : (asker : ℕ) (x : Joint) → ((b : ℕ) → b < 4 → nat_eq b asker ≡ false → is_held (state_at x b) ≡ false) → has_other_holder asker x ≡ false
+no_held : (asker : ℕ) (x : Joint) → ((b : ℕ) → b < 4 → nat_eq b asker ≡ false → is_held (state_at x b) ≡ false)
+    → has_other_holder asker x ≡ false
 unfolding has_other_holder
 no_held asker x h = list_any_none (λ a. not (nat_eq a asker) && is_held (state_at x a)) agents
     (λ k d l. off_at (λ a. is_held (state_at x a)) asker (slice_index_or agents k d) (h (slice_index_or agents k d) (below_agents k d l)))

@@ -18,8 +18,10 @@ use Rattle.fsb_owners.specs.Rules.{at_answer, at_decoding, is_answer_unfit, is_a
 use Rattle.fsb_owners.specs.Rules.{is_holder_silent, is_none_left, is_of_write_back, is_owned_elsewhere, is_owner_lacking}
 use Rattle.fsb_owners.specs.Rules.{is_owner_silent, is_upgrade_unfit, is_write_back_purpose, is_write_back_unfit}
 use Rattle.fsb_owners.specs.Rules.{is_written_when_lost, of_answer, of_request}
-use Rattle.fsb_owners.specs.Shown.{agent_at, is_for_line, is_held_back, is_spoiled, names, origin_clock_of, purpose_at, snooped_at}
-use Rattle.fsb_owner_laws.proofs.Emptied.{Ender, at_ender, ender, step_by, with_agent, with_clock, with_kind, with_line, with_number}
+use Rattle.fsb_owners.specs.Shown.{agent_at, is_for_line, is_held_back, is_spoiled, names, origin_clock_of, purpose_at}
+use Rattle.fsb_owners.specs.Shown.{snooped_at}
+use Rattle.fsb_owner_laws.proofs.Emptied.{Ender, at_ender, ender, step_by, with_agent, with_clock, with_kind, with_line}
+use Rattle.fsb_owner_laws.proofs.Emptied.{with_number}
 
 either_first : (a b : Bool) → a ≡ true → (a || b) ≡ true
 either_first a b e = rw e refl
@@ -66,7 +68,8 @@ begun_parts set true (Some a) None n e = absurd (both_ways (is_none_left set) n 
 begun_parts set true (Some a) (Some kind) n e =
     record { names_line = refl; agent = a; has_agent = refl; kind = kind; has_kind = refl }
 
-pub decoded : (v : Trace) (line d a : ℕ) (test : ℕ → ℕ → ℕ → Bool) → 0 < d → names v line (d - 1) ≡ true → is_spoiled v line ≡ false
+pub decoded : (v : Trace) (line d a : ℕ) (test : ℕ → ℕ → ℕ → Bool) → 0 < d → names v line (d - 1) ≡ true
+    → is_spoiled v line ≡ false
     → agent_at v (d - 1) ≡ Some a → test (d - 1) line a ≡ true → at_decoding v d test ≡ true
 unfolding at_decoding line_back
 decoded v line d a test l n s g t =

@@ -12,10 +12,13 @@ use Rattle.fsb_trace.specs.declared.who.Who.{Who}
 use Rattle.fsb_trace.specs.declared.who.Who.TheVariants.{Priority, Symmetric}
 use Rattle.fsb_tied.proofs.Interface.{winner-four}
 use Rattle.fsb_owners.specs.Joint.{Joint, is_after_drops, is_after_snoop_end, is_after_stores, reached_by, state_at}
-use Rattle.fsb_owners.specs.Possible.{after_answer, after_begin, after_clock, after_snoop_end, after_unseen, asking, at_snoop_end, by_request}
-use Rattle.fsb_owners.specs.Possible.{left_by, made_by, may_ask, possible, possible_begun, possible_shown, replied_to, settled_at_end, showing}
+use Rattle.fsb_owners.specs.Possible.{after_answer, after_begin, after_clock, after_snoop_end, after_unseen, asking}
+use Rattle.fsb_owners.specs.Possible.{at_snoop_end, by_request}
+use Rattle.fsb_owners.specs.Possible.{left_by, made_by, may_ask, possible, possible_begun, possible_shown, replied_to}
+use Rattle.fsb_owners.specs.Possible.{settled_at_end, showing}
 use Rattle.fsb_owners.specs.Rules.{is_none_left}
-use Rattle.fsb_owners.specs.Shown.{agent_at, is_coming, is_for_line, is_turned, may_drop_at, names, origin_clock_of, purpose_at, snooped_at}
+use Rattle.fsb_owners.specs.Shown.{agent_at, is_coming, is_for_line, is_turned, may_drop_at, names, origin_clock_of}
+use Rattle.fsb_owners.specs.Shown.{purpose_at, snooped_at}
 use Rattle.fsb_owner_laws.specs.Losses.{AreCoherent, possible_turned, turned_by}
 use Rattle.fsb_owner_laws.proofs.Losses.{coherent_filter, coherent_reached}
 use Rattle.fsb_owner_laws.proofs.StepLosses.{fits_end, reply_keeps, request_keeps, showing_fits, unseen_keeps}
@@ -210,7 +213,8 @@ turned_or_lost v c j a kind set true l h e = rw e (reply_keeps (line_at HIT v c)
 turned_or_lost v c j a kind set false l h e =
     rw e (request_keeps (line_at HIT v c) (line_at HITM v c) (is_turned v j) a kind set l h)
 
-lost_by_step : (v : Trace) (c : ℕ) (o : Option Ender) (set : List Joint) → ((e : Ender) → o ≡ Some e → e.1.0 < 4) → AreCoherent set
+lost_by_step : (v : Trace) (c : ℕ) (o : Option Ender) (set : List Joint) → ((e : Ender) → o ≡ Some e → e.1.0 < 4)
+    → AreCoherent set
     → is_none_left (step_by (made_by v c) o (step_by (left_by v c) o set))
     ≡ is_none_left (step_by (turned_by v c) o (step_by (left_by v c) o set))
 lost_by_step v c None set l a = refl

@@ -9,7 +9,8 @@ use Rattle.fsb_line.specs.declared.purpose.Settled.{Settled}
 use Rattle.fsb_line.specs.declared.state.Mesi.{Mesi}
 use Rattle.fsb_line.specs.States.{state_after}
 use Rattle.fsb_trace.specs.At.{Trace}
-use Rattle.fsb_owners.specs.Joint.{Joint, agents, every_joint, is_after_drops, is_after_snoop_end, is_after_stores, reached_by, state_at}
+use Rattle.fsb_owners.specs.Joint.{Joint, agents, every_joint, is_after_drops, is_after_snoop_end, is_after_stores}
+use Rattle.fsb_owners.specs.Joint.{reached_by, state_at}
 use Rattle.fsb_owners.specs.Possible.{after_begin, after_unseen, asking, may_ask}
 use Rattle.fsb_owners.specs.Shown.{agent_at, is_coming, may_drop_at, names, purpose_at}
 use Rattle.fsb_owner_laws.proofs.Quiet.{any_found, same_joints}

@@ -46,7 +46,8 @@ broken_there : (p : ℕ → ℕ → Bool) (m c : ℕ) → is_some_broken p m c �
 unfolding is_some_broken
 broken_there p m c t = t
 
-least_by : (p q : ℕ → ℕ → Bool) (m n : ℕ) (o : Option ℕ) → ((d i : ℕ) → d < n → p d i ≡ q d i) → first_where (is_some_broken p m) n ≡ o
+least_by : (p q : ℕ → ℕ → Bool) (m n : ℕ) (o : Option ℕ) → ((d i : ℕ) → d < n → p d i ≡ q d i)
+    → first_where (is_some_broken p m) n ≡ o
     → rule_of q m (elim o [ Some c ↦ Some c | None ↦ if is_some_broken q m n then Some n else None ]) ≡ or_at q m n (rule_of p m o)
 least_by p q m n None h e = at_last q m n (is_some_broken q m n) refl
 least_by p q m n (Some c) h e =

@@ -15,7 +15,8 @@ use Rattle.fsb_line.specs.declared.state.Mesi.TheVariants.{Exclusive, Invalid, M
 use Rattle.fsb_trace.specs.At.{Trace}
 use Rattle.fsb_owners.specs.Joint.{Joint, alone, every_joint, is_after_drops, is_after_stores, is_kept_or_dropped}
 use Rattle.fsb_owners.specs.Joint.{is_same_joint, is_same_state, reached_by, sharing, state_at, unheld}
-use Rattle.fsb_owners.specs.Possible.{after_answer, after_begin, after_clock, after_snoop_end, after_unseen, at_snoop_end, by_request, left_by, made_by}
+use Rattle.fsb_owners.specs.Possible.{after_answer, after_begin, after_clock, after_snoop_end, after_unseen}
+use Rattle.fsb_owners.specs.Possible.{at_snoop_end, by_request, left_by, made_by}
 use Rattle.fsb_owners.specs.Shown.{is_coming, is_for_line, may_drop_at, names, snooped_at}
 use Rattle.fsb_owner_laws.proofs.AgreePossible.{drops-same, stores-same}
 use Rattle.fsb_owner_laws.proofs.AgreeWords.{same_answers}

@@ -1,5 +1,6 @@
 -- The others leave a line to the request that waits for its reply, where no rule of ownership is broken.
-use Rattle.std.proofs.Common.{ℕ, zero, suc, ◌+◌, ◌<◌, ◌≤◌, ◌≡◌, Bool, true, false, ◌&&◌, ◌||◌, not, nat_eq, length, List, [], ◌∷◌, Option, Some, None, ◌⊎◌}
+use Rattle.std.proofs.Common.{ℕ, zero, suc, ◌+◌, ◌<◌, ◌≤◌, ◌≡◌, Bool, true, false, ◌&&◌, ◌||◌, not, nat_eq, length}
+use Rattle.std.proofs.Common.{List, [], ◌∷◌, Option, Some, None, ◌⊎◌}
 use Rattle.std.proofs.Common.{refl, sym, ap, subst, ◌∙◌, arith, inl, inr, if◌then◌else◌}
 use Rattle.std.specs.List.{filter}
 use Rattle.std.proofs.lemmas.Bool.{both_ways, cases_eq, cases_lt, eqb-true, false_from_ne_true}
@@ -18,7 +19,8 @@ use Rattle.fsb_trace.specs.Flight.{reply_clock_of}
 use Rattle.fsb_trace.proofs.Interface.{live_clock_of-number, snoop_end_of-clock, snoop_end_of-rises}
 use Rattle.fsb_laws.proofs.Interface.{live_of_reply}
 use Rattle.fsb_owners.specs.Joint.{Joint, is_after_snoop_end, state_at}
-use Rattle.fsb_owners.specs.Possible.{after_answer, after_begin, after_clock, after_snoop_end, after_unseen, asking, left_by, made_by, may_ask}
+use Rattle.fsb_owners.specs.Possible.{after_answer, after_begin, after_clock, after_snoop_end, after_unseen, asking}
+use Rattle.fsb_owners.specs.Possible.{left_by, made_by, may_ask}
 use Rattle.fsb_owners.specs.Possible.{possible, possible_begun, possible_shown, replied_to, settled_at_end}
 use Rattle.fsb_owners.specs.Rules.{has_other_hit, is_hit_of_reply_wrong, is_none_left, is_served_or_deferred, of_request}
 use Rattle.fsb_owners.specs.Shown.{agent_at, is_spoiled, is_turned, names, origin_clock_of, origin_of}
@@ -26,9 +28,12 @@ use Rattle.fsb_owner_laws.specs.Losses.{AreCoherent, fits_reply, possible_turned
 use Rattle.fsb_owner_laws.specs.Unbroken.{IsUnbroken}
 use Rattle.fsb_owner_laws.proofs.AgreeEnders.{ender_from, for_line-from, snooped_from}
 use Rattle.fsb_owner_laws.proofs.AgreeWords.{IsPutOff, put_off, reply_behind, reply_found, some_same}
-use Rattle.fsb_owner_laws.proofs.AskedOnce.{IsAsker, IsPlain, IsReplied, asker, deferred_quiet, not_answered, not_given, not_twice, number_is, request_no_reply}
-use Rattle.fsb_owner_laws.proofs.Awaited.{IsAwaited, IsKeptOut, asks_out, awaited_after_drops, awaited_after_stores, awaited_after_turn}
-use Rattle.fsb_owner_laws.proofs.Awaited.{awaited_after_written, awaited_from, out_after_drops, out_after_end, out_after_stores, reply_fits, waits_fit}
+use Rattle.fsb_owner_laws.proofs.AskedOnce.{IsAsker, IsPlain, IsReplied, asker, deferred_quiet, not_answered, not_given}
+use Rattle.fsb_owner_laws.proofs.AskedOnce.{not_twice, number_is, request_no_reply}
+use Rattle.fsb_owner_laws.proofs.Awaited.{IsAwaited, IsKeptOut, asks_out, awaited_after_drops, awaited_after_stores}
+use Rattle.fsb_owner_laws.proofs.Awaited.{awaited_after_turn}
+use Rattle.fsb_owner_laws.proofs.Awaited.{awaited_after_written, awaited_from, out_after_drops, out_after_end}
+use Rattle.fsb_owner_laws.proofs.Awaited.{out_after_stores, reply_fits, waits_fit}
 use Rattle.fsb_owner_laws.proofs.BrokenRules.{ender_parts, of_request-at, shown_by}
 use Rattle.fsb_owner_laws.proofs.Emptied.{Ender, at_ender, ender, ender_four, next, step_by}
 use Rattle.fsb_owner_laws.proofs.Members.{Has, has_begin, has_filter, has_reached, has_unseen}
@@ -44,7 +49,8 @@ pub record IsAnswer (v : Trace) (line c : ℕ) (e : Ender) : Type 0 where
   pub four : e.1.0 < 4
 
 -- a reply's number and its first clock
-reply_clock : (v : Trace) (j p r : ℕ) → live_clock_of v j ≡ Some p → live_number_of v r ≡ j → (is_live v r ≡ true) × (r < length v) → p ≡ r
+reply_clock : (v : Trace) (j p r : ℕ) → live_clock_of v j ≡ Some p → live_number_of v r ≡ j
+    → (is_live v r ≡ true) × (r < length v) → p ≡ r
 reply_clock v j p r e n live =
     some_same p r (sym e ∙ ap (live_clock_of v) (sym n) ∙ live_clock_of-number v r live.1 live.0)
 
@@ -69,7 +75,8 @@ same_by true false e = absurd (cc)
 same_by false b e = e
 
 -- the request begins four clocks before its own snoop end, and that lies before the reply
-begun_before : (v : Trace) (line c : ℕ) (e : Ender) (a : IsAnswer v line c e) → (a.asker.clock + 4 ≤ a.put.snoop) × (a.put.snoop + 4 ≤ c)
+begun_before : (v : Trace) (line c : ℕ) (e : Ender) (a : IsAnswer v line c e)
+    → (a.asker.clock + 4 ≤ a.put.snoop) × (a.put.snoop + 4 ≤ c)
 begun_before v line c e a =
     let h = snoop_end_of-clock v a.asker.number a.put.snoop a.put.is_snoop in
     let same : h.clock ≡ a.asker.clock = some_same h.clock a.asker.clock (sym h.is_clock ∙ a.asker.begins) in
@@ -91,7 +98,8 @@ same_snoop v i j s e f =
       ]
     ]
 
-replied_same : (v : Trace) (line c b : ℕ) (e f : Ender) (a : IsAnswer v line c e) (k : IsAsker v line b f) → k.number ≡ a.asker.number
+replied_same : (v : Trace) (line c b : ℕ) (e f : Ender) (a : IsAnswer v line c e) (k : IsAsker v line b f)
+    → k.number ≡ a.asker.number
     → IsReplied v f.0 k.number → b ≡ c
 replied_same v line c b e f a k n r =
     let p : r.clock ≡ a.way.clock =
@@ -99,12 +107,14 @@ replied_same v line c b e f a k n r =
     let j : f.0 ≡ e.0 = sym r.number ∙ ap (live_number_of v) p ∙ a.way.number in
     some_same b c (sym k.snoop ∙ ap (snoop_end_of v) j ∙ a.asker.snoop)
 
-plain_same : (v : Trace) (line c b : ℕ) (e f : Ender) (a : IsAnswer v line c e) (k : IsAsker v line b f) → k.number ≡ a.asker.number
+plain_same : (v : Trace) (line c b : ℕ) (e f : Ender) (a : IsAnswer v line c e) (k : IsAsker v line b f)
+    → k.number ≡ a.asker.number
     → IsPlain v f.0 k.number → b ≡ a.put.snoop
 plain_same v line c b e f a k n p =
     some_same b a.put.snoop (sym k.snoop ∙ ap (snoop_end_of v) (p.same ∙ n) ∙ a.put.is_snoop)
 
-same_request : (v : Trace) (line c b : ℕ) (e f : Ender) (a : IsAnswer v line c e) (k : IsAsker v line b f) → k.number ≡ a.asker.number
+same_request : (v : Trace) (line c b : ℕ) (e f : Ender) (a : IsAnswer v line c e) (k : IsAsker v line b f)
+    → k.number ≡ a.asker.number
     → (b ≡ c) ⊎ (b ≡ a.put.snoop)
 same_request v line c b e f a k n =
     elim k.way [
@@ -112,7 +122,8 @@ same_request v line c b e f a k n =
       | inr r ↦ inl (replied_same v line c b e f a k n r)
     ]
 
-other_agent : (first : List Joint) (v : Trace) (line c b : ℕ) (e f : Ender) → IsUnbroken first v line c → (a : IsAnswer v line c e)
+other_agent : (first : List Joint) (v : Trace) (line c b : ℕ) (e f : Ender) → IsUnbroken first v line c
+    → (a : IsAnswer v line c e)
     → IsAsker v line b f → a.asker.clock ≤ b → b < c → (b ≡ a.put.snoop → ⊥) → nat_eq e.1.0 f.1.0 ≡ false
 other_agent first v line c b e f u a k l m n =
     false_from_ne_true (nat_eq e.1.0 f.1.0) (λ t.
@@ -130,7 +141,8 @@ other_agent first v line c b e f u a k l m n =
     ])
 
 -- what a snoop end makes of a set
-made_has : (P R : Joint → Type 0) (v : Trace) (b j a : ℕ) (kind : Purpose) (set : List Joint) (r : Bool) → is_reply (live_request_of v j) ≡ r
+made_has : (P R : Joint → Type 0) (v : Trace) (b j a : ℕ) (kind : Purpose) (set : List Joint) (r : Bool)
+    → is_reply (live_request_of v j) ≡ r
     → (is_reply (live_request_of v j) ≡ true → (x y : Joint) → P x → is_after_snoop_end a kind Replied (line_at HIT v b) x y ≡ true → R y)
     → (is_reply (live_request_of v j) ≡ false → (x y : Joint) → P x → fits_end (line_at HIT v b) (line_at HITM v b) a kind x ≡ true
     → is_after_snoop_end a kind (settled_at_end (line_at HITM v b) (is_turned v j) kind) (line_at HIT v b) x y ≡ true → R y)
@@ -184,7 +196,8 @@ asking_out v line c e a set =
     (has_filter (λ x. Unit) (λ joint. may_ask e.1.1 (state_at joint e.1.0)) set (λ x n. tt) x m).1)
 
 begin_out : (first : List Joint) (v : Trace) (line c b : ℕ) (e : Ender) (a : IsAnswer v line c e) → a.asker.clock ≤ b
-    → (a.asker.clock < b → Has (IsKeptOut e.1.0) (possible first v line b)) → Has (IsKeptOut e.1.0) (after_begin v line b (possible first v line b))
+    → (a.asker.clock < b → Has (IsKeptOut e.1.0) (possible first v line b))
+    → Has (IsKeptOut e.1.0) (after_begin v line b (possible first v line b))
 begin_out first v line c b e a l h =
     elim (cases_eq a.asker.clock b) [
       | inl q ↦ subst (λ n. Has (IsKeptOut e.1.0) (after_begin v line n (possible first v line n))) q
@@ -192,7 +205,8 @@ begin_out first v line c b e a l h =
       | inr n ↦ has_begin (IsKeptOut e.1.0) v line b (possible first v line b) (h (omega (arith, l, n)))
     ]
 
-out_until : (first : List Joint) (v : Trace) (line c : ℕ) (e : Ender) → IsUnbroken first v line c → (a : IsAnswer v line c e) (b : ℕ)
+out_until : (first : List Joint) (v : Trace) (line c : ℕ) (e : Ender) → IsUnbroken first v line c
+    → (a : IsAnswer v line c e) (b : ℕ)
     → a.asker.clock < b → b ≤ a.put.snoop → Has (IsKeptOut e.1.0) (possible first v line b)
 unfolding possible after_clock
 out_until first v line c e u a zero l m = absurd (omega (arith, l))
@@ -230,7 +244,8 @@ sent_back Own e = refl
 sent_back Upgrade e = refl
 sent_back WriteBack e = absurd (cc)
 
-begins_waiting : (first : List Joint) (v : Trace) (line c : ℕ) (e f : Ender) → IsUnbroken first v line c → (a : IsAnswer v line c e)
+begins_waiting : (first : List Joint) (v : Trace) (line c : ℕ) (e f : Ender) → IsUnbroken first v line c
+    → (a : IsAnswer v line c e)
     → f ≡ (a.asker.number, e.1) → (set : List Joint) → Has (IsKeptOut e.1.0) set
     → Has (IsAwaited (line_at HIT v a.put.snoop) e.1.0 e.1.1)
     (made_by v a.put.snoop f.0 f.1.0 f.1.1 (left_by v a.put.snoop f.0 f.1.0 f.1.1 set))
@@ -252,8 +267,10 @@ begins_waiting first v line c e f u a same set h =
     h)
 
 -- while it waits: another's request
-turned_away : (first : List Joint) (v : Trace) (line c b : ℕ) (e f : Ender) → IsUnbroken first v line c → (a : IsAnswer v line c e)
-    → (k : IsAsker v line b f) → IsPlain v f.0 k.number → a.put.snoop < b → b < c → asks_line f.1.1 ≡ true → line_at HITM v b ≡ false
+turned_away : (first : List Joint) (v : Trace) (line c b : ℕ) (e f : Ender) → IsUnbroken first v line c
+    → (a : IsAnswer v line c e)
+    → (k : IsAsker v line b f) → IsPlain v f.0 k.number → a.put.snoop < b → b < c → asks_line f.1.1 ≡ true
+    → line_at HITM v b ≡ false
     → is_turned v f.0 ≡ true
 unfolding is_served_or_deferred
 turned_away first v line c b e f u a k p l m ask hitm =
@@ -268,7 +285,8 @@ turned_away first v line c b e f u a k p l m ask hitm =
     ap (is_turned v) p.same ∙ turns_by v k.number defer quiet
 
 -- another's reply is to a write-back
-reply_is_written : (first : List Joint) (v : Trace) (line c b : ℕ) (e f : Ender) → IsUnbroken first v line c → (a : IsAnswer v line c e)
+reply_is_written : (first : List Joint) (v : Trace) (line c b : ℕ) (e f : Ender) → IsUnbroken first v line c
+    → (a : IsAnswer v line c e)
     → (k : IsAsker v line b f) → IsReplied v f.0 k.number → a.put.snoop < b → b < c → asks_line f.1.1 ≡ true → ⊥
 unfolding is_served_or_deferred
 reply_is_written first v line c b e f u a k r l m ask =
@@ -299,9 +317,11 @@ reply_is_written first v line c b e f u a k r l m ask =
       ]
     ]
 
-waiting_reply : (first : List Joint) (v : Trace) (line c b : ℕ) (e f : Ender) (kind : Purpose) → IsUnbroken first v line c → (a : IsAnswer v line c e)
+waiting_reply : (first : List Joint) (v : Trace) (line c b : ℕ) (e f : Ender) (kind : Purpose)
+    → IsUnbroken first v line c → (a : IsAnswer v line c e)
     → (k : IsAsker v line b f) → IsReplied v f.0 k.number → a.put.snoop < b → b < c → f.1.1 ≡ kind → nat_eq e.1.0 f.1.0 ≡ false
-    → (hit : Bool) (x y : Joint) → IsAwaited hit e.1.0 e.1.1 x → is_after_snoop_end f.1.0 kind Replied (line_at HIT v b) x y ≡ true
+    → (hit : Bool) (x y : Joint) → IsAwaited hit e.1.0 e.1.1 x
+    → is_after_snoop_end f.1.0 kind Replied (line_at HIT v b) x y ≡ true
     → IsAwaited hit e.1.0 e.1.1 y
 waiting_reply first v line c b e f WriteBack u a k r l m same n hit x y p t =
     awaited_after_written f.1.0 (line_at HIT v b) hit e.1.0 e.1.1 a.four n x y p t
@@ -320,7 +340,8 @@ replied_of : (v : Trace) (j i : ℕ) → IsPlain v j i ⊎ IsReplied v j i → i
 replied_of v j i (inl p) e = absurd (both_ways (is_reply (live_request_of v j)) p.request e)
 replied_of v j i (inr r) e = r
 
-waiting_end : (first : List Joint) (v : Trace) (line c b : ℕ) (e f : Ender) → IsUnbroken first v line c → (a : IsAnswer v line c e)
+waiting_end : (first : List Joint) (v : Trace) (line c b : ℕ) (e f : Ender) → IsUnbroken first v line c
+    → (a : IsAnswer v line c e)
     → a.put.snoop < b → b < c → ender v line b ≡ Some f → (hit : Bool) (set : List Joint) → Has (IsAwaited hit e.1.0 e.1.1) set
     → Has (IsAwaited hit e.1.0 e.1.1) (made_by v b f.0 f.1.0 f.1.1 (left_by v b f.0 f.1.0 f.1.1 set))
 waiting_end first v line c b e f u a l m s hit set h =
@@ -341,7 +362,8 @@ waiting_end first v line c b e f u a l m s hit set h =
     h
 
 -- one clock on
-wait_from : (first : List Joint) (v : Trace) (line c : ℕ) (e : Ender) → IsUnbroken first v line c → (a : IsAnswer v line c e) (set : List Joint)
+wait_from : (first : List Joint) (v : Trace) (line c : ℕ) (e : Ender) → IsUnbroken first v line c
+    → (a : IsAnswer v line c e) (set : List Joint)
     → Has (IsKeptOut e.1.0) set → Has (IsAwaited (line_at HIT v a.put.snoop) e.1.0 e.1.1)
     (after_unseen v line a.put.snoop (after_snoop_end v line a.put.snoop (after_answer v line a.put.snoop set)))
 wait_from first v line c e u a set h =
@@ -361,7 +383,8 @@ wait_on first v line c b e u a l m hit set h =
     (awaited_after_stores hit e.1.0 e.1.1) (awaited_after_drops hit e.1.0 e.1.1 a.four)
     (end_has (IsAwaited hit e.1.0 e.1.1) v line b set (λ n. h) (λ f s. waiting_end first v line c b e f u a l m s hit set h))
 
-pub wait_until : (first : List Joint) (v : Trace) (line c : ℕ) (e : Ender) → IsUnbroken first v line c → (a : IsAnswer v line c e) (b : ℕ)
+pub wait_until : (first : List Joint) (v : Trace) (line c : ℕ) (e : Ender) → IsUnbroken first v line c
+    → (a : IsAnswer v line c e) (b : ℕ)
     → a.put.snoop < b → b ≤ c → Has (IsAwaited (line_at HIT v a.put.snoop) e.1.0 e.1.1) (possible first v line b)
 unfolding possible after_clock
 wait_until first v line c e u a zero l m = absurd (omega (arith, l))
@@ -388,7 +411,8 @@ middle_off : (b d : Bool) → d ≡ true → (true && b && d) ≡ false → b �
 middle_off true d e h = absurd (both_ways d h e)
 middle_off false d e h = refl
 
-hit_by : (v : Trace) (line c j i q a : ℕ) → is_reply (live_request_of v j) ≡ true → origin_of v j ≡ Some i → origin_clock_of v j ≡ Some q
+hit_by : (v : Trace) (line c j i q a : ℕ) → is_reply (live_request_of v j) ≡ true → origin_of v j ≡ Some i
+    → origin_clock_of v j ≡ Some q
     → names v line q ≡ true → is_spoiled v line ≡ false → agent_at v q ≡ Some a
     → (is_reply (live_request_of v j) && is_some_and (origin_of v j) (λ i. has_other_hit v c i)
     && is_some_and (origin_clock_of v j) (λ q. of_request v q (λ line a. true))) ≡ false
@@ -429,7 +453,8 @@ left_all : (v : Trace) (c : ℕ) (e : Ender) (set : List Joint) → is_reply (li
 unfolding left_by
 left_all v c e set r = rw r refl
 
-shown_all : (first : List Joint) (v : Trace) (line c : ℕ) (e : Ender) → ender v line c ≡ Some e → is_reply (live_request_of v e.0) ≡ true
+shown_all : (first : List Joint) (v : Trace) (line c : ℕ) (e : Ender) → ender v line c ≡ Some e
+    → is_reply (live_request_of v e.0) ≡ true
     → possible_shown first v line c ≡ possible_begun first v line c
 shown_all first v line c e s r =
     shown_by first v line c ∙ ap (λ o. step_by (left_by v c) o (possible_begun first v line c)) s
@@ -465,7 +490,8 @@ turned_reply first v line c e u s r =
           }))
     ])
 
-turned_if : (first : List Joint) (v : Trace) (line c : ℕ) (e : Ender) (r : Bool) → IsUnbroken first v line c → ender v line c ≡ Some e
+turned_if : (first : List Joint) (v : Trace) (line c : ℕ) (e : Ender) (r : Bool) → IsUnbroken first v line c
+    → ender v line c ≡ Some e
     → is_reply (live_request_of v e.0) ≡ r
     → is_none_left (turned_by v c e.0 e.1.0 e.1.1 (possible_shown first v line c)) ≡ is_none_left (possible_shown first v line c)
 unfolding turned_by

@@ -19,7 +19,8 @@ use Rattle.fsb_owners.specs.Possible.{after_unseen, fits_answer, replied_to, set
 use Rattle.fsb_owners.specs.Rules.{is_none_left}
 use Rattle.fsb_owners.specs.Shown.{is_coming, may_drop_at}
 use Rattle.fsb_owner_laws.specs.Losses.{AreCoherent, fits_reply, has_other_sole}
-use Rattle.fsb_owner_laws.proofs.Losses.{coherent_reached, is_same, lands, none_reached, any_alike, alike, reached_from, reached_where}
+use Rattle.fsb_owner_laws.proofs.Losses.{coherent_reached, is_same, lands, none_reached, any_alike, alike, reached_from}
+use Rattle.fsb_owner_laws.proofs.Losses.{reached_where}
 
 -- a test of an answer, at both
 abbrev of_both : (Bool → Bool) → Bool
@@ -54,19 +55,23 @@ keeps_all : Purpose → ℕ → Bool
 keeps_all kind asker = of_both (λ hit. of_both (λ hitm. of_both (λ turned. keeps kind asker hit hitm turned)))
 
 reads_kept : each_where (keeps_all Read) 4 ≡ true
-unfolding each_where keeps_all keeps fits_end fits_answer has_other_owner has_other_holder is_after_snoop_end is_same_joint is_same_state settled_at_end state_at every_joint sharing alone all_where unheld
+unfolding each_where keeps_all keeps fits_end fits_answer has_other_owner has_other_holder is_after_snoop_end
+    is_same_joint is_same_state settled_at_end state_at every_joint sharing alone all_where unheld
 reads_kept = refl
 
 owns_kept : each_where (keeps_all Own) 4 ≡ true
-unfolding each_where keeps_all keeps fits_end fits_answer has_other_owner has_other_holder is_after_snoop_end is_same_joint is_same_state settled_at_end state_at every_joint sharing alone all_where unheld
+unfolding each_where keeps_all keeps fits_end fits_answer has_other_owner has_other_holder is_after_snoop_end
+    is_same_joint is_same_state settled_at_end state_at every_joint sharing alone all_where unheld
 owns_kept = refl
 
 upgrades_kept : each_where (keeps_all Upgrade) 4 ≡ true
-unfolding each_where keeps_all keeps fits_end fits_answer has_other_owner has_other_holder is_after_snoop_end is_same_joint is_same_state settled_at_end state_at every_joint sharing alone all_where unheld
+unfolding each_where keeps_all keeps fits_end fits_answer has_other_owner has_other_holder is_after_snoop_end
+    is_same_joint is_same_state settled_at_end state_at every_joint sharing alone all_where unheld
 upgrades_kept = refl
 
 write_backs_kept : each_where (keeps_all WriteBack) 4 ≡ true
-unfolding each_where keeps_all keeps fits_end fits_answer has_other_owner has_other_holder is_after_snoop_end is_same_joint is_same_state settled_at_end state_at every_joint sharing alone all_where unheld
+unfolding each_where keeps_all keeps fits_end fits_answer has_other_owner has_other_holder is_after_snoop_end
+    is_same_joint is_same_state settled_at_end state_at every_joint sharing alone all_where unheld
 write_backs_kept = refl
 
 all_kept : (kind : Purpose) → each_where (keeps_all kind) 4 ≡ true
@@ -101,7 +106,8 @@ loses_all asker =
     of_both (λ hit. loses Read asker hit && loses Own asker hit && loses Upgrade asker hit && loses WriteBack asker hit)
 
 lost_by_replies : each_where loses_all 4 ≡ true
-unfolding each_where loses_all loses fits_reply has_other_sole has_other_holder is_after_snoop_end is_same_joint is_same_state state_at every_joint sharing alone all_where unheld
+unfolding each_where loses_all loses fits_reply has_other_sole has_other_holder is_after_snoop_end is_same_joint
+    is_same_state state_at every_joint sharing alone all_where unheld
 lost_by_replies = refl
 
 four_parts : (a b c d : Bool) → (a && b && c && d) ≡ true → (a ≡ true) × (b ≡ true) × (c ≡ true) × (d ≡ true)

@@ -80,7 +80,8 @@ nothing_unheld y c t =
     (All-contains (λ x. (not (nothing x) || is_unheld x) ≡ true) every_joint y
     (AllPass-from_list_all (λ x. not (nothing x) || is_unheld x) every_joint nothing_computed) c) t
 
-agent_dropped : (may : ℕ → Bool) (y : Joint) (a : ℕ) → a < 4 → is_after_drops may unheld y ≡ true → is_same_state (state_at y a) Invalid ≡ true
+agent_dropped : (may : ℕ → Bool) (y : Joint) (a : ℕ) → a < 4 → is_after_drops may unheld y ≡ true
+    → is_same_state (state_at y a) Invalid ≡ true
 agent_dropped may y a l e =
     none_dropped (may a) (state_at y a)
     (ap (λ s. is_kept_or_dropped (may a) s (state_at y a))

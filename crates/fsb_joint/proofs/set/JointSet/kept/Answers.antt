@@ -3,7 +3,8 @@ use Rattle.fsb_joint.specs.Sets.{has_bit, joint_at}
 use Rattle.fsb_joint.specs.Steps.{passes}
 use Rattle.fsb_joint.proofs.SetLaws.{both, first_off, joints-filter, kept-bits, kept-init, kept-no, kept-yes, second_off}
 use Rattle.fsb_joint.proofs.set.JointSet.kept.Goals as goal
-use Rattle.fsb_joint.proofs.set.JointSet.kept.Goals.{then-has+then-passes, else-has, else-has-via-then-has+else-passes, else-has-via-else-has}
+use Rattle.fsb_joint.proofs.set.JointSet.kept.Goals.{then-has+then-passes, else-has, else-has-via-then-has+else-passes}
+use Rattle.fsb_joint.proofs.set.JointSet.kept.Goals.{else-has-via-else-has}
 
 pub loop-number-init : goal.loop-number-init
 loop-number-init c = kept-init (λ n. has_bit c.args.self.mask n && passes c.args.test (joint_at n))
