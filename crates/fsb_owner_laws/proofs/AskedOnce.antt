@@ -267,7 +267,7 @@ asked_kind : (v : Trace) (j q : ℕ) (kind : Purpose) → live_clock_of v j ≡ 
 unfolding is_some_and
 asked_kind v j q kind e k t = rw (e, k) t
 
-off_then : (a b : Bool) → (a && b) ≡ false → a ≡ true → b ≡ false
+pub off_then : (a b : Bool) → (a && b) ≡ false → a ≡ true → b ≡ false
 off_then a b h e = let k = rw e at h in k
 
 given_to : (v : Trace) (i j : ℕ)

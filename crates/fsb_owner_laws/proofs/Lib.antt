@@ -12,3 +12,4 @@ pub mod AskedOnce
 pub mod Replies
 pub mod OneMore
 pub mod Untouched
+pub mod Sound

@@ -25,7 +25,12 @@ use Rattle.fsb_owners.specs.Possible.{possible, possible_begun, possible_shown, 
 use Rattle.fsb_owners.specs.Rules.{has_other_hit, is_hit_of_reply_wrong, is_none_left, is_served_or_deferred, of_request}
 use Rattle.fsb_owners.specs.Shown.{agent_at, is_spoiled, is_turned, names, origin_clock_of, origin_of}
 use Rattle.fsb_owner_laws.specs.Losses.{AreCoherent, fits_reply, possible_turned, turned_by}
+use Rattle.fsb_laws.specs.Orderly.{Orderly}
+use Rattle.fsb_owners.specs.Rules.{is_asked_twice}
+use Rattle.fsb_owners.specs.Rules.{is_given_again}
 use Rattle.fsb_owner_laws.specs.Unbroken.{IsUnbroken}
+use Rattle.fsb_owner_laws.proofs.Sound.{sound_defers, sound_orderly}
+use Rattle.fsb_signal.specs.declared.marks.Marks.{Marks}
 use Rattle.fsb_owner_laws.proofs.AgreeEnders.{ender_from, for_line-from, snooped_from}
 use Rattle.fsb_owner_laws.proofs.AgreeWords.{IsPutOff, put_off, reply_behind, reply_found, some_same}
 use Rattle.fsb_owner_laws.proofs.AskedOnce.{IsAsker, IsPlain, IsReplied, asker, deferred_quiet, not_answered, not_given}
@@ -38,6 +43,22 @@ use Rattle.fsb_owner_laws.proofs.BrokenRules.{ender_parts, of_request-at, shown_
 use Rattle.fsb_owner_laws.proofs.Emptied.{Ender, at_ender, ender, ender_four, next, step_by}
 use Rattle.fsb_owner_laws.proofs.Members.{Has, has_begin, has_filter, has_reached, has_unseen}
 use Rattle.fsb_owner_laws.proofs.StepLosses.{fits_end, showing_fits}
+
+-- what the rules ask of a reply's snoop end at c, and of the requests up to it
+pub record IsUndisturbed (first : List Joint) (v : Trace) (line c : ℕ) : Type 0 where
+  pub orderly : Orderly v
+  pub defers : (i : ℕ) → is_deferred v i ≡ true → line_at_snoop_end DEFER v i ≡ true
+  pub sound : is_spoiled v line ≡ false
+  pub asked : (d : ℕ) → d ≤ c → is_asked_twice first v d ≡ false
+  pub given : is_given_again first v c ≡ false
+  pub hit : is_hit_of_reply_wrong first v c ≡ false
+
+undisturbed : (m : Marks) (first : List Joint) (v : Trace) (line c : ℕ) → IsUnbroken m first v line c → IsUndisturbed first v line c
+undisturbed m first v line c u = record {
+  orderly = sound_orderly m v u.phases;
+  defers = λ i d. sound_defers m v i u.phases d;
+  sound = u.sound; asked = u.asked; given = u.given; hit = u.hit;
+}
 
 -- a reply's snoop end at c, and the request that it answers, which asks for the line
 pub record IsAnswer (v : Trace) (line c : ℕ) (e : Ender) : Type 0 where
@@ -122,7 +143,7 @@ same_request v line c b e f a k n =
       | inr r ↦ inl (replied_same v line c b e f a k n r)
     ]
 
-other_agent : (first : List Joint) (v : Trace) (line c b : ℕ) (e f : Ender) → IsUnbroken first v line c
+other_agent : (first : List Joint) (v : Trace) (line c b : ℕ) (e f : Ender) → IsUndisturbed first v line c
     → (a : IsAnswer v line c e)
     → IsAsker v line b f → a.asker.clock ≤ b → b < c → (b ≡ a.put.snoop → ⊥) → nat_eq e.1.0 f.1.0 ≡ false
 other_agent first v line c b e f u a k l m n =
@@ -172,7 +193,7 @@ end_has R v line b set h k =
     (step_has R v b (ender v line b) set h k)
 
 -- from its first clock to its snoop end the agent may not store
-clock_out : (first : List Joint) (v : Trace) (line c b : ℕ) (e : Ender) → IsUnbroken first v line c → (a : IsAnswer v line c e)
+clock_out : (first : List Joint) (v : Trace) (line c b : ℕ) (e : Ender) → IsUndisturbed first v line c → (a : IsAnswer v line c e)
     → a.asker.clock ≤ b → b < a.put.snoop → (set : List Joint) → Has (IsKeptOut e.1.0) set
     → Has (IsKeptOut e.1.0) (after_unseen v line b (after_snoop_end v line b (after_answer v line b set)))
 clock_out first v line c b e u a l m set h =
@@ -205,7 +226,7 @@ begin_out first v line c b e a l h =
       | inr n ↦ has_begin (IsKeptOut e.1.0) v line b (possible first v line b) (h (omega (arith, l, n)))
     ]
 
-out_until : (first : List Joint) (v : Trace) (line c : ℕ) (e : Ender) → IsUnbroken first v line c
+out_until : (first : List Joint) (v : Trace) (line c : ℕ) (e : Ender) → IsUndisturbed first v line c
     → (a : IsAnswer v line c e) (b : ℕ)
     → a.asker.clock < b → b ≤ a.put.snoop → Has (IsKeptOut e.1.0) (possible first v line b)
 unfolding possible after_clock
@@ -244,7 +265,7 @@ sent_back Own e = refl
 sent_back Upgrade e = refl
 sent_back WriteBack e = absurd (cc)
 
-begins_waiting : (first : List Joint) (v : Trace) (line c : ℕ) (e f : Ender) → IsUnbroken first v line c
+begins_waiting : (first : List Joint) (v : Trace) (line c : ℕ) (e f : Ender) → IsUndisturbed first v line c
     → (a : IsAnswer v line c e)
     → f ≡ (a.asker.number, e.1) → (set : List Joint) → Has (IsKeptOut e.1.0) set
     → Has (IsAwaited (line_at HIT v a.put.snoop) e.1.0 e.1.1)
@@ -267,7 +288,7 @@ begins_waiting first v line c e f u a same set h =
     h)
 
 -- while it waits: another's request
-turned_away : (first : List Joint) (v : Trace) (line c b : ℕ) (e f : Ender) → IsUnbroken first v line c
+turned_away : (first : List Joint) (v : Trace) (line c b : ℕ) (e f : Ender) → IsUndisturbed first v line c
     → (a : IsAnswer v line c e)
     → (k : IsAsker v line b f) → IsPlain v f.0 k.number → a.put.snoop < b → b < c → asks_line f.1.1 ≡ true
     → line_at HITM v b ≡ false
@@ -285,7 +306,7 @@ turned_away first v line c b e f u a k p l m ask hitm =
     ap (is_turned v) p.same ∙ turns_by v k.number defer quiet
 
 -- another's reply is to a write-back
-reply_is_written : (first : List Joint) (v : Trace) (line c b : ℕ) (e f : Ender) → IsUnbroken first v line c
+reply_is_written : (first : List Joint) (v : Trace) (line c b : ℕ) (e f : Ender) → IsUndisturbed first v line c
     → (a : IsAnswer v line c e)
     → (k : IsAsker v line b f) → IsReplied v f.0 k.number → a.put.snoop < b → b < c → asks_line f.1.1 ≡ true → ⊥
 unfolding is_served_or_deferred
@@ -318,7 +339,7 @@ reply_is_written first v line c b e f u a k r l m ask =
     ]
 
 waiting_reply : (first : List Joint) (v : Trace) (line c b : ℕ) (e f : Ender) (kind : Purpose)
-    → IsUnbroken first v line c → (a : IsAnswer v line c e)
+    → IsUndisturbed first v line c → (a : IsAnswer v line c e)
     → (k : IsAsker v line b f) → IsReplied v f.0 k.number → a.put.snoop < b → b < c → f.1.1 ≡ kind → nat_eq e.1.0 f.1.0 ≡ false
     → (hit : Bool) (x y : Joint) → IsAwaited hit e.1.0 e.1.1 x
     → is_after_snoop_end f.1.0 kind Replied (line_at HIT v b) x y ≡ true
@@ -340,7 +361,7 @@ replied_of : (v : Trace) (j i : ℕ) → IsPlain v j i ⊎ IsReplied v j i → i
 replied_of v j i (inl p) e = absurd (both_ways (is_reply (live_request_of v j)) p.request e)
 replied_of v j i (inr r) e = r
 
-waiting_end : (first : List Joint) (v : Trace) (line c b : ℕ) (e f : Ender) → IsUnbroken first v line c
+waiting_end : (first : List Joint) (v : Trace) (line c b : ℕ) (e f : Ender) → IsUndisturbed first v line c
     → (a : IsAnswer v line c e)
     → a.put.snoop < b → b < c → ender v line b ≡ Some f → (hit : Bool) (set : List Joint) → Has (IsAwaited hit e.1.0 e.1.1) set
     → Has (IsAwaited hit e.1.0 e.1.1) (made_by v b f.0 f.1.0 f.1.1 (left_by v b f.0 f.1.0 f.1.1 set))
@@ -362,7 +383,7 @@ waiting_end first v line c b e f u a l m s hit set h =
     h
 
 -- one clock on
-wait_from : (first : List Joint) (v : Trace) (line c : ℕ) (e : Ender) → IsUnbroken first v line c
+wait_from : (first : List Joint) (v : Trace) (line c : ℕ) (e : Ender) → IsUndisturbed first v line c
     → (a : IsAnswer v line c e) (set : List Joint)
     → Has (IsKeptOut e.1.0) set → Has (IsAwaited (line_at HIT v a.put.snoop) e.1.0 e.1.1)
     (after_unseen v line a.put.snoop (after_snoop_end v line a.put.snoop (after_answer v line a.put.snoop set)))
@@ -375,7 +396,7 @@ wait_from first v line c e u a set h =
     (λ n. absurd (let bad = sym n ∙ own in let no : ⊥ = cc in no))
     (λ f k. begins_waiting first v line c e f u a (some_same f (a.asker.number, e.1) (sym k ∙ own)) set h))
 
-wait_on : (first : List Joint) (v : Trace) (line c b : ℕ) (e : Ender) → IsUnbroken first v line c → (a : IsAnswer v line c e)
+wait_on : (first : List Joint) (v : Trace) (line c b : ℕ) (e : Ender) → IsUndisturbed first v line c → (a : IsAnswer v line c e)
     → a.put.snoop < b → b < c → (hit : Bool) (set : List Joint) → Has (IsAwaited hit e.1.0 e.1.1) set
     → Has (IsAwaited hit e.1.0 e.1.1) (after_unseen v line b (after_snoop_end v line b (after_answer v line b set)))
 wait_on first v line c b e u a l m hit set h =
@@ -383,7 +404,7 @@ wait_on first v line c b e u a l m hit set h =
     (awaited_after_stores hit e.1.0 e.1.1) (awaited_after_drops hit e.1.0 e.1.1 a.four)
     (end_has (IsAwaited hit e.1.0 e.1.1) v line b set (λ n. h) (λ f s. waiting_end first v line c b e f u a l m s hit set h))
 
-pub wait_until : (first : List Joint) (v : Trace) (line c : ℕ) (e : Ender) → IsUnbroken first v line c
+pub wait_until : (first : List Joint) (v : Trace) (line c : ℕ) (e : Ender) → IsUndisturbed first v line c
     → (a : IsAnswer v line c e) (b : ℕ)
     → a.put.snoop < b → b ≤ c → Has (IsAwaited (line_at HIT v a.put.snoop) e.1.0 e.1.1) (possible first v line b)
 unfolding possible after_clock
@@ -422,7 +443,7 @@ hit_by v line c j i q a r o oc n s g h =
     middle_off (has_other_hit v c i) (of_request v q (λ line a. true)) (of_request-at v line q a (λ line a. true) n s g)
     (let k = rw (r, o, oc) at h in k)
 
-repeated : (first : List Joint) (v : Trace) (line c : ℕ) (e : Ender) → IsUnbroken first v line c → (a : IsAnswer v line c e)
+repeated : (first : List Joint) (v : Trace) (line c : ℕ) (e : Ender) → IsUndisturbed first v line c → (a : IsAnswer v line c e)
     → line_at HIT v c ≡ line_at HIT v a.put.snoop
 unfolding is_hit_of_reply_wrong is_some_and
 repeated first v line c e u a =
@@ -460,7 +481,7 @@ shown_all first v line c e s r =
     shown_by first v line c ∙ ap (λ o. step_by (left_by v c) o (possible_begun first v line c)) s
     ∙ left_all v c e (possible_begun first v line c) r
 
-fit_all : (first : List Joint) (v : Trace) (line c : ℕ) (e : Ender) → IsUnbroken first v line c → IsAnswer v line c e
+fit_all : (first : List Joint) (v : Trace) (line c : ℕ) (e : Ender) → IsUndisturbed first v line c → IsAnswer v line c e
     → Has (λ x. fits_reply (line_at HIT v c) e.1.0 e.1.1 x ≡ true) (possible_begun first v line c)
 unfolding possible_begun
 fit_all first v line c e u a =
@@ -470,7 +491,7 @@ fit_all first v line c e u a =
     (λ x m. ap (λ h. fits_reply h e.1.0 e.1.1 x) hit
     ∙ reply_fits (line_at HIT v a.put.snoop) e.1.0 e.1.1 x a.asks (wait_until first v line c e u a c (omega (arith, far.1)) (omega arith) x m))
 
-turned_reply : (first : List Joint) (v : Trace) (line c : ℕ) (e : Ender) → IsUnbroken first v line c → ender v line c ≡ Some e
+turned_reply : (first : List Joint) (v : Trace) (line c : ℕ) (e : Ender) → IsUndisturbed first v line c → ender v line c ≡ Some e
     → is_reply (live_request_of v e.0) ≡ true
     → is_none_left (filter (fits_reply (line_at HIT v c) e.1.0 e.1.1) (possible_shown first v line c)) ≡ is_none_left (possible_shown first v line c)
 turned_reply first v line c e u s r =
@@ -490,7 +511,7 @@ turned_reply first v line c e u s r =
           }))
     ])
 
-turned_if : (first : List Joint) (v : Trace) (line c : ℕ) (e : Ender) (r : Bool) → IsUnbroken first v line c
+turned_if : (first : List Joint) (v : Trace) (line c : ℕ) (e : Ender) (r : Bool) → IsUndisturbed first v line c
     → ender v line c ≡ Some e
     → is_reply (live_request_of v e.0) ≡ r
     → is_none_left (turned_by v c e.0 e.1.0 e.1.1 (possible_shown first v line c)) ≡ is_none_left (possible_shown first v line c)
@@ -498,7 +519,7 @@ unfolding turned_by
 turned_if first v line c e true u s r = rw r (turned_reply first v line c e u s r)
 turned_if first v line c e false u s r = rw r refl
 
-turned_all : (first : List Joint) (v : Trace) (line c : ℕ) (o : Option Ender) → IsUnbroken first v line c → ender v line c ≡ o
+turned_all : (first : List Joint) (v : Trace) (line c : ℕ) (o : Option Ender) → IsUndisturbed first v line c → ender v line c ≡ o
     → is_none_left (step_by (turned_by v c) o (possible_shown first v line c)) ≡ is_none_left (possible_shown first v line c)
 turned_all first v line c None u s = refl
 turned_all first v line c (Some e) u s = turned_if first v line c e (is_reply (live_request_of v e.0)) u s refl
@@ -508,8 +529,8 @@ turned_step : (first : List Joint) (v : Trace) (line c : ℕ)
 unfolding possible_turned
 turned_step first v line c = at_ender v line c (turned_by v c) (possible_shown first v line c)
 
-pub none_lost : (first : List Joint) (v : Trace) (line c : ℕ) → AreCoherent first → IsUnbroken first v line c
+pub none_lost : (m : Marks) (first : List Joint) (v : Trace) (line c : ℕ) → AreCoherent first → IsUnbroken m first v line c
     → is_none_left (possible first v line (c + 1)) ≡ is_none_left (possible_shown first v line c)
-none_lost first v line c h u =
+none_lost m first v line c h u =
     next first v line c h ∙ ap (λ set. is_none_left set) (turned_step first v line c)
-    ∙ turned_all first v line c (ender v line c) u refl
+    ∙ turned_all first v line c (ender v line c) (undisturbed m first v line c u) refl

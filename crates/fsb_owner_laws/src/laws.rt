@@ -1,10 +1,15 @@
 //! Laws of the rules of ownership: small functions with no code, whose contracts are the laws.
 
-ghost use Rattle.std.specs.Prelude.{◌≡◌, ℕ, Bool, ◌+◌, ◌-◌, ◌<◌, ◌||◌, true, false, length, List, [], ◌∷◌, Some};
+ghost use Rattle.std.specs.Prelude.{◌≡◌, ℕ, Bool, ◌+◌, ◌-◌, ◌<◌, ◌||◌, true, false, length, List, [], ◌∷◌, Some, None};
 ghost use Rattle.std.specs.List.{filter};
 ghost use Rattle.fsb_line.specs.declared.purpose.Purpose.{Purpose};
 ghost use Rattle.fsb_trace.specs.Agree.{AgreeTo};
+ghost use Rattle.fsb_signal.specs.declared.lines.TheConstants.Lines.{DEFER};
+ghost use Rattle.fsb_signal.specs.declared.marks.Marks.{Marks};
 ghost use Rattle.fsb_trace.specs.At.{Trace};
+ghost use Rattle.fsb_trace.specs.Outcome.{is_deferred};
+ghost use Rattle.fsb_trace.specs.Snoop.{line_at_snoop_end};
+ghost use Rattle.fsb_trace.specs.Verdict.{verdict};
 ghost use Rattle.fsb_signal.specs.declared.sample.Sample.{Sample};
 ghost use Rattle.fsb_laws.specs.OneMore.{OneMore};
 ghost use Rattle.fsb_laws.specs.Orderly.{Orderly};
@@ -70,11 +75,11 @@ pub fn quiet_lines_keep_their_states()
         after_unseen v line c (after_unseen v line b set) ≡ after_unseen v line b set }
 {}
 
-/// Where in addition no request up to the clock breaks rule 21, and neither rule 30 nor rule 31 is broken at it, a reply loses
-/// none either. So a set is never empty unless a rule is broken.
+/// Where no phase rule is broken, no request up to the clock breaks rule 21, and neither rule 30 nor rule 31 is broken at it, a
+/// reply loses no line its last joint state either. So a set is never empty unless a rule is broken.
 pub fn unbroken_lines_keep_a_joint_state()
-    ensures { (first : List Joint) (v : Trace) (line c : ℕ) → AreCoherent first →
-        IsUnbroken first v line c →
+    ensures { (m : Marks) (first : List Joint) (v : Trace) (line c : ℕ) → AreCoherent first →
+        IsUnbroken m first v line c →
         is_none_left (possible first v line (c + 1))
         ≡ is_none_left (possible_shown first v line c) }
 {}
@@ -95,4 +100,11 @@ pub fn untouched_lines_stay_as_they_begin()
     ensures unknown { (v : Trace) (line c : ℕ) → Orderly v →
         ((q : ℕ) → q < c → names v line q ≡ false) →
         possible every_joint v line c ≡ every_joint }
+{}
+
+/// A trace that breaks no phase rule is orderly, and what is Deferred in it had DEFER# at its snoop end.
+pub fn sound_traces_are_orderly()
+    ensures orderly { (m : Marks) (v : Trace) → verdict m v ≡ None → Orderly v }
+    ensures defers { (m : Marks) (v : Trace) (i : ℕ) → verdict m v ≡ None →
+        is_deferred v i ≡ true → line_at_snoop_end DEFER v i ≡ true }
 {}
