@@ -53,11 +53,15 @@ pub record IsUndisturbed (first : List Joint) (v : Trace) (line c : ℕ) : Type 
   pub given : is_given_again first v c ≡ false
   pub hit : is_hit_of_reply_wrong first v c ≡ false
 
-undisturbed : (m : Marks) (first : List Joint) (v : Trace) (line c : ℕ) → IsUnbroken m first v line c → IsUndisturbed first v line c
+undisturbed : (m : Marks) (first : List Joint) (v : Trace) (line c : ℕ) → IsUnbroken m first v line c
+    → IsUndisturbed first v line c
 undisturbed m first v line c u = record {
   orderly = sound_orderly m v u.phases;
   defers = λ i d. sound_defers m v i u.phases d;
-  sound = u.sound; asked = u.asked; given = u.given; hit = u.hit;
+  sound = u.sound;
+  asked = u.asked;
+  given = u.given;
+  hit = u.hit;
 }
 
 -- a reply's snoop end at c, and the request that it answers, which asks for the line

@@ -1,9 +1,10 @@
 -- A trace that breaks no phase rule is orderly, and what is Deferred in it had DEFER#.
-use Rattle.std.proofs.Common.{ℕ, zero, suc, ◌+◌, ◌-◌, ◌<◌, ◌≤◌, ◌≡◌, Bool, true, false, ◌&&◌, ◌||◌, not, nat_eq, nat_le, nat_lt, length, take}
-use Rattle.std.proofs.Common.{List, [], ◌∷◌, Option, Some, None, refl, sym, ap, subst, ◌∙◌, arith, inl, inr, if◌then◌else◌}
+use Rattle.std.proofs.Common.{ℕ, zero, suc, ◌+◌, ◌-◌, ◌<◌, ◌≤◌, ◌≡◌, Bool, true, false, ◌&&◌, ◌||◌, not, nat_eq, nat_lt}
+use Rattle.std.proofs.Common.{length, take}
+use Rattle.std.proofs.Common.{[], ◌∷◌, Option, Some, None, refl, sym, ap, ◌∙◌, arith, inl, inr, if◌then◌else◌}
 use Rattle.std.specs.Prelude.{slice_get}
 use Rattle.std.specs.Option.{option_map}
-use Rattle.std.proofs.lemmas.Bool.{and_parts, both_ways, cases_Bool, cases_eq, eqb-true, le-leb, lt-ltb, not-false}
+use Rattle.std.proofs.lemmas.Bool.{and_parts, both_ways, cases_eq, eqb-true, le-leb, lt-ltb}
 use Rattle.std.proofs.lemmas.List.{length-take-le}
 use Rattle.fsb_count.specs.Clocks.{count_where}
 use Rattle.fsb_count.specs.Options.{is_some_and}
@@ -18,15 +19,17 @@ use Rattle.fsb_trace.specs.At.{Trace, line_back, responds_at, response_code_at}
 use Rattle.fsb_trace.specs.Requests.{is_upgrade, is_write_back, live_count, live_request_of}
 use Rattle.fsb_trace.specs.Snoop.{line_at_snoop_end, snoop_end_of}
 use Rattle.fsb_trace.specs.Outcome.{is_deferral, is_deferred, live_response_of, outcome_by_kind, outcome_of, response_clock_of}
-use Rattle.fsb_trace.specs.Outcome.{response_code_of, told_by, told_with}
-use Rattle.fsb_trace.specs.declared.outcome.Outcome.TheVariants.{Deferred, Failed, Granted, Handed, Replied, Retried, Upgraded, Written}
-use Rattle.fsb_trace.specs.Rules.{breaks, has_code_at, has_den, is_code_for, is_code_wrong, is_request_too_soon, is_response_early}
+use Rattle.fsb_trace.specs.Outcome.{response_code_of, told_by}
+use Rattle.fsb_trace.specs.declared.outcome.Outcome.TheVariants.{Deferred, Failed, Granted, Handed, Replied, Retried}
+use Rattle.fsb_trace.specs.declared.outcome.Outcome.TheVariants.{Upgraded, Written}
+use Rattle.fsb_trace.specs.Rules.{breaks, has_code_at, has_den, is_code_for, is_code_wrong, is_request_too_soon}
+use Rattle.fsb_trace.specs.Rules.{is_response_early}
 use Rattle.fsb_trace.specs.Rules.{may_answer, next_response, responds_soundly}
 use Rattle.fsb_trace.specs.Verdict.{is_broken, verdict}
 use Rattle.fsb_trace.proofs.Interface.{AgreeTo-sym, breaks-13, breaks-14, breaks-2, line_at-agree, line_at_snoop_end-stays}
 use Rattle.fsb_trace.proofs.Interface.{live_response_of-there, responds_at-agree, response_code_at-agree, verdict-none}
-use Rattle.fsb_laws.specs.Orderly.{Orderly, Spaced}
-use Rattle.fsb_laws.proofs.Interface.{ads_before_end, deferred_response, may_answer-stays}
+use Rattle.fsb_laws.specs.Orderly.{Orderly}
+use Rattle.fsb_laws.proofs.Interface.{ads_before_end, may_answer-stays}
 use Rattle.fsb_owner_laws.proofs.AgreeWords.{put_off}
 use Rattle.fsb_owner_laws.proofs.AskedOnce.{deferred_quiet, off_then}
 
@@ -56,7 +59,8 @@ back : (u : Trace) (q d p : ℕ) → d ≤ q → p ≡ q - d → line_at ADS u p
 unfolding line_back
 back u q d p l e t = rw (le-leb d q l) (ap (line_at ADS u) (sym e) ∙ t)
 
-apart : (m : Marks) (v : Trace) → verdict m v ≡ None → (p q : ℕ) → p < q → line_at ADS v p ≡ true → line_at ADS v q ≡ true → p + 3 ≤ q
+apart : (m : Marks) (v : Trace) → verdict m v ≡ None → (p q : ℕ) → p < q → line_at ADS v p ≡ true
+    → line_at ADS v q ≡ true → p + 3 ≤ q
 unfolding is_request_too_soon
 apart m v h p q l tp tq =
     let below = ads_before_end v q tq in
@@ -104,8 +108,13 @@ sound_orderly m v h = record { spaced = record { apart = apart m v h }; timely =
 by_kind : (request : Option Request) → is_deferral (outcome_by_kind request) ≡ false
 unfolding is_deferral outcome_by_kind
 by_kind None = refl
-by_kind (Some request) = elim request.kind as (λ k. is_deferral (elim k [ kinds.WriteBack ↦ Written | kinds.Upgrade ↦ Upgraded
-    | kinds.Reply ↦ Replied | kinds.Read ↦ Granted | kinds.Invalidate ↦ Granted ]) ≡ false)
+by_kind (Some request) = elim request.kind as (λ k. is_deferral (elim k [
+  | kinds.WriteBack ↦ Written
+  | kinds.Upgrade ↦ Upgraded
+  | kinds.Reply ↦ Replied
+  | kinds.Read ↦ Granted
+  | kinds.Invalidate ↦ Granted
+]) ≡ false)
     [ kinds.WriteBack ↦ refl | kinds.Upgrade ↦ refl | kinds.Reply ↦ refl | kinds.Read ↦ refl | kinds.Invalidate ↦ refl ]
 
 told_code : (a b c d : Bool) (request : Option Request)
@@ -134,9 +143,9 @@ deferred_code v i s r d e f = coded v i (live_response_of v i) r (live_response_
 
 must_defer : (h w d u : Bool) (request : Option Request) (code : ℕ) → h ≡ false → code ≡ 2
     → (if h then nat_eq code (response_code_of Handed)
-      else (if w then nat_eq code (response_code_of Written)
-      else (if d then nat_eq code (response_code_of Retried) || has_den request && nat_eq code (response_code_of Deferred)
-      else (if u then nat_eq code (response_code_of Upgraded) else nat_eq code (response_code_of Granted))))) ≡ true
+    else (if w then nat_eq code (response_code_of Written)
+    else (if d then nat_eq code (response_code_of Retried) || has_den request && nat_eq code (response_code_of Deferred)
+    else (if u then nat_eq code (response_code_of Upgraded) else nat_eq code (response_code_of Granted))))) ≡ true
     → d ≡ true
 unfolding response_code_of
 must_defer h w true u request code e f t = refl
@@ -165,7 +174,8 @@ response_found : (v : Trace) (i r : ℕ) → response_clock_of v i ≡ Some r
 unfolding response_clock_of
 response_found v i r e = nth_where-found (responds_at v) i (length v) r e
 
-pub sound_defers : (m : Marks) (v : Trace) (i : ℕ) → verdict m v ≡ None → is_deferred v i ≡ true → line_at_snoop_end DEFER v i ≡ true
+pub sound_defers : (m : Marks) (v : Trace) (i : ℕ) → verdict m v ≡ None → is_deferred v i ≡ true
+    → line_at_snoop_end DEFER v i ≡ true
 unfolding is_code_wrong
 sound_defers m v i h d =
     let p = put_off v i (sound_orderly m v h) d in

@@ -5,8 +5,9 @@
 
 pub use laws::{
     joint_states_end_where_a_rule_is_broken, ownership_verdict_goes_on,
-    possible_states_rest_on_the_past, quiet_lines_keep_their_states, sound_traces_are_orderly, steps_keep_lines_coherent,
-    unbroken_lines_keep_a_joint_state, untouched_lines_stay_as_they_begin,
+    possible_states_rest_on_the_past, quiet_lines_keep_their_states, sound_traces_are_orderly,
+    steps_keep_lines_coherent, unbroken_lines_keep_a_joint_state,
+    untouched_lines_stay_as_they_begin,
 };
 
 mod laws;
