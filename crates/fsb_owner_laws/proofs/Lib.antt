@@ -1,0 +1,15 @@
+pub mod Losses
+pub mod StepLosses
+pub mod Emptied
+pub mod BrokenRules
+pub mod AgreeWords
+pub mod AgreeEnders
+pub mod AgreePossible
+pub mod Quiet
+pub mod Members
+pub mod Awaited
+pub mod AskedOnce
+pub mod Replies
+pub mod OneMore
+pub mod Untouched
+pub mod Sound
