@@ -1,5 +1,3 @@
 mod Clauses
 mod Completed
-mod Converse
 mod Promises
-mod Statuses

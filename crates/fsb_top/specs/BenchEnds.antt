@@ -1,5 +1,5 @@
 -- What a call of `bench` leaves behind, by its status.
-use Rattle.std.specs.Prelude.{◌≡◌, ◌≤◌, ◌<◌, ◌-◌, ◌^◌, ◌⊎◌, ℕ, IsTrue, ◌++◌, List, Option, None, Some, is_some, length}
+use Rattle.std.specs.Prelude.{◌≡◌, ◌≢◌, ◌≤◌, ◌<◌, ◌-◌, ◌^◌, ◌⊎◌, ℕ, IsTrue, ◌++◌, List, Option, None, Some, is_some, length}
 use Rattle.fsb_audit.specs.declared.finding.Finding.TheVariants as findings
 use Rattle.fsb_audit.specs.Fouls.{finding_of}
 use Rattle.fsb_audit_dump.specs.Audited.{audited_as}
@@ -25,7 +25,7 @@ use Rattle.fsb_trigger.specs.TriggerSteps.{StepView}
 use Rattle.fsb_watch.specs.Watched.{IsReadWhole, IsBad, HasManySamples}
 use Rattle.vcd_grammar.specs.declared.fault.VcdFault.{VcdFault}
 use Rattle.vcd_grammar.specs.Reading.{Reads, FirstFault}
-use Rattle.fsb_top.specs.BenchRead.{HasRead}
+use Rattle.fsb_top.specs.FileRead.{HasReadAll, bench_file}
 use Rattle.fsb_top.specs.declared.status.Status.{Status}
 use Rattle.fsb_top.specs.declared.status.Status.TheVariants.{Done, Rejected, BadWords, BadBench, BadDump, ReadFault, WriteFault, DumpFault, OutOfMemory, TooLong, Foul, NotFound}
 
@@ -232,6 +232,18 @@ IsOfAudit _ = ⊥
 
 -- ---- the whole call
 
+-- how a call with words of this form may end
+abbrev pub MayEnd : Option Form → Status → Type 0
+MayEnd None status = (status ≡ BadWords) ⊎ (status ≡ OutOfMemory)
+MayEnd (Some (run bench None)) status = IsOfRun status × (status ≢ DumpFault)
+MayEnd (Some (run bench (Some dump))) status = IsOfRun status
+MayEnd (Some (check dump)) status = IsOfCheck status
+MayEnd (Some (audit dump)) status = IsOfAudit status
+MayEnd (Some (show dump)) status = IsOfCheck status
+MayEnd (Some (find dump steps)) status = IsOfFind status
+MayEnd (Some (wave dump from to)) status = IsOfWave status
+MayEnd (Some (gen seed agents items)) status = IsOfGen status
+
 -- there is one run of the plan, where objects stand that tell this, of which the call leaves behind what is said
 pub record HasRunOf (told : List (Option Told)) (plan : PlanView) (Leaves : Run → Type 0)
     : Type 0 where
@@ -242,7 +254,7 @@ pub record HasRunOf (told : List (Option Told)) (plan : PlanView) (Leaves : Run 
 -- all of the file under this name was read, and it is the bench file of this plan
 pub record IsPlanOf (name held left : List ℕ) (begun_as : Option (List ℕ)) (plan : PlanView)
     : Type 0 where
-  pub read : HasRead held name left begun_as
+  pub read : HasReadAll bench_file name held left begun_as
   pub is_bench : BenchText held plan
 
 -- there is one run of a plan, of which the call leaves behind what is said; the plan is as it is said, and `told` is what
@@ -257,7 +269,7 @@ pub record HasRunFrom (IsPlan : PlanView → Type 0) (told : PlanView → List (
 -- all of the file under this name was read, and it is no bench file, with this first fault
 pub record IsBadBench (name held left : List ℕ) (begun_as : Option (List ℕ)) (fault : ScriptFault)
     : Type 0 where
-  pub read : HasRead held name left begun_as
+  pub read : HasReadAll bench_file name held left begun_as
   pub is_bad : FirstBad held fault
 
 -- all of the file under this name was read, it is the dump of this trace of at most 2^32 - 1 samples with these marks, and

@@ -1,15 +1,9 @@
 -- What was read of the file of a call that was stopped: the file is too long, memory lacked, or the source failed.
-use Rattle.std.specs.Prelude.{◌≡◌, ◌<◌, ◌+◌, ◌^◌, ◌⊎◌, ℕ, List, Option, Some, length, drop}
+use Rattle.std.specs.Prelude.{◌≡◌, ◌+◌, ◌^◌, ◌⊎◌, ℕ, List, Option, Some}
 use Rattle.fsb_command.specs.Form.{Form, run, check, audit, show, find, wave, gen}
-use Rattle.fsb_io.specs.Takes.{TakesAtMost}
 use Rattle.fsb_show.specs.ShownDump.{IsReadToEnd, IsReadPastLimit, IsLongDump}
+use Rattle.fsb_top.specs.FileRead.{HasReadAtMost, HasReadPast}
 use Rattle.fsb_watch.specs.Watched.{IsReadWhole, IsReadPast, IsBegunOrStays, HasManySamples}
-
--- the file under this name is longer than the limit, and was read to one byte past it
-pub record HasReadPast (limit : ℕ) (name held left : List ℕ) (begun_as : Option (List ℕ)) : Type 0 where
-  pub named : begun_as ≡ Some name
-  pub long : limit < length held
-  pub rest : left ≡ drop (limit + 1) held
 
 -- the dump under this name is longer than 2^40 bytes, and was read to one byte past them; or it was read to its end,
 -- and has too many samples
@@ -21,11 +15,6 @@ pub record HasReadLong (name held left : List ℕ) (begun_as : Option (List ℕ)
 pub record HasReadLongWhole (name held left : List ℕ) (begun_as : Option (List ℕ)) : Type 0 where
   pub named : begun_as ≡ Some name
   pub long : IsReadPastLimit held left ⊎ (IsReadToEnd held left × IsLongDump held)
-
--- the file under this name was opened, and of what it holds at most so many bytes were read
-pub record HasReadAtMost (most : ℕ) (name held left : List ℕ) (begun_as : Option (List ℕ)) : Type 0 where
-  pub named : begun_as ≡ Some name
-  pub taken : TakesAtMost most held left
 
 -- what was read of a file that is too long, by the form of the words
 abbrev pub HasReadTooLong : Form → List ℕ → List ℕ → Option (List ℕ) → Type 0

@@ -22,11 +22,11 @@ use Rattle.fsb_top.specs.BenchEnds.{HasRun}
 use Rattle.fsb_top.specs.BenchEnds.{IsOfAudit, IsOfGen}
 use Rattle.fsb_top.specs.BenchEnds.{IsOfRun, IsSilent, IsTold, IsWritten, TellsFinding}
 use Rattle.fsb_top.specs.BenchEnds.{TellsMatch, TellsVerdict}
-use Rattle.fsb_calls.specs.CallEnds.{DumpCall, EndsTold, IsPlayed}
-use Rattle.fsb_calls.specs.CallEnds.{audit_status, broken_status}
-use Rattle.fsb_calls.specs.CallEnds.{match_status}
-use Rattle.fsb_calls.specs.FileRead.{FileKind, bench_file, dump_in_pieces, whole_dump, HasReadTooMuch}
-use Rattle.fsb_calls.specs.FileRead.{IsDumpKind, IsStopped}
+use Rattle.fsb_top.specs.CallEnds.{DumpCall, EndsTold, IsPlayed}
+use Rattle.fsb_top.specs.CallEnds.{audit_status, broken_status}
+use Rattle.fsb_top.specs.CallEnds.{match_status}
+use Rattle.fsb_top.specs.FileRead.{FileKind, bench_file, dump_in_pieces, whole_dump, HasReadTooMuch}
+use Rattle.fsb_top.specs.FileRead.{IsDumpKind, IsStopped}
 use Rattle.fsb_top.specs.Stopped.{HasReadLong, HasReadLongWhole}
 use Rattle.fsb_top.specs.declared.status.Status.{Status}
 use Rattle.fsb_top.specs.declared.status.Status.TheVariants.{Done, Rejected, BadWords, BadBench, BadDump}
