@@ -16,20 +16,25 @@ use Rattle.fsb_trigger.specs.TriggerSteps.{StepView}
 use Rattle.fsb_wave.specs.WaveText.{wave_text}
 use Rattle.vcd_grammar.specs.Reading.{Reads}
 use Rattle.vcd_grammar.specs.declared.fault.VcdFault.{VcdFault}
-use Rattle.fsb_top.specs.BenchEnds.{FromLook, FromRun, HasFinding, HasLooked, HasRun, HasRunFrom, HasRunOf}
-use Rattle.fsb_top.specs.BenchEnds.{HasTable, HasVerdict}
-use Rattle.fsb_top.specs.BenchEnds.{IsBadBench, IsBadDump, IsBadTable, IsLogged, IsOfAudit, IsOfCheck}
+use Rattle.fsb_calls.specs.FileSays.{FromLook, FromRun, HasFinding, HasLooked}
+use Rattle.fsb_calls.specs.StatusSays.{HasRun}
+use Rattle.fsb_top.specs.BenchEnds.{HasRunFrom, HasRunOf}
+use Rattle.fsb_calls.specs.FileSays.{HasTable, HasVerdict}
+use Rattle.fsb_calls.specs.FileSays.{IsBadBench, IsBadDump, IsBadTable}
+use Rattle.fsb_top.specs.BenchEnds.{IsLogged, IsOfAudit, IsOfCheck}
 use Rattle.fsb_top.specs.BenchEnds.{IsOfFind, IsOfGen}
-use Rattle.fsb_top.specs.BenchEnds.{IsOfRun, IsOfWave, IsPlanOf, IsSilent, IsTold, IsTooLong, IsWritten}
-use Rattle.fsb_top.specs.BenchEnds.{TellsFinding}
-use Rattle.fsb_top.specs.BenchEnds.{TellsMatch, TellsNothing, TellsVerdict, finding_text, match_text}
+use Rattle.fsb_calls.specs.StatusSays.{IsSilent, IsTold}
+use Rattle.fsb_top.specs.BenchEnds.{IsOfRun, IsOfWave, IsPlanOf, IsTooLong, IsWritten}
+use Rattle.fsb_calls.specs.StatusSays.{TellsFinding}
+use Rattle.fsb_calls.specs.StatusSays.{TellsMatch, TellsNothing, TellsVerdict}
+use Rattle.fsb_top.specs.BenchEnds.{finding_text, match_text}
 use Rattle.fsb_top.specs.CallEnds.{DumpCall, HasLookedAt, IsPlayed, IsUntouched, Look}
 use Rattle.fsb_top.specs.CallEnds.{LookEnds, RowEnds, dump_call, audit_look, audit_status, broken_status}
 use Rattle.fsb_top.specs.CallEnds.{check_look, find_look}
 use Rattle.fsb_top.specs.CallEnds.{match_status, show_look, wave_look}
 use Rattle.fsb_calls.specs.Calls.{Call, EndsAs, held, left_of, named_as}
 use Rattle.fsb_top.specs.FileRead.{FileKind, bench_file, dump_in_pieces, whole_dump, IsDumpKind, IsStopped}
-use Rattle.fsb_top.specs.Stopped.{HasBegunNoOther, HasReadSome, HasReadTooLong}
+use Rattle.fsb_calls.specs.FileSays.{HasBegunNoOther, HasReadSome, HasReadTooLong}
 use Rattle.fsb_top.specs.declared.status.Status.{Status}
 use Rattle.fsb_top.specs.declared.status.Status.TheVariants.{Done, BadWords, BadBench, BadDump, ReadFault}
 use Rattle.fsb_top.specs.declared.status.Status.TheVariants.{WriteFault, DumpFault, OutOfMemory, TooLong}

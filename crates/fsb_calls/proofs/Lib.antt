@@ -1,3 +1,4 @@
 mod Clauses
 mod Completed
 mod Promises
+mod Statuses

@@ -1,7 +1,7 @@
 -- What is so of each command that reads a dump in pieces.
 use Rattle.std.proofs.Common.{◌≡◌, ℕ, List, Option, Some, subst}
 use Rattle.fsb_command.specs.Form.{Form, run, check, audit, show, find, wave, gen}
-use Rattle.fsb_top.specs.BenchEnds.{FromLook}
+use Rattle.fsb_calls.specs.FileSays.{FromLook}
 use Rattle.fsb_trigger.specs.TriggerSteps.{StepView}
 use Rattle.fsb_headline.specs.Refusals.{IsReadInPieces}
 

@@ -12,7 +12,7 @@ use Rattle.fsb_io.specs.declared.source.Source.{Ghosts as SourceGhosts}
 use Rattle.fsb_script.specs.Plans.{PlanView}
 use Rattle.fsb_script.specs.declared.fault.ScriptFault.{ScriptFault}
 use Rattle.fsb_signal.specs.declared.sample.Sample.{Sample}
-use Rattle.fsb_top.proofs.Statuses.{audit_as, audit_ends, broken_as, match_as, played_made, played_runs, stopped_look}
+use Rattle.fsb_top.proofs.Statuses.{audit_as, audit_ends, broken_as, match_as, played_made, played_ends, stopped_look}
 use Rattle.fsb_top.proofs.Statuses.{stopped_run, told_as}
 use Rattle.fsb_top.specs.BenchEnds.{IsOfAudit, IsOfCheck, IsOfFind, IsOfGen, IsOfWave, IsTooLong, MayEnd}
 use Rattle.fsb_top.specs.CallEnds.{CallEnds, DumpCall, IsPlayed, Look, LookEnds, RowEnds, audit_look, audit_status}
@@ -32,6 +32,15 @@ pub lacks_early : {S O : Type 0} (source : SourceGhosts S) (out : SinkGhosts O) 
     → CallEnds source out dump was was before before told weights form OutOfMemory
 lacks_early source out dump was before told weights None stays = (inr refl, (refl, refl, stays))
 lacks_early source out dump was before told weights (Some form) stays = inl (refl, (refl, refl, stays))
+
+-- the words have this form, and its row holds
+pub of_form : {S O : Type 0} (source : SourceGhosts S) (out : SinkGhosts O) (dump : DumpCall) (was now : S)
+    (before after : O) (told : PlanView → List (Option Told)) (weights : List (Sample → ℕ)) (words : Option Form)
+    (form : Form) (status : Status) → words ≡ Some form
+    → RowEnds source out dump was now before after told weights form status
+    → CallEnds source out dump was now before after told weights words status
+of_form source out dump was now before after told weights words form status e row =
+    subst (λ (f : Option Form). CallEnds source out dump was now before after told weights f status) (sym e) (inr row)
 
 -- the words are words of no form
 pub no_form : {S O : Type 0} (source : SourceGhosts S) (out : SinkGhosts O) (dump : DumpCall) (was : S) (before : O)
@@ -197,11 +206,11 @@ module _ {S O : Type 0} (source : SourceGhosts S) (out : SinkGhosts O) (dump : D
     stopped_not_dumped source bench was now status stopped.0,
   )
   may_end (run bench None) status (unnamed, inr played) =
-      ((played_runs _ dump None status played.0).1, not_dumped _ dump status played.0)
+      (played_ends _ dump None status played.0, not_dumped _ dump status played.0)
   may_end (run bench (Some name)) status (unnamed, inl stopped) =
       stopped_run source bench was now status stopped.0
   may_end (run bench (Some name)) status (unnamed, inr played) =
-      (played_runs _ dump (Some name) status played.0).1
+      played_ends _ dump (Some name) status played.0
   may_end (check name) status row =
       look_of (check_look name) IsOfCheck status tt (broken_as IsOfCheck tt (λ b. tt)) tt (λ f. tt) tt tt tt row.1
   may_end (audit name) status row =

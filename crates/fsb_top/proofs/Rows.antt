@@ -1,6 +1,8 @@
 -- The row of a run: out of the reading of its bench file, and out of the playing of its plan.
-use Rattle.std.proofs.Common.{◌≡◌, ◌≢◌, ◌++◌, ℕ, IsTrue, List, Option, Some, None, false, inl, inr, is_some, refl, subst}
+use Rattle.std.proofs.Common.{◌≡◌, ◌≢◌, ◌++◌, ℕ, IsTrue, List, Option, Some, None, ap, false, inl, inr, is_some, refl, subst}
 use Rattle.std.proofs.Common.{sym, true}
+use Rattle.fsb_bench_view.specs.BusViews.{BenchView}
+use Rattle.fsb_bench_view.specs.FirstBench.{first_bench}
 use Rattle.fsb_hazard.specs.Told.{Told}
 use Rattle.fsb_io.specs.Appends.{AppendsPart}
 use Rattle.fsb_io.specs.Faults.{Rose}
@@ -71,12 +73,20 @@ module _ {O D : Type 0} (out : SinkGhosts O) (dump : SinkGhosts D) (before after
     }),
   )
 
-  pub plan_played : (played : Played) (status : Status) → status ≡ played_status played
-      → HasPlayed out dump before after first last (text run) (run_dump run) name played
-      → PlanEnds out (dump_call dump first last) before after told plan text name status
-  plan_played played status e h =
-      subst (λ (s : Status). PlanEnds out (dump_call dump first last) before after told plan text name s) (sym e)
-      (played_as played h)
+-- a bench was made of the plan, and played
+pub plan_played : {O D : Type 0} (out : SinkGhosts O) (dump : SinkGhosts D) (before after : O) (first last : D)
+    (told made : List (Option Told)) (plan : PlanView) (text : Run → List ℕ) (name : Option (List ℕ))
+    (fresh stale : BenchView) (played : Played) (status : Status) → status ≡ played_status played
+    → fresh ≡ first_bench plan → made ≡ told → IsRunOf made fresh.run.plan stale.run
+    → HasPlayed out dump before after first last (text stale.run) (run_dump stale.run) name played
+    → PlanEnds out (dump_call dump first last) before after told plan text name status
+plan_played out dump before after first last told made plan text name fresh stale played status e is_first same is_run h =
+    let of_plan : fresh.run.plan ≡ plan = ap (λ (v : BenchView). v.run.plan) is_first in
+    let run_of =
+    subst (λ (p : PlanView). IsRunOf told p stale.run) of_plan
+    (subst (λ (t : List (Option Told)). IsRunOf t fresh.run.plan stale.run) same is_run) in
+    subst (λ (s : Status). PlanEnds out (dump_call dump first last) before after told plan text name s) (sym e)
+    (played_as out dump before after first last told plan text name stale.run run_of played h)
 
 -- the plan of a bench file was run
 pub run_row : {S O : Type 0} (source : SourceGhosts S) (out : SinkGhosts O) (dump : DumpCall) (was now : S)
@@ -90,7 +100,7 @@ run_row source out dump was now before after told bench name plan status is_plan
   inl (
     subst (λ (s : Status). IsStopped source bench_file bench was now s) (sym lacks.0)
         (λ tells. read_within (source.holds was) bench (source.left now) (source.begun_as now) (is_plan tells).read),
-    lacks.1,
+    (lacks.1, lacks.2),
   ),
 )
 run_row source out dump was now before after told bench name plan status is_plan (unnamed, inr played) =
@@ -103,7 +113,7 @@ pub gen_row : {O : Type 0} (out : SinkGhosts O) (dump : DumpCall) (before after 
     → PlanEnds out dump before after (told plan) plan (run_summary seed agents items) None status
     → GenEnds out dump before after told seed agents items status
 gen_row out dump before after told seed agents items plan status made (unnamed, inl lacks) =
-    (unnamed refl, inl (lacks.0, lacks.1.0))
+    (unnamed refl, inl (lacks.0, lacks.1))
 gen_row out dump before after told seed agents items plan status made (unnamed, inr played) = (
   unnamed refl,
   inr (

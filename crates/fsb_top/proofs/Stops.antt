@@ -10,8 +10,13 @@ use Rattle.fsb_show.specs.declared.stop.ShowStop.TheVariants as shows
 use Rattle.fsb_watch.specs.Watched.{HasBegun, IsBegunOrStays, IsReadAs}
 use Rattle.fsb_watch.specs.declared.stop.DumpStop.{DumpStop}
 use Rattle.fsb_watch.specs.declared.stop.DumpStop.TheVariants as dumps
-use Rattle.fsb_top.specs.FileRead.{HasReadAll, HasReadAtMost, IsStopped, bench_file, dump_in_pieces, whole_dump}
-use Rattle.fsb_top.specs.StopStatus.{dump_status, show_status}
+use Rattle.fsb_script.specs.Drafts.{FirstBad}
+use Rattle.fsb_script.specs.declared.fault.ScriptFault.{ScriptFault}
+use Rattle.fsb_top.specs.FileRead.{HasReadAll, HasReadAtMost, HasReadPast, IsStopped, bench_file, dump_in_pieces}
+use Rattle.fsb_top.specs.FileRead.{whole_dump}
+use Rattle.fsb_top.specs.declared.read.Refusal.{Refusal}
+use Rattle.fsb_top.specs.declared.read.Refusal.TheVariants as refusals
+use Rattle.fsb_top.specs.StopStatus.{dump_status, refusal_status, show_status}
 use Rattle.fsb_top.specs.declared.status.Status.{Status}
 
 module _ {S : Type 0} (source : Ghosts S) (name : List ℕ) (was now : S) where
@@ -84,6 +89,33 @@ module _ {S : Type 0} (source : Ghosts S) (name : List ℕ) (was now : S) where
   stopped_whole is_as stop status e read named begun rose =
       subst (λ (s : Status). IsStopped source whole_dump name was now s) (sym e)
       (by_whole is_as stop read named begun rose)
+
+module _ {S : Type 0} (source : Ghosts S) (name : List ℕ) (was now : S) where
+  -- what the reading of a bench file says of a refusal
+  pub record HasRefused (refusal : Refusal) : Type 0 where
+    pub bad : IsTrue source.tells → (fault : ScriptFault) → refusal ≡ refusals.Bad fault
+        → FirstBad (source.holds was) fault
+    pub bad_whole : IsTrue source.tells → (fault : ScriptFault) → refusal ≡ refusals.Bad fault
+        → HasReadAll bench_file name (source.holds was) (source.left now) (source.begun_as now)
+    pub long_read : IsTrue source.tells → refusal ≡ refusals.TooLong
+        → HasReadPast 4194304 name (source.holds was) (source.left now) (source.begun_as now)
+    pub memory_read : IsTrue source.tells → refusal ≡ refusals.Memory
+        → HasReadAtMost 4194304 name (source.holds was) (source.left now) (source.begun_as now)
+    pub not_read : IsTrue source.tells → refusal ≡ refusals.ReadFault
+        → IsBegunOrStays name (source.begun_as was) (source.begun_as now) (source.left was) (source.left now)
+    pub read_fault : refusal ≡ refusals.ReadFault → Rose (source.faults was) (source.faults now)
+
+  by_refusal : (refusal : Refusal) → HasRefused refusal
+      → IsStopped source bench_file name was now (refusal_status refusal)
+  by_refusal (refusals.Bad fault) h = (refl, λ tells. (h.bad_whole tells fault refl, h.bad tells fault refl))
+  by_refusal refusals.ReadFault h = (h.read_fault refl, λ tells. h.not_read tells refl)
+  by_refusal refusals.TooLong h = λ tells. inl (h.long_read tells refl)
+  by_refusal refusals.Memory h = λ tells. h.memory_read tells refl
+
+  pub stopped_bench : (refusal : Refusal) (status : Status) → status ≡ refusal_status refusal → HasRefused refusal
+      → IsStopped source bench_file name was now status
+  stopped_bench refusal status e h =
+      subst (λ (s : Status). IsStopped source bench_file name was now s) (sym e) (by_refusal refusal h)
 
 -- a bench file that was read whole was read to at most the limit
 pub read_within : (held name left : List ℕ) (begun_as : Option (List ℕ)) → HasReadAll bench_file name held left begun_as

@@ -3,5 +3,4 @@ pub mod CallEnds
 pub mod Complete
 pub mod FileRead
 pub mod StatusText
-pub mod Stopped
 pub mod StopStatus

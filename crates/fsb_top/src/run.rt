@@ -36,7 +36,7 @@ pub fn run_file<S: Source, O: Sink, D: Sink>(
 {
     match read_plan(alloc, bench, source) {
         Ok(plan) => run_plan(alloc, plan, name, out, dump, hazards),
-        Err(status) => status,
+        Err(refusal) => Status::from(refusal),
     }
 }
 

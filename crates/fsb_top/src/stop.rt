@@ -2,39 +2,25 @@
 ghost use Rattle.std.specs.Prelude.{◌≡◌};
 ghost use Rattle.fsb_top.specs.CallEnds.{broken_status};
 
+use crate::read::Refusal;
 use crate::status::Status;
-use fsb_io::ReadStop;
 use fsb_play::Played;
 use fsb_rules::Broken;
-use fsb_script::ScriptStop;
 use fsb_show::ShowStop;
 use fsb_watch::DumpStop;
 
-impl From<ReadStop> for Status {
+impl From<Refusal> for Status {
     ghost use Rattle.std.specs.Prelude.{◌≡◌};
-    ghost use Rattle.fsb_top.specs.StopStatus.{read_status};
+    ghost use Rattle.fsb_top.specs.StopStatus.{refusal_status};
 
-    ghost from_gives = { λ stop status. status ≡ read_status stop };
+    ghost from_gives = { λ refusal status. status ≡ refusal_status refusal };
 
-    fn from(stop: ReadStop) -> Status {
-        match stop {
-            ReadStop::ReadFault => Status::ReadFault,
-            ReadStop::TooLong => Status::TooLong,
-            ReadStop::Memory => Status::OutOfMemory,
-        }
-    }
-}
-
-impl From<ScriptStop> for Status {
-    ghost use Rattle.std.specs.Prelude.{◌≡◌};
-    ghost use Rattle.fsb_top.specs.StopStatus.{bench_status};
-
-    ghost from_gives = { λ stop status. status ≡ bench_status stop };
-
-    fn from(stop: ScriptStop) -> Status {
-        match stop {
-            ScriptStop::Bad(fault) => Status::BadBench(fault),
-            ScriptStop::Memory => Status::OutOfMemory,
+    fn from(refusal: Refusal) -> Status {
+        match refusal {
+            Refusal::Bad(fault) => Status::BadBench(fault),
+            Refusal::ReadFault => Status::ReadFault,
+            Refusal::TooLong => Status::TooLong,
+            Refusal::Memory => Status::OutOfMemory,
         }
     }
 }

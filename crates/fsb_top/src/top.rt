@@ -59,12 +59,12 @@ pub fn bench<S: Source, O: Sink, D: Sink>(
     ensures log_name { IsTrue O.tells → O.begun_as out.new ≡ O.begun_as out.old }
 {
     files_have_one_answer();
-    let Ok(command) = read_words(alloc, words) else {
-        return Status::OutOfMemory;
-    };
-    match command {
-        None => Status::BadWords,
-        Some(command) => carry_out(alloc, command, source, out, dump, hazards, probes),
+    match read_words(alloc, words) {
+        Err(_) => Status::OutOfMemory,
+        Ok(command) => match command {
+            None => Status::BadWords,
+            Some(command) => carry_out(alloc, command, source, out, dump, hazards, probes),
+        },
     }
 }
 
@@ -83,7 +83,7 @@ pub fn carry_out<S: Source, O: Sink, D: Sink>(
     ensures ends { RowEnds S.Source O.Sink (dump_call D.Sink dump.old dump.new)
         source.old source.new out.old out.new
         (λ plan. map (λ h. told_after (is_scripted h) plan.hazards (told h)) hazards.items)
-        (map (λ p. weight p) probes.items) (form_meant command) result }
+        (map (λ p. weight p) probes.items) (form_meant command.entry) result }
     ensures holds_stays { IsTrue S.tells → S.holds source.new ≡ S.holds source.old }
     ensures log_name { IsTrue O.tells → O.begun_as out.new ≡ O.begun_as out.old }
 {

@@ -1,6 +1,6 @@
 use Rattle.std.proofs.Common.{◌∙◌, subst, sym}
 use Rattle.fsb_headline.proofs.Decided.{by-finding, by-match, by-verdict}
-use Rattle.fsb_top.specs.BenchEnds.{TellsFinding, TellsMatch, TellsVerdict}
+use Rattle.fsb_calls.specs.StatusSays.{TellsFinding, TellsMatch, TellsVerdict}
 use Rattle.fsb_headline.proofs.laws.files_decide_the_status.Goals as goal
 
 pub returns-clause-check : goal.returns-clause-check

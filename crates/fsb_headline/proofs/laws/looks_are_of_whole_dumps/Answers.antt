@@ -3,7 +3,7 @@ use Rattle.fsb_calls.specs.Calls.{held, left_of, named_as}
 use Rattle.fsb_headline.proofs.InPieces.{by-command}
 use Rattle.fsb_headline.proofs.WholeDumps.{audited, judged, looked, tabled}
 use Rattle.fsb_headline.specs.Refusals.{WasReadWhole}
-use Rattle.fsb_top.specs.BenchEnds.{TellsMatch, TellsNothing}
+use Rattle.fsb_calls.specs.StatusSays.{TellsMatch, TellsNothing}
 use Rattle.fsb_top.specs.Complete.{IsDumpWithin}
 use Rattle.fsb_headline.proofs.laws.looks_are_of_whole_dumps.Goals as goal
 

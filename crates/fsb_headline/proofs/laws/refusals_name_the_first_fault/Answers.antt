@@ -2,7 +2,7 @@ use Rattle.std.proofs.Common.{subst}
 use Rattle.fsb_calls.specs.Calls.{held, left_of, named_as}
 use Rattle.fsb_headline.proofs.InPieces.{pieces-of}
 use Rattle.fsb_headline.proofs.Refused.{bad-bench, bad-dump, bad-table}
-use Rattle.fsb_top.specs.BenchEnds.{FromLook, FromRun, IsBadBench, IsBadDump, IsBadTable}
+use Rattle.fsb_calls.specs.FileSays.{FromLook, FromRun, IsBadBench, IsBadDump, IsBadTable}
 use Rattle.fsb_headline.proofs.laws.refusals_name_the_first_fault.Goals as goal
 
 pub returns-clause-bench : goal.returns-clause-bench

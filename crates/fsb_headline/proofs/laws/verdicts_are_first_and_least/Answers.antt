@@ -1,7 +1,8 @@
 use Rattle.std.proofs.Common.{subst, sym}
 use Rattle.fsb_calls.specs.Calls.{held, left_of, named_as}
 use Rattle.fsb_headline.proofs.Verdicts.{accepted, accepted-table, not-both, rejected, rejected-table}
-use Rattle.fsb_top.specs.BenchEnds.{HasRun, HasTable, HasVerdict}
+use Rattle.fsb_calls.specs.FileSays.{HasTable, HasVerdict}
+use Rattle.fsb_calls.specs.StatusSays.{HasRun}
 use Rattle.fsb_headline.proofs.laws.verdicts_are_first_and_least.Goals as goal
 
 pub returns-clause-accepted : goal.returns-clause-accepted

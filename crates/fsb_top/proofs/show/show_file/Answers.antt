@@ -1,4 +1,5 @@
 use Rattle.std.proofs.Common.{inl, inr, map, refl, subst}
+use Rattle.fsb_show.specs.Showing.{IsShown}
 use Rattle.fsb_top.proofs.Stops.{stopped_whole}
 use Rattle.fsb_top.proofs.Tables.{shown_text}
 use Rattle.fsb_top.specs.BenchEnds.{IsWritten}
@@ -28,7 +29,9 @@ returns-in-Ok-clause-ends g c = inr (record {
 pub returns-in-Err-clause-ends : goal.returns-in-Err-clause-ends
 returns-in-Err-clause-ends g c =
     inl (
-      stopped_whole g.S.Source c.args.name.now c.args.source.now c.show_dump.new.source _ c.in-Err.stop
+      stopped_whole g.S.Source c.args.name.now c.args.source.now c.show_dump.new.source
+          (IsShown (map (λ b. (goal.Probe-dyn g (b.vtable, b.value)).weight b.value) c.args.probes.now)
+          (map (λ b. (goal.Probe-dyn g (b.vtable, b.value)).counted b.value) c.show_dump.new.probes)) c.in-Err.stop
           c.from.result c.from.ensures c.in-Err.ensures.shown c.in-Err.ensures.named
           (λ tells is. c.in-Err.ensures.not_read tells (cc)) (λ is. c.in-Err.ensures.read_fault (cc)),
       refl,
