@@ -1,6 +1,8 @@
 -- What is left of a call once the end of the dump is handed on.
 use Rattle.std.proofs.Common.{◌≡◌, ◌≢◌, ◌≤◌, ◌⊎◌, ◌++◌, inl, inr, ⊎_elim, ℕ, List, [], Option, Some, None, refl, sym}
-use Rattle.std.proofs.Common.{subst, ap, ◌∙◌, arith}
+use Rattle.std.proofs.Common.{subst, ap, ◌∙◌, arith, Bool, false, is_some, true, Result, Ok}
+use Rattle.std.specs.Prelude.{IfOk}
+use Rattle.fsb_io.specs.declared.refusal.Memory.{Memory}
 use Rattle.std.proofs.lemmas.List.{append-nil, append_assoc}
 use Rattle.fsb_gather.specs.GatherView.{GatherView}
 use Rattle.fsb_gather.specs.HandsOn.{HandsOn}
@@ -323,7 +325,7 @@ module _ {S O : Type 0} (source : SourceGhosts S) (out : SinkGhosts O) (up down 
   row_below weights same (gen seed agents items) e row = (row.0, made_below seed agents items row.1)
 
 -- no command ends as words of no form do
-pub has_form : (form : Form) → MayEnd (Some form) BadWords → ⊥
+has_form : (form : Form) → MayEnd (Some form) BadWords → ⊥
 has_form (run bench None) ends = ends.0
 has_form (run bench (Some dump)) ends = ends
 has_form (check dump) ends = ends
@@ -334,12 +336,36 @@ has_form (wave dump from to) ends = ends
 has_form (gen seed agents items) ends = ends
 
 -- a call that writes a dump may end with a fault of it
-pub may_fault : (form : Form) (name : List ℕ) → name_written form ≡ Some name → MayEnd (Some form) DumpFault
-may_fault (run bench None) name e = let no : ⊥ = cc in absurd no
-may_fault (run bench (Some dump)) name e = tt
-may_fault (check dump) name e = let no : ⊥ = cc in absurd no
-may_fault (audit dump) name e = let no : ⊥ = cc in absurd no
-may_fault (show dump) name e = let no : ⊥ = cc in absurd no
-may_fault (find dump steps) name e = let no : ⊥ = cc in absurd no
-may_fault (wave dump from to) name e = let no : ⊥ = cc in absurd no
-may_fault (gen seed agents items) name e = let no : ⊥ = cc in absurd no
+may_fault : (form : Form) → is_some (name_written form) ≡ true → MayEnd (Some form) DumpFault
+may_fault (run bench None) e = let no : ⊥ = cc in absurd no
+may_fault (run bench (Some dump)) e = tt
+may_fault (check dump) e = let no : ⊥ = cc in absurd no
+may_fault (audit dump) e = let no : ⊥ = cc in absurd no
+may_fault (show dump) e = let no : ⊥ = cc in absurd no
+may_fault (find dump steps) e = let no : ⊥ = cc in absurd no
+may_fault (wave dump from to) e = let no : ⊥ = cc in absurd no
+may_fault (gen seed agents items) e = let no : ⊥ = cc in absurd no
+
+-- a call whose dump was stored, or refused, ends as one of its form may
+pub may_end_kept : (form : Form) (called status : Status) (named : Bool) → named ≡ is_some (name_written form)
+    → (named ≡ false → status ≡ called) → Ends called status → MayEnd (Some form) called
+    → MayEnd (Some form) status
+may_end_kept form called status named is unnamed (inl same) may =
+    subst (λ (s : Status). MayEnd (Some form) s) (sym same) may
+may_end_kept form called status false is unnamed (inr lost) may =
+    subst (λ (s : Status). MayEnd (Some form) s) (sym (unnamed refl)) may
+may_end_kept form called status true is unnamed (inr lost) may =
+    subst (λ (s : Status). MayEnd (Some form) s) (sym lost.1) (may_fault form (sym is))
+
+-- how a call with words of a form ends
+pub may_end_words : (words : Option Form) (form : Form) (result : Result Status Memory) → words ≡ Some form
+    → IfOk result (λ status. MayEnd (Some form) status) → IfOk result (λ status. MayEnd words status)
+may_end_words words form result e may =
+    subst (λ (w : Option Form). IfOk result (λ status. MayEnd w status)) (sym e) may
+
+pub no_words_of_form : (words : Option Form) (form : Form) (result : Result Status Memory)
+    → IfOk result (λ status. MayEnd (Some form) status) → result ≡ Ok BadWords → words ≡ None
+no_words_of_form words form result may e =
+    let ends : MayEnd (Some form) BadWords =
+    subst (λ (r : Result Status Memory). IfOk r (λ status. MayEnd (Some form) status)) e may in
+    absurd (has_form form ends)

@@ -1,7 +1,7 @@
 //! The program `p6bench`: the real files and standard output under the top call.
 #![tactic(auto)]
 
-ghost use Rattle.std.specs.Prelude.{◌≡◌, ◌≢◌, ◌≤◌, ◌⊎◌, ◌++◌, [], Some, None, Ok, Err, IfErr, IfOk, IsTrue, OnErr, OnOk, codes, drop, map};
+ghost use Rattle.std.specs.Prelude.{◌≡◌, ◌≢◌, ◌≤◌, ◌⊎◌, ◌++◌, [], Some, None, Ok, Err, IfErr, IfOk, IsTrue, OnErr, OnOk, codes, drop, false, is_some, map};
 ghost use Rattle.std.specs.IoError.{error_kind};
 ghost use Rattle.std.specs.Option.{option_map};
 ghost use Rattle.std.specs.Process.{exit_status};
@@ -64,9 +64,12 @@ fn call(rt: &(impl Files + Print + AllocGlobal), words: &Words) -> Result<Status
     ensures bad_words { result ≡ Ok Status.BadWords → form_of words.now ≡ None }
     ensures ends { IfOk result (λ status. MayEnd (form_of words.now) status) }
 {
-    match read_words(rt.alloc(), words)? {
-        None => Ok(Status::BadWords),
-        Some(command) => obey(rt, command),
+    match read_words(rt.alloc(), words) {
+        Err(memory) => Err(memory),
+        Ok(command) => match command {
+            None => Ok(Status::BadWords),
+            Some(command) => obey(rt, command),
+        },
     }
 }
 
@@ -78,7 +81,7 @@ fn obey(
     command: Command<'_>,
 ) -> Result<Status, Memory>
     requires { KeepsLimits (form_meant command) }
-    ensures { IfOk result (λ status. MayEnd (Some (form_meant command)) status) }
+    ensures { IfOk result (λ status. MayEnd (Some (form_meant command.entry)) status) }
 {
     let alloc = rt.alloc();
     let mut hazards: Vec<Box<dyn Hazard>> = Vec::new(alloc);
@@ -87,7 +90,7 @@ fn obey(
     probes.push(Box::new(alloc, LineProbe::new(ADS))?)?;
     probes.push(Box::new(alloc, LineProbe::new(DRDY))?)?;
     probes.push(Box::new(alloc, DataProbe::new())?)?;
-    let names_dump = file_written(&command).is_some();
+    let names_dump = names_dump(&command);
     let mut source = FileSource::new(rt);
     let mut out = StdoutSink::new(rt);
     let mut dump = Gather::new(alloc, FileSink::new(rt, file_read(&command)))?;
@@ -100,13 +103,29 @@ fn obey(
         hazards,
         probes,
     );
-    Ok(match status {
-        Status::Done if names_dump => {
+    Ok(kept(status, names_dump, dump))
+}
+
+// The end of a call that may have named a dump: where it was done, the system is asked to store the dump.
+fn kept<R: Files + Print>(
+    status: Status,
+    names_dump: bool,
+    dump: Gather<FileSink<'_, R>>,
+) -> Status
+    ensures unnamed { names_dump ≡ false → result ≡ status }
+    ensures ends { (result ≡ status)
+        ⊎ ((status ≡ Status.Done) × (result ≡ Status.DumpFault)) }
+{
+    if !names_dump {
+        return status;
+    }
+    match status {
+        Status::Done => {
             let mut file = dump.into_sink();
             stored(file.store())
         }
         other => other,
-    })
+    }
 }
 
 // The name of the file that a command reads, where it reads one.
@@ -124,13 +143,18 @@ fn file_read<'a>(command: &Command<'a>) -> Option<&'a str>
     }
 }
 
-// The name of the dump that a command writes, where it writes one.
-fn file_written<'a>(command: &Command<'a>) -> Option<&'a str>
-    ensures { option_map (λ name. name.now) result ≡ name_written (form_meant command.now) }
+// Whether a command names a dump to be written.
+fn names_dump(command: &Command<'_>) -> bool
+    ensures { result ≡ is_some (name_written (form_meant command.now)) }
 {
     match command {
-        Command::Run { dump, .. } => *dump,
-        _ => None,
+        Command::Run { dump, .. } => dump.is_some(),
+        Command::Check { .. } => false,
+        Command::Audit { .. } => false,
+        Command::Show { .. } => false,
+        Command::Find { .. } => false,
+        Command::Wave { .. } => false,
+        Command::Gen { .. } => false,
     }
 }
 
@@ -165,7 +189,7 @@ fn perform<S: Source, O: Sink, D: Sink>(
     requires fresh { dump.old.gathered ≡ [] }
     requires unfailed { D.faults dump.old.sink ≡ 0 }
     ensures ends { RowEnds S.Source O.Sink (dump_below D.Sink dump.old dump.new)
-        source.old source.new out.old out.new told_of weights (form_meant command) result }
+        source.old source.new out.old out.new told_of weights (form_meant command.entry) result }
     ensures holds_stays { IsTrue S.tells → S.holds source.new ≡ S.holds source.old }
     ensures log_name { IsTrue O.tells → O.begun_as out.new ≡ O.begun_as out.old }
     ensures handed_on { result ≡ Status.Done → dump.new.gathered ≡ [] }
