@@ -16,28 +16,33 @@ use Rattle.fsb_trigger.specs.TriggerSteps.{StepView}
 use Rattle.fsb_wave.specs.WaveText.{wave_text}
 use Rattle.vcd_grammar.specs.Reading.{Reads}
 use Rattle.vcd_grammar.specs.declared.fault.VcdFault.{VcdFault}
-use Rattle.fsb_top.specs.BenchEnds.{FromLook, FromRun, HasFinding, HasLooked, HasRun, HasRunFrom, HasRunOf}
-use Rattle.fsb_top.specs.BenchEnds.{HasTable, HasVerdict}
-use Rattle.fsb_top.specs.BenchEnds.{IsBadBench, IsBadDump, IsBadTable, IsLogged, IsOfAudit, IsOfCheck}
+use Rattle.fsb_calls.specs.FileSays.{FromLook, FromRun, HasFinding, HasLooked}
+use Rattle.fsb_calls.specs.StatusSays.{HasRun}
+use Rattle.fsb_top.specs.BenchEnds.{HasRunFrom, HasRunOf}
+use Rattle.fsb_calls.specs.FileSays.{HasTable, HasVerdict}
+use Rattle.fsb_calls.specs.FileSays.{IsBadBench, IsBadDump, IsBadTable}
+use Rattle.fsb_top.specs.BenchEnds.{IsLogged, IsOfAudit, IsOfCheck}
 use Rattle.fsb_top.specs.BenchEnds.{IsOfFind, IsOfGen}
-use Rattle.fsb_top.specs.BenchEnds.{IsOfRun, IsOfWave, IsPlanOf, IsSilent, IsTold, IsTooLong, IsWritten}
-use Rattle.fsb_top.specs.BenchEnds.{TellsFinding}
-use Rattle.fsb_top.specs.BenchEnds.{TellsMatch, TellsNothing, TellsVerdict, finding_text, match_text}
-use Rattle.fsb_calls.specs.CallEnds.{DumpCall, HasLookedAt, IsPlayed, IsUntouched, Look}
-use Rattle.fsb_calls.specs.CallEnds.{LookEnds, RowEnds, dump_call, audit_look, audit_status, broken_status}
-use Rattle.fsb_calls.specs.CallEnds.{check_look, find_look}
-use Rattle.fsb_calls.specs.CallEnds.{match_status, show_look, wave_look}
+use Rattle.fsb_calls.specs.StatusSays.{IsSilent, IsTold}
+use Rattle.fsb_top.specs.BenchEnds.{IsOfRun, IsOfWave, IsPlanOf, IsTooLong, IsWritten}
+use Rattle.fsb_calls.specs.StatusSays.{TellsFinding}
+use Rattle.fsb_calls.specs.StatusSays.{TellsMatch, TellsNothing, TellsVerdict}
+use Rattle.fsb_top.specs.BenchEnds.{finding_text, match_text}
+use Rattle.fsb_top.specs.CallEnds.{DumpCall, HasLookedAt, IsPlayed, IsUntouched, Look}
+use Rattle.fsb_top.specs.CallEnds.{LookEnds, RowEnds, dump_call, audit_look, audit_status, broken_status}
+use Rattle.fsb_top.specs.CallEnds.{check_look, find_look}
+use Rattle.fsb_top.specs.CallEnds.{match_status, show_look, wave_look}
 use Rattle.fsb_calls.specs.Calls.{Call, EndsAs, held, left_of, named_as}
-use Rattle.fsb_calls.specs.FileRead.{FileKind, bench_file, dump_in_pieces, whole_dump, IsDumpKind, IsStopped}
-use Rattle.fsb_top.specs.Stopped.{HasBegunNoOther, HasReadSome, HasReadTooLong}
+use Rattle.fsb_top.specs.FileRead.{FileKind, bench_file, dump_in_pieces, whole_dump, IsDumpKind, IsStopped}
+use Rattle.fsb_calls.specs.FileSays.{HasBegunNoOther, HasReadSome, HasReadTooLong}
 use Rattle.fsb_top.specs.declared.status.Status.{Status}
 use Rattle.fsb_top.specs.declared.status.Status.TheVariants.{Done, BadWords, BadBench, BadDump, ReadFault}
 use Rattle.fsb_top.specs.declared.status.Status.TheVariants.{WriteFault, DumpFault, OutOfMemory, TooLong}
-use Rattle.fsb_calls.proofs.Statuses.{audit_as, audit_dumps, audit_ends, audit_writes, broken_as, broken_runs}
-use Rattle.fsb_calls.proofs.Statuses.{found_runs, long_pieces, long_whole, match_as, match_runs, played_made}
-use Rattle.fsb_calls.proofs.Statuses.{played_runs, run_is_not_silent, stopped_look, stopped_run}
-use Rattle.fsb_calls.proofs.Statuses.{stopped_silent, tells_broken, tells_found, tells_match, told_as}
-use Rattle.fsb_calls.proofs.Statuses.{told_line, unwritten}
+use Rattle.fsb_top.proofs.Statuses.{audit_as, audit_dumps, audit_ends, audit_writes, broken_as, broken_runs}
+use Rattle.fsb_top.proofs.Statuses.{found_runs, long_pieces, long_whole, match_as, match_runs, played_made}
+use Rattle.fsb_top.proofs.Statuses.{played_runs, run_is_not_silent, stopped_look, stopped_run}
+use Rattle.fsb_top.proofs.Statuses.{stopped_silent, tells_broken, tells_found, tells_match, told_as}
+use Rattle.fsb_top.proofs.Statuses.{told_line, unwritten}
 
 module _ {S O D : Type 0} {source : SourceGhosts S} {out : SinkGhosts O}
     {dump : SinkGhosts D} (call : Call source out dump) where

@@ -5,7 +5,8 @@ use Rattle.fsb_io.specs.Faults.{Rose}
 use Rattle.fsb_io.specs.declared.sink.Sink.{Ghosts as SinkGhosts}
 use Rattle.fsb_io.specs.declared.source.Source.{Ghosts as SourceGhosts}
 use Rattle.fsb_script.specs.declared.fault.ScriptFault.{ScriptFault}
-use Rattle.fsb_top.specs.BenchEnds.{FromLook, FromRun, IsBadBench, IsBadDump, IsBadTable, IsTooLong}
+use Rattle.fsb_calls.specs.FileSays.{FromLook, FromRun, IsBadBench, IsBadDump, IsBadTable}
+use Rattle.fsb_top.specs.BenchEnds.{IsTooLong}
 use Rattle.fsb_top.specs.Complete.{IsComplete, IsFaulty, IsReadable}
 use Rattle.fsb_top.specs.declared.status.Status.{Status}
 use Rattle.fsb_top.specs.declared.status.Status.TheVariants.{Done, Rejected, BadWords, BadBench, BadDump}

@@ -1,5 +1,4 @@
 mod Clauses
 mod Completed
-mod Converse
 mod Promises
 mod Statuses

@@ -10,12 +10,18 @@ use Rattle.fsb_script.specs.declared.fault.ScriptFault.{ScriptFault}
 use Rattle.fsb_show.specs.ShowText.{show_text}
 use Rattle.fsb_signal.specs.declared.marks.Marks.{Marks}
 use Rattle.fsb_signal.specs.declared.sample.Sample.{Sample}
-use Rattle.fsb_top.specs.BenchEnds.{FromLook, FromRun, HasFinding, HasLooked, HasRun, HasRunFrom}
-use Rattle.fsb_top.specs.BenchEnds.{HasRunOf, HasTable, HasVerdict, IsBadBench, IsBadDump}
-use Rattle.fsb_top.specs.BenchEnds.{IsBadTable, IsDumped, IsLogged, IsOfAudit, IsOfCheck, IsOfFind}
-use Rattle.fsb_top.specs.BenchEnds.{IsOfGen, IsOfRun, IsOfWave, IsPlanOf, IsSilent, IsTold, IsTooLong}
-use Rattle.fsb_top.specs.BenchEnds.{IsWritten, TellsMatch, TellsNothing, finding_text, match_text}
-use Rattle.fsb_top.specs.Stopped.{HasBegunNoOther, HasReadSome, HasReadTooLong}
+use Rattle.fsb_calls.specs.FileSays.{FromLook, FromRun, HasFinding, HasLooked}
+use Rattle.fsb_calls.specs.StatusSays.{HasRun}
+use Rattle.fsb_top.specs.BenchEnds.{HasRunFrom}
+use Rattle.fsb_calls.specs.FileSays.{HasTable, HasVerdict, IsBadBench, IsBadDump}
+use Rattle.fsb_top.specs.BenchEnds.{HasRunOf}
+use Rattle.fsb_calls.specs.FileSays.{IsBadTable}
+use Rattle.fsb_top.specs.BenchEnds.{IsDumped, IsLogged, IsOfAudit, IsOfCheck, IsOfFind}
+use Rattle.fsb_calls.specs.StatusSays.{IsSilent, IsTold}
+use Rattle.fsb_top.specs.BenchEnds.{IsOfGen, IsOfRun, IsOfWave, IsPlanOf, IsTooLong}
+use Rattle.fsb_calls.specs.StatusSays.{TellsMatch, TellsNothing}
+use Rattle.fsb_top.specs.BenchEnds.{IsWritten, finding_text, match_text}
+use Rattle.fsb_calls.specs.FileSays.{HasBegunNoOther, HasReadSome, HasReadTooLong}
 use Rattle.fsb_top.specs.declared.status.Status.{Status}
 use Rattle.fsb_top.specs.declared.status.Status.TheVariants.{BadWords, BadBench, BadDump, ReadFault}
 use Rattle.fsb_top.specs.declared.status.Status.TheVariants.{WriteFault, DumpFault, OutOfMemory}

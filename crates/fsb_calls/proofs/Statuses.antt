@@ -1,12 +1,10 @@
 -- What the statuses of a call say by themselves: which are behind a run, which behind what stopped it, and what they tell.
-use Rattle.std.proofs.Common.{◌≡◌, ◌≢◌, ◌-◌, ℕ, IsTrue, List, Option, Some, None, Result, Ok, Err}
-use Rattle.std.proofs.Common.{inl, inr, is_some, refl, subst, sym, true}
+use Rattle.std.proofs.Common.{◌≡◌, ◌≢◌, ℕ, IsTrue, List, Option, Some, None, Result, Ok, Err, is_some, refl, subst, sym}
+use Rattle.std.proofs.Common.{true}
 use Rattle.fsb_audit.specs.declared.finding.Finding.{Finding}
 use Rattle.fsb_audit.specs.declared.finding.Finding.TheVariants as findings
 use Rattle.fsb_audit.specs.Fouls.{finding_of}
 use Rattle.fsb_audit_dump.specs.Audited.{audited_as}
-use Rattle.fsb_command.specs.Form.{run}
-use Rattle.fsb_io.specs.declared.sink.Sink.{Ghosts as SinkGhosts}
 use Rattle.fsb_io.specs.declared.source.Source.{Ghosts as SourceGhosts}
 use Rattle.fsb_report.specs.VerdictText.{trace_text}
 use Rattle.fsb_rules.specs.Checker.{as_broken}
@@ -17,23 +15,15 @@ use Rattle.fsb_signal.specs.declared.sample.Sample.{Sample}
 use Rattle.fsb_trace.specs.Verdict.{verdict}
 use Rattle.fsb_trigger.specs.Match.{least_match}
 use Rattle.fsb_trigger.specs.TriggerSteps.{StepView}
-use Rattle.vcd_grammar.specs.declared.fault.VcdFault.{VcdFault}
-use Rattle.fsb_top.specs.BenchEnds.{HasRun}
-use Rattle.fsb_top.specs.BenchEnds.{IsOfAudit, IsOfGen}
-use Rattle.fsb_top.specs.BenchEnds.{IsOfRun, IsSilent, IsTold, IsWritten, TellsFinding}
-use Rattle.fsb_top.specs.BenchEnds.{TellsMatch, TellsVerdict}
-use Rattle.fsb_calls.specs.CallEnds.{DumpCall, EndsTold, IsPlayed}
-use Rattle.fsb_calls.specs.CallEnds.{audit_status, broken_status}
-use Rattle.fsb_calls.specs.CallEnds.{match_status}
-use Rattle.fsb_calls.specs.FileRead.{FileKind, bench_file, dump_in_pieces, whole_dump, HasReadTooMuch}
-use Rattle.fsb_calls.specs.FileRead.{IsDumpKind, IsStopped}
-use Rattle.fsb_top.specs.Stopped.{HasReadLong, HasReadLongWhole}
+use Rattle.fsb_top.proofs.Statuses.{audit_as, broken_as, match_as}
+use Rattle.fsb_top.specs.BenchEnds.{IsWritten}
+use Rattle.fsb_top.specs.CallEnds.{DumpCall, IsPlayed, audit_status, broken_status, match_status}
+use Rattle.fsb_top.specs.FileRead.{FileKind, IsStopped}
 use Rattle.fsb_top.specs.declared.status.Status.{Status}
 use Rattle.fsb_top.specs.declared.status.Status.TheVariants.{Done, Rejected, BadWords, BadBench, BadDump}
 use Rattle.fsb_top.specs.declared.status.Status.TheVariants.{ReadFault, WriteFault, DumpFault, OutOfMemory}
 use Rattle.fsb_top.specs.declared.status.Status.TheVariants.{TooLong, Foul, NotFound}
-
--- ---- by status
+use Rattle.fsb_calls.specs.StatusSays.{HasRun, IsSilent, IsTold, TellsFinding, TellsMatch, TellsVerdict}
 
 -- no call both was stopped and came to what it is for
 pub run_is_not_silent : (status : Status) → HasRun status → IsSilent status → ⊥
@@ -50,35 +40,9 @@ run_is_not_silent TooLong runs silent = runs
 run_is_not_silent (Foul foul) runs silent = silent
 run_is_not_silent NotFound runs silent = silent
 
--- of what is found, a property of its status; of the sink that failed, of that
-pub told_as : {O : Type 0} (out : SinkGhosts O) (before after : O) (Of : Status → Type 0) (told status : Status)
-    → Of told
-    → Of WriteFault → EndsTold out before after told status → Of status
-told_as out before after Of told status is fails (inl same) = subst Of (sym same) is
-told_as out before after Of told status is fails (inr failed) = subst Of (sym failed.0) fails
-
-pub broken_as : (Of : Status → Type 0) → Of Done → ((b : Broken) → Of (Rejected b)) → (found : Option Broken)
-    → Of (broken_status found)
-broken_as Of done rejected None = done
-broken_as Of done rejected (Some broken) = rejected broken
-
-pub audit_as : (Of : Status → Type 0) → Of Done → ((f : Finding) → Of (audit_status (Err f)))
-    → (found : Result ℕ Finding)
-    → Of (audit_status found)
-audit_as Of done bad (Ok chunks) = done
-audit_as Of done bad (Err finding) = bad finding
-
-pub match_as : (Of : Status → Type 0) → Of Done → Of NotFound → (found : Option (List ℕ)) → Of (match_status found)
-match_as Of done missed None = missed
-match_as Of done missed (Some clocks) = done
-
 pub audit_runs : (f : Finding) → HasRun (audit_status (Err f))
 audit_runs (findings.Broken broken) = tt
 audit_runs (findings.Foul foul) = tt
-
-pub audit_ends : (f : Finding) → IsOfAudit (audit_status (Err f))
-audit_ends (findings.Broken broken) = tt
-audit_ends (findings.Foul foul) = tt
 
 -- ---- what a status tells of a trace
 
@@ -128,71 +92,6 @@ module _ {S : Type 0} (source : SourceGhosts S) (kind : FileKind) (name : List �
   stopped_silent (Foul foul) stopped = stopped
   stopped_silent NotFound stopped = stopped
 
--- how a call may end that its dump stopped: as any look
-pub stopped_look : {S : Type 0} (source : SourceGhosts S) (kind : FileKind) (name : List ℕ) (was now : S)
-    (Of : Status → Type 0) → IsDumpKind kind → ((f : VcdFault) → Of (BadDump f)) → Of ReadFault → Of TooLong
-    → Of OutOfMemory → (status : Status) → IsStopped source kind name was now status → Of status
-stopped_look source kind name was now Of dump bad read long memory Done stopped = absurd stopped
-stopped_look source kind name was now Of dump bad read long memory (Rejected broken) stopped = absurd stopped
-stopped_look source kind name was now Of dump bad read long memory BadWords stopped = absurd stopped
-stopped_look source kind name was now Of dump bad read long memory (BadBench fault) stopped =
-    absurd (subst IsDumpKind stopped.0 dump)
-stopped_look source kind name was now Of dump bad read long memory (BadDump fault) stopped = bad fault
-stopped_look source kind name was now Of dump bad read long memory ReadFault stopped = read
-stopped_look source kind name was now Of dump bad read long memory WriteFault stopped = absurd stopped
-stopped_look source kind name was now Of dump bad read long memory DumpFault stopped = absurd stopped
-stopped_look source kind name was now Of dump bad read long memory OutOfMemory stopped = memory
-stopped_look source kind name was now Of dump bad read long memory TooLong stopped = long
-stopped_look source kind name was now Of dump bad read long memory (Foul foul) stopped = absurd stopped
-stopped_look source kind name was now Of dump bad read long memory NotFound stopped = absurd stopped
-
-pub stopped_run : {S : Type 0} (source : SourceGhosts S) (name : List ℕ) (was now : S) (status : Status)
-    → IsStopped source bench_file name was now status → IsOfRun status
-stopped_run source name was now Done stopped = tt
-stopped_run source name was now (Rejected broken) stopped = stopped
-stopped_run source name was now BadWords stopped = stopped
-stopped_run source name was now (BadBench fault) stopped = tt
-stopped_run source name was now (BadDump fault) stopped = stopped.0
-stopped_run source name was now ReadFault stopped = tt
-stopped_run source name was now WriteFault stopped = tt
-stopped_run source name was now DumpFault stopped = tt
-stopped_run source name was now OutOfMemory stopped = tt
-stopped_run source name was now TooLong stopped = tt
-stopped_run source name was now (Foul foul) stopped = stopped
-stopped_run source name was now NotFound stopped = stopped
-
--- ---- a run that was made
-
-module _ (Failed : Type 0) (dump : DumpCall) (name : Option (List ℕ)) where
-  pub played_runs : (status : Status) → IsPlayed Failed dump name status → HasRun status × IsOfRun status
-  played_runs Done played = (tt, tt)
-  played_runs WriteFault played = (tt, tt)
-  played_runs DumpFault played = (tt, tt)
-  played_runs (Rejected broken) played = absurd played
-  played_runs BadWords played = absurd played
-  played_runs (BadBench fault) played = absurd played
-  played_runs (BadDump fault) played = absurd played
-  played_runs ReadFault played = absurd played
-  played_runs OutOfMemory played = absurd played
-  played_runs TooLong played = absurd played
-  played_runs (Foul foul) played = absurd played
-  played_runs NotFound played = absurd played
-
-pub played_made : (Failed : Type 0) (dump : DumpCall) (status : Status) → IsPlayed Failed dump None status
-    → IsOfGen status
-played_made Failed dump Done played = tt
-played_made Failed dump WriteFault played = tt
-played_made Failed dump DumpFault played = absurd (played.1 refl)
-played_made Failed dump (Rejected broken) played = played
-played_made Failed dump BadWords played = played
-played_made Failed dump (BadBench fault) played = played
-played_made Failed dump (BadDump fault) played = played
-played_made Failed dump ReadFault played = played
-played_made Failed dump OutOfMemory played = tt
-played_made Failed dump TooLong played = played
-played_made Failed dump (Foul foul) played = played
-played_made Failed dump NotFound played = played
-
 pub audit_writes : (found : Result ℕ Finding) → audit_status found ≢ WriteFault
 audit_writes (Ok chunks) e = cc
 audit_writes (Err (findings.Broken broken)) e = cc
@@ -202,22 +101,6 @@ pub audit_dumps : (found : Result ℕ Finding) → audit_status found ≢ DumpFa
 audit_dumps (Ok chunks) e = cc
 audit_dumps (Err (findings.Broken broken)) e = cc
 audit_dumps (Err (findings.Foul foul)) e = cc
-
--- what was read of a dump that is too long
-pub long_pieces : (name held left : List ℕ) (begun_as : Option (List ℕ))
-    → HasReadTooMuch dump_in_pieces name held left begun_as → HasReadLong name held left begun_as
-long_pieces name held left begun_as (inl past) =
-    record { named = past.named; long = inl (record { long = past.long; rest = past.rest }) }
-long_pieces name held left begun_as (inr both) =
-    record { named = both.0.named; long = inr (record { short = both.0.short; all = both.0.all }, both.1) }
-
-pub long_whole : (name held left : List ℕ) (begun_as : Option (List ℕ))
-    → HasReadTooMuch whole_dump name held left begun_as
-    → HasReadLongWhole name held left begun_as
-long_whole name held left begun_as (inl past) =
-    record { named = past.named; long = inl (record { long = past.long; rest = past.rest }) }
-long_whole name held left begun_as (inr both) =
-    record { named = both.0.named; long = inr (record { short = both.0.short; all = both.0.all }, both.1) }
 
 -- nothing is said of what a call wrote that was stopped
 pub unwritten : (text before held : List ℕ) (status : Status) → IsSilent status → IsWritten status text before held
@@ -249,8 +132,6 @@ told_line marks w before held TooLong written = tt
 told_line marks w before held (Foul foul) written = tt
 told_line marks w before held NotFound written = tt
 
--- ---- rows
-
 pub broken_runs : (found : Option Broken) → HasRun (broken_status found)
 broken_runs = broken_as HasRun tt (λ b. tt)
 
@@ -259,3 +140,19 @@ found_runs = audit_as HasRun tt audit_runs
 
 pub match_runs : (found : Option (List ℕ)) → HasRun (match_status found)
 match_runs = match_as HasRun tt tt
+
+-- a run that was made came to what it is for
+module _ (Failed : Type 0) (dump : DumpCall) (name : Option (List ℕ)) where
+  pub played_runs : (status : Status) → IsPlayed Failed dump name status → HasRun status
+  played_runs Done played = tt
+  played_runs WriteFault played = tt
+  played_runs DumpFault played = tt
+  played_runs (Rejected broken) played = tt
+  played_runs BadWords played = played
+  played_runs (BadBench fault) played = played
+  played_runs (BadDump fault) played = played
+  played_runs ReadFault played = played
+  played_runs OutOfMemory played = played
+  played_runs TooLong played = played
+  played_runs (Foul foul) played = tt
+  played_runs NotFound played = tt

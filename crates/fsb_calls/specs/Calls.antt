@@ -7,7 +7,7 @@ use Rattle.fsb_io.specs.declared.source.Source.{Ghosts as SourceGhosts}
 use Rattle.fsb_script.specs.Plans.{PlanView}
 use Rattle.fsb_signal.specs.declared.sample.Sample.{Sample}
 use Rattle.fsb_top.specs.declared.status.Status.{Status}
-use Rattle.fsb_calls.specs.CallEnds.{CallEnds, dump_call}
+use Rattle.fsb_top.specs.CallEnds.{CallEnds, dump_call}
 
 -- a call, from outside, over a source, a sink of what is printed, and a sink of the dump
 pub record Call {S O D : Type 0} (source : SourceGhosts S) (out : SinkGhosts O)

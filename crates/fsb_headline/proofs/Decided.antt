@@ -7,7 +7,7 @@ use Rattle.fsb_signal.specs.declared.sample.Sample.{Sample}
 use Rattle.fsb_trace.specs.Verdict.{verdict}
 use Rattle.fsb_trigger.specs.Match.{least_match}
 use Rattle.fsb_trigger.specs.TriggerSteps.{StepView}
-use Rattle.fsb_top.specs.BenchEnds.{TellsFinding, TellsMatch, TellsVerdict}
+use Rattle.fsb_calls.specs.StatusSays.{TellsFinding, TellsMatch, TellsVerdict}
 use Rattle.fsb_top.specs.declared.status.Status.{Status}
 use Rattle.fsb_top.specs.declared.status.Status.TheVariants.{BadBench, BadDump, BadWords, Done, DumpFault}
 use Rattle.fsb_top.specs.declared.status.Status.TheVariants.{Foul, NotFound, OutOfMemory, ReadFault}

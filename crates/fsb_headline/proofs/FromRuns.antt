@@ -1,5 +1,5 @@
 -- The headline out of what `bench` answers of a run.
-use Rattle.std.proofs.Common.{ℕ, List, Option, ap, subst, sym}
+use Rattle.std.proofs.Common.{◌≡◌, ◌++◌, ℕ, List, Option, ap, subst, sym}
 use Rattle.fsb_access.specs.Replay.{Served}
 use Rattle.fsb_hazard.specs.Told.{Told}
 use Rattle.fsb_play.specs.Printed.{run_dump, run_log}
@@ -11,8 +11,8 @@ use Rattle.fsb_signal.specs.Parity.{marks_in}
 use Rattle.fsb_timely.specs.Runs.{Run}
 use Rattle.fsb_trace.proofs.Interface.{verdict-none}
 use Rattle.vcd_grammar.specs.Reading.{Reads}
-use Rattle.fsb_headline.specs.Headline.{ArePrefixes, HasAnswered, Headline, KeepsHeadline, RunCall, TellAll}
-use Rattle.fsb_headline.specs.Headline.{printed_of}
+use Rattle.fsb_headline.specs.Headline.{ArePrefixes, Headline, KeepsHeadline, printed_of}
+use Rattle.fsb_top.specs.BenchEnds.{HasRunFrom}
 
 -- of a run of a plan that a file says, its log and its dump are what the headline speaks of
 pub of_run : (told : List (Option Told)) (file : List ℕ) (plan : PlanView) (r : Run) → BenchText file plan
@@ -33,15 +33,16 @@ of_run told file plan r says h = record {
   accepted = record { none = verdict-none (marks_in plan.profile) r.trace h.accepted };
 }
 
--- the headline of a call
-pub headline : (call : RunCall) (told : PlanView → List (Option Told)) → TellAll call → HasAnswered call told
-    → KeepsHeadline call
-headline call told tell has =
-    let is_plan = has.is_plan tell.source in
+-- the headline of a call that left the log and the dump of one run of the plan of its file
+pub headline : (told : PlanView → List (Option Told)) (file before after dumped : List ℕ) (IsPlan : PlanView → Type 0)
+    (Leaves : Run → Type 0) → ((plan : PlanView) → IsPlan plan → BenchText file plan)
+    → ((r : Run) → Leaves r → (after ≡ before ++ run_log r) × (dumped ≡ run_dump r))
+    → HasRunFrom IsPlan told Leaves → KeepsHeadline file before after dumped
+headline told file before after dumped IsPlan Leaves says left has =
     let r = has.ran.run in
-    let written = has.ran.leaves.1 tell.dump in
-    let said = of_run (told has.plan) call.file has.plan r is_plan.is_bench has.ran.is_run in record {
+    let written = left r has.ran.leaves in
+    let said = of_run (told has.plan) file has.plan r (says has.plan has.is_plan) has.ran.is_run in record {
       printed = run_log r;
-      appended = has.ran.leaves.0 tell.out;
-      headline = subst (λ (text : List ℕ). Headline call.file (run_log r) text) (sym written.whole) said;
+      appended = written.0;
+      headline = subst (λ (text : List ℕ). Headline file (run_log r) text) (sym written.1) said;
     }

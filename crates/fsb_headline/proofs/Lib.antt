@@ -1,6 +1,7 @@
 mod Decided
 mod FromRuns
 mod HowNoneEnds
+mod InPieces
 mod Limits
 mod LogLines
 mod NumberSplit

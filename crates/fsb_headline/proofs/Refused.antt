@@ -5,7 +5,7 @@ use Rattle.fsb_script.specs.Plans.{PlanView}
 use Rattle.fsb_script.specs.declared.fault.ScriptFault.{ScriptFault}
 use Rattle.vcd_grammar.specs.Reading.{FirstFault}
 use Rattle.vcd_grammar.specs.declared.fault.VcdFault.{VcdFault}
-use Rattle.fsb_top.specs.BenchEnds.{IsBadBench, IsBadDump, IsBadTable}
+use Rattle.fsb_calls.specs.FileSays.{IsBadBench, IsBadDump, IsBadTable}
 use Rattle.fsb_headline.specs.Refusals.{IsNoBench, IsNoDump, WasReadWhole}
 
 some-fault : (f g : VcdFault) → Some f ≡ Some g → f ≡ g

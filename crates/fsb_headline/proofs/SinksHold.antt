@@ -7,7 +7,8 @@ use Rattle.fsb_report.specs.VerdictText.{trace_text}
 use Rattle.fsb_rules.specs.declared.broken.Broken.{Broken}
 use Rattle.fsb_signal.specs.declared.marks.Marks.{Marks}
 use Rattle.fsb_signal.specs.declared.sample.Sample.{Sample}
-use Rattle.fsb_top.specs.BenchEnds.{IsDumped, IsLogged, IsTold, IsWritten}
+use Rattle.fsb_calls.specs.StatusSays.{IsTold}
+use Rattle.fsb_top.specs.BenchEnds.{IsDumped, IsLogged, IsWritten}
 use Rattle.fsb_top.specs.declared.status.Status.TheVariants.{Done, DumpFault, Foul, NotFound, Rejected, WriteFault}
 
 -- of a run: the log behind what the sink held, also where the dump failed; a first part of it where the sink failed

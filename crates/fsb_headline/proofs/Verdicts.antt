@@ -11,7 +11,7 @@ use Rattle.fsb_signal.specs.declared.sample.Sample.{Sample}
 use Rattle.fsb_trace.proofs.Interface.{verdict-least, verdict-none}
 use Rattle.fsb_trace.specs.Rules.{breaks, phase_rules}
 use Rattle.fsb_trace.specs.Verdict.{is_broken, verdict}
-use Rattle.fsb_top.specs.BenchEnds.{HasTable, HasVerdict}
+use Rattle.fsb_calls.specs.FileSays.{HasTable, HasVerdict}
 use Rattle.fsb_top.specs.declared.status.Status.TheVariants.{Done, Rejected}
 use Rattle.fsb_headline.specs.PhaseRules.{BreaksNoRule, IsAccepted, IsFirstBroken, IsRejected}
 

@@ -1,7 +1,7 @@
 -- Each command that looks at a dump read all of it.
 use Rattle.std.proofs.Common.{◌-◌, ◌^◌, ℕ, List, Option}
 use Rattle.fsb_signal.specs.declared.sample.Sample.{Sample}
-use Rattle.fsb_top.specs.BenchEnds.{HasFinding, HasLooked, HasTable, HasVerdict}
+use Rattle.fsb_calls.specs.FileSays.{HasFinding, HasLooked, HasTable, HasVerdict}
 use Rattle.fsb_top.specs.Complete.{IsDumpWithin}
 use Rattle.fsb_top.specs.declared.status.Status.{Status}
 use Rattle.fsb_headline.specs.Refusals.{WasReadWhole}

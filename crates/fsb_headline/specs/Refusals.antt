@@ -1,5 +1,6 @@
 -- What is known of a file that is refused.
 use Rattle.std.specs.Prelude.{◌≡◌, ◌≤◌, ℕ, List, [], Option, Some, length}
+use Rattle.fsb_command.specs.Form.{Form, run, check, audit, show, find, wave, gen}
 use Rattle.fsb_script.specs.Drafts.{BenchText, FirstBad}
 use Rattle.fsb_script.specs.Plans.{PlanView}
 use Rattle.fsb_script.specs.declared.fault.ScriptFault.{ScriptFault}
@@ -26,3 +27,13 @@ pub record IsNoDump (text : List ℕ) (fault : VcdFault) : Type 0 where
   pub first : FirstFault text fault
   pub only : (other : VcdFault) → FirstFault text other → other ≡ fault
   pub no_trace : (marks : Marks) (trace : List Sample) → Reads text marks trace → ⊥
+
+-- a command of this form looks at the dump of this name, and reads it in pieces
+abbrev pub IsReadInPieces : Form → List ℕ → Type 0
+IsReadInPieces (run bench dump) name = ⊥
+IsReadInPieces (check dump) name = dump ≡ name
+IsReadInPieces (audit dump) name = dump ≡ name
+IsReadInPieces (show dump) name = ⊥
+IsReadInPieces (find dump steps) name = dump ≡ name
+IsReadInPieces (wave dump from to) name = dump ≡ name
+IsReadInPieces (gen seed agents items) name = ⊥

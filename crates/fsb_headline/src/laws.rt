@@ -1,12 +1,14 @@
 //! Laws over what `bench` says of a call: no code but the laws that they rest on.
 
 ghost use Rattle.std.specs.Prelude.{◌≡◌, ◌≢◌, ◌≤◌, ◌<◌, ◌-◌, ◌^◌, ◌++◌, ◌⊎◌, ℕ, Bool, false};
-ghost use Rattle.std.specs.Prelude.{List, Option, Some, length, slice_get};
+ghost use Rattle.std.specs.Prelude.{IsTrue, List, Option, Some, length, slice_get};
 ghost use Rattle.std.specs.List.{fold, list_any};
 ghost use Rattle.fsb_access.specs.declared.log.Done.{Done as Entry};
 ghost use Rattle.fsb_audit.specs.Fouls.{finding_of};
 ghost use Rattle.fsb_audit.specs.declared.finding.FoulAt.{FoulAt};
-ghost use Rattle.fsb_command.specs.Form.{audit, check, find, gen, run, show, wave};
+ghost use Rattle.fsb_calls.specs.Calls.{Call, EndsSo, held, left_of, named_as, printed};
+ghost use Rattle.fsb_calls.specs.Calls.{printed_before};
+ghost use Rattle.fsb_command.specs.Form.{Form, audit, check, find, gen, run, show, wave};
 ghost use Rattle.fsb_encode.specs.declared.request.Request.{Request};
 ghost use Rattle.fsb_hazard.specs.Asking.{AreAnswers};
 ghost use Rattle.fsb_hazard.specs.Choice.{join, quiet_choice};
@@ -27,17 +29,16 @@ ghost use Rattle.fsb_show.specs.ShownDump.{IsLongDump};
 ghost use Rattle.fsb_signal.specs.declared.marks.Marks.{Marks};
 ghost use Rattle.fsb_signal.specs.declared.sample.Sample.{Sample};
 ghost use Rattle.fsb_timely.specs.Runs.{Run};
-ghost use Rattle.fsb_top.specs.BenchEnds.{HasFinding, HasLooked, IsTooLong};
-ghost use Rattle.fsb_top.specs.BenchEnds.{HasTable, HasVerdict, IsBadBench, IsBadDump, IsBadTable};
-ghost use Rattle.fsb_top.specs.BenchEnds.{IsDumped, IsLogged, IsTold, IsWritten};
+ghost use Rattle.fsb_calls.specs.StatusSays.{HasRun};
+ghost use Rattle.fsb_top.specs.BenchEnds.{IsTooLong};
+ghost use Rattle.fsb_calls.specs.StatusSays.{IsTold};
+ghost use Rattle.fsb_top.specs.BenchEnds.{IsDumped, IsLogged, IsWritten};
 ghost use Rattle.fsb_top.specs.BenchEnds.{IsOfAudit, IsOfCheck, IsOfFind, IsOfGen, IsOfRun, IsOfWave};
-ghost use Rattle.fsb_top.specs.BenchEnds.{TellsFinding, TellsMatch, TellsNothing, TellsVerdict};
 ghost use Rattle.fsb_top.specs.Complete.{IsComplete, IsDumpWithin, IsReadable};
 ghost use Rattle.fsb_top.specs.declared.status.Status.TheVariants.{BadBench, BadDump, BadWords, Done};
 ghost use Rattle.fsb_top.specs.declared.status.Status.TheVariants.{DumpFault, Foul, NotFound};
 ghost use Rattle.fsb_top.specs.declared.status.Status.TheVariants.{ReadFault, Rejected, TooLong};
 ghost use Rattle.fsb_top.specs.declared.status.Status.TheVariants.{WriteFault};
-ghost use Rattle.fsb_top.specs.declared.status.Status.{Status};
 ghost use Rattle.fsb_trace.specs.Verdict.{verdict};
 ghost use Rattle.fsb_trigger.specs.Match.{least_match};
 ghost use Rattle.fsb_trigger.specs.TriggerSteps.{StepView};
@@ -45,11 +46,13 @@ ghost use Rattle.fsb_watch.specs.Watched.{HasManySamples};
 ghost use Rattle.vcd_grammar.specs.Reading.{Reads};
 ghost use Rattle.vcd_grammar.specs.declared.fault.VcdFault.{VcdFault};
 ghost use Rattle.fsb_headline.specs.FileStatuses.{status_of_broken, status_of_finding, status_of_match};
-ghost use Rattle.fsb_headline.specs.Headline.{HasAnswered, KeepsHeadline, RunCall, TellAll, printed_of};
+ghost use Rattle.fsb_headline.specs.Headline.{KeepsHeadline, printed_of};
 ghost use Rattle.fsb_headline.specs.PhaseRules.{IsAccepted, IsRejected};
 ghost use Rattle.fsb_headline.specs.PrintedLogs.{IsLogOf};
-ghost use Rattle.fsb_headline.specs.Refusals.{IsNoBench, IsNoDump, WasReadWhole};
+ghost use Rattle.fsb_headline.specs.Refusals.{IsNoBench, IsNoDump, IsReadInPieces, WasReadWhole};
 
+use fsb_calls::{files_are_read_as_told, runs_leave_log_and_dump, statuses_have_causes};
+use fsb_io::{Sink, Source};
 use fsb_script::one_answer;
 use fsb_script_laws::plans_that_were_read_are_lawful;
 
@@ -58,10 +61,14 @@ use fsb_script_laws::plans_that_were_read_are_lawful;
 /// memory that serves them singly in printed order gives exactly the printed values; each locked
 /// sequence stands together; and the dump written reads back to a trace that breaks no phase
 /// rule.
-pub fn runs_are_as_promised()
-    ensures { (call : RunCall) (told : PlanView → List (Option Told)) → TellAll call →
-        HasAnswered call told → KeepsHeadline call }
-{}
+pub fn runs_are_as_promised<S: Source, O: Sink, D: Sink>()
+    ensures { (call : Call S.Source O.Sink D.Sink) → EndsSo call →
+        IsTrue S.tells → IsTrue O.tells → IsTrue D.tells → (bench name : List ℕ) →
+        call.words ≡ Some (run bench (Some name)) → call.status ≡ Done →
+        KeepsHeadline (held call) (printed_before call) (printed call) (D.holds call.last) }
+{
+    runs_leave_log_and_dump::<S, O, D>();
+}
 
 /// The accesses printed are known from the text: two logs of one plan that print alike are one. So
 /// two runs of one bench file that print alike have one log, whatever hazard objects stand there.
@@ -78,49 +85,75 @@ pub fn printed_text_determines_the_log()
 /// A check, or a table, that ends with `Done` was of a dump that breaks no phase rule, and one
 /// that ends with `Rejected` of a dump that breaks this rule at this clock, no rule before, and
 /// no lesser rule there. No dump is both, and none is rejected for two rules.
-pub fn verdicts_are_first_and_least()
-    ensures accepted { (name held left : List ℕ) (begun_as : Option (List ℕ)) →
-        HasVerdict Done name held left begun_as → IsAccepted held }
-    ensures rejected { (name held left : List ℕ) (begun_as : Option (List ℕ)) (first : Broken) →
-        HasVerdict (Rejected first) name held left begun_as → IsRejected held first }
-    ensures accepted_table { (name held left : List ℕ) (begun_as : Option (List ℕ)) →
-        HasTable Done name held left begun_as → IsAccepted held }
-    ensures rejected_table { (name held left : List ℕ) (begun_as : Option (List ℕ)) →
-        (first : Broken) → HasTable (Rejected first) name held left begun_as →
-        IsRejected held first }
+pub fn verdicts_are_first_and_least<S: Source, O: Sink, D: Sink>()
+    ensures accepted { (call : Call S.Source O.Sink D.Sink) → EndsSo call → IsTrue S.tells →
+        (name : List ℕ) → call.words ≡ Some (check name) → call.status ≡ Done →
+        IsAccepted (held call) }
+    ensures rejected { (call : Call S.Source O.Sink D.Sink) → EndsSo call → IsTrue S.tells →
+        (name : List ℕ) (first : Broken) → call.words ≡ Some (check name) →
+        call.status ≡ Rejected first → IsRejected (held call) first }
+    ensures accepted_table { (call : Call S.Source O.Sink D.Sink) → EndsSo call →
+        IsTrue S.tells → (name : List ℕ) → call.words ≡ Some (show name) → call.status ≡ Done →
+        IsAccepted (held call) }
+    ensures rejected_table { (call : Call S.Source O.Sink D.Sink) → EndsSo call →
+        IsTrue S.tells → (name : List ℕ) (first : Broken) → call.words ≡ Some (show name) →
+        call.status ≡ Rejected first → IsRejected (held call) first }
     ensures not_both { (held : List ℕ) (first : Broken) → IsAccepted held →
         IsRejected held first → ⊥ }
-{}
+{
+    files_are_read_as_told::<S, O, D>();
+}
 
 /// A file that is refused was read whole, under the name in the words and within the limit, and
 /// this is its first fault: no other is, and it says no plan, or no trace.
-pub fn refusals_name_the_first_fault()
-    ensures bench { (name held left : List ℕ) (begun_as : Option (List ℕ)) (fault : ScriptFault) →
-        IsBadBench name held left begun_as fault →
-        WasReadWhole 4194304 name held left begun_as × IsNoBench held fault }
-    ensures dump { (name held left : List ℕ) (begun_as : Option (List ℕ)) (fault : VcdFault) →
-        IsBadDump name held left begun_as fault →
-        WasReadWhole (2 ^ 40) name held left begun_as × IsNoDump held fault }
-    ensures table { (name held left : List ℕ) (begun_as : Option (List ℕ)) (fault : VcdFault) →
-        IsBadTable name held left begun_as fault →
-        WasReadWhole 268435456 name held left begun_as × IsNoDump held fault }
+pub fn refusals_name_the_first_fault<S: Source, O: Sink, D: Sink>()
+    ensures bench { (call : Call S.Source O.Sink D.Sink) → EndsSo call → IsTrue S.tells →
+        (name : List ℕ) (dump : Option (List ℕ)) (fault : ScriptFault) →
+        call.words ≡ Some (run name dump) → call.status ≡ BadBench fault →
+        WasReadWhole 4194304 name (held call) (left_of call) (named_as call)
+        × IsNoBench (held call) fault }
+    ensures dump { (call : Call S.Source O.Sink D.Sink) → EndsSo call → IsTrue S.tells →
+        (form : Form) (name : List ℕ) (fault : VcdFault) → IsReadInPieces form name →
+        call.words ≡ Some form → call.status ≡ BadDump fault →
+        WasReadWhole (2 ^ 40) name (held call) (left_of call) (named_as call)
+        × IsNoDump (held call) fault }
+    ensures table { (call : Call S.Source O.Sink D.Sink) → EndsSo call → IsTrue S.tells →
+        (name : List ℕ) (fault : VcdFault) → call.words ≡ Some (show name) →
+        call.status ≡ BadDump fault →
+        WasReadWhole 268435456 name (held call) (left_of call) (named_as call)
+        × IsNoDump (held call) fault }
 {
     one_answer();
+    statuses_have_causes::<S, O, D>();
 }
 
 /// What a file is decides how a command ends that looks at it, unless its sink fails: a check, or
 /// a table, by the verdict; an audit by what it finds first; a search by the least match. So
 /// `Done`, `Rejected`, `Foul` and `NotFound` exclude one another.
-pub fn files_decide_the_status()
-    ensures check { (status : Status) (marks : Marks) (trace : List Sample) → status ≢ WriteFault →
-        TellsVerdict status marks trace →
-        status ≡ status_of_broken (as_broken (verdict marks trace)) }
-    ensures audit { (status : Status) (marks : Marks) (trace : List Sample) → status ≢ WriteFault →
-        TellsFinding status marks trace → status ≡ status_of_finding (finding_of marks trace) }
-    ensures search { (status : Status) (steps : List StepView) (trace : List Sample) →
-        status ≢ WriteFault → TellsMatch steps status trace →
-        status ≡ status_of_match (least_match steps trace) }
-{}
+pub fn files_decide_the_status<S: Source, O: Sink, D: Sink>()
+    ensures check { (call : Call S.Source O.Sink D.Sink) → EndsSo call → IsTrue S.tells →
+        (marks : Marks) (trace : List Sample) → Reads (held call) marks trace →
+        (name : List ℕ) → call.words ≡ Some (check name) → HasRun call.status →
+        call.status ≢ WriteFault →
+        call.status ≡ status_of_broken (as_broken (verdict marks trace)) }
+    ensures table { (call : Call S.Source O.Sink D.Sink) → EndsSo call → IsTrue S.tells →
+        (marks : Marks) (trace : List Sample) → Reads (held call) marks trace →
+        (name : List ℕ) → call.words ≡ Some (show name) → HasRun call.status →
+        call.status ≢ WriteFault →
+        call.status ≡ status_of_broken (as_broken (verdict marks trace)) }
+    ensures audit { (call : Call S.Source O.Sink D.Sink) → EndsSo call → IsTrue S.tells →
+        (marks : Marks) (trace : List Sample) → Reads (held call) marks trace →
+        (name : List ℕ) → call.words ≡ Some (audit name) → HasRun call.status →
+        call.status ≢ WriteFault →
+        call.status ≡ status_of_finding (finding_of marks trace) }
+    ensures search { (call : Call S.Source O.Sink D.Sink) → EndsSo call → IsTrue S.tells →
+        (marks : Marks) (trace : List Sample) → Reads (held call) marks trace →
+        (name : List ℕ) (steps : List StepView) → call.words ≡ Some (find name steps) →
+        HasRun call.status → call.status ≢ WriteFault →
+        call.status ≡ status_of_match (least_match steps trace) }
+{
+    files_are_read_as_told::<S, O, D>();
+}
 
 /// What the sinks hold after a call. Of a run: after `Done` the log behind what was held, after
 /// `DumpFault` too, and after `WriteFault` a first part of it; of the dump after `DumpFault` a
@@ -176,24 +209,19 @@ pub fn commands_end_in_their_own_statuses()
 
 /// Each command that looks at a dump, and is not stopped before it ends, read all of the file under
 /// the name in the words, and that is a dump within its limits of bytes and samples.
-pub fn looks_are_of_whole_dumps()
-    ensures check { (status : Status) (name held left : List ℕ) (begun_as : Option (List ℕ)) →
-        HasVerdict status name held left begun_as →
-        WasReadWhole (2 ^ 40) name held left begun_as × IsDumpWithin (2 ^ 40) (2 ^ 32 - 1) held }
-    ensures audit { (status : Status) (name held left : List ℕ) (begun_as : Option (List ℕ)) →
-        HasFinding status name held left begun_as →
-        WasReadWhole (2 ^ 40) name held left begun_as × IsDumpWithin (2 ^ 40) (2 ^ 32 - 1) held }
-    ensures search { (steps : List StepView) (status : Status) (name held left : List ℕ)
-        (begun_as : Option (List ℕ)) →
-        HasLooked (TellsMatch steps) status name held left begun_as →
-        WasReadWhole (2 ^ 40) name held left begun_as × IsDumpWithin (2 ^ 40) (2 ^ 32 - 1) held }
-    ensures wave { (status : Status) (name held left : List ℕ) (begun_as : Option (List ℕ)) →
-        HasLooked TellsNothing status name held left begun_as →
-        WasReadWhole (2 ^ 40) name held left begun_as × IsDumpWithin (2 ^ 40) (2 ^ 32 - 1) held }
-    ensures table { (status : Status) (name held left : List ℕ) (begun_as : Option (List ℕ)) →
-        HasTable status name held left begun_as →
-        WasReadWhole 268435456 name held left begun_as × IsDumpWithin 268435456 200000 held }
-{}
+pub fn looks_are_of_whole_dumps<S: Source, O: Sink, D: Sink>()
+    ensures pieces { (call : Call S.Source O.Sink D.Sink) → EndsSo call → IsTrue S.tells →
+        (form : Form) (name : List ℕ) → IsReadInPieces form name → call.words ≡ Some form →
+        HasRun call.status →
+        WasReadWhole (2 ^ 40) name (held call) (left_of call) (named_as call)
+        × IsDumpWithin (2 ^ 40) (2 ^ 32 - 1) (held call) }
+    ensures table { (call : Call S.Source O.Sink D.Sink) → EndsSo call → IsTrue S.tells →
+        (name : List ℕ) → call.words ≡ Some (show name) → HasRun call.status →
+        WasReadWhole 268435456 name (held call) (left_of call) (named_as call)
+        × IsDumpWithin 268435456 200000 (held call) }
+{
+    files_are_read_as_told::<S, O, D>();
+}
 
 /// What is too long for a command has more bytes or samples than it reads, and a file within its
 /// limits is enough for it.

@@ -1,8 +1,9 @@
 //! The sentences of the product, as contracts: what `bench` (fsb_top) says of a call, in words
 //! that a reader knows.
 //!
-//! Each function is a law and does nothing. `runs_are_as_promised` is the headline, in the words of
-//! the README. `printed_text_determines_the_log` says that its "accesses printed" are known from
+//! `run_as_promised` is `bench` with the headline as its contract, in the words of the README. Each
+//! other function is a law and does nothing. `runs_are_as_promised` says the headline of every call.
+//! `printed_text_determines_the_log` says that its "accesses printed" are known from
 //! the text. The others say what a verdict is, what a refusal tells of a file, what the file and the
 //! status decide, and what stands in the sinks. Their words stand in `specs/`, a line a part.
 //!
@@ -16,5 +17,7 @@ pub use laws::{
     refusals_name_the_first_fault, runs_are_as_promised, sinks_hold_what_the_status_tells,
     verdicts_are_first_and_least,
 };
+pub use promised::run_as_promised;
 
 mod laws;
+mod promised;

@@ -1,6 +1,8 @@
 mod Answered
 mod Completing
-mod Findings
-mod Searches
+pub mod Interface
+mod Rows
+pub mod Statuses
+mod Stops
 mod Tables
-mod Verdicts
+mod Telling

@@ -1,4 +1,4 @@
--- The status of a table tells the verdict; what was written of it.
+-- What is shown of a trace is told as its text.
 use Rattle.std.proofs.Common.{◌≡◌, ◌∙◌, ℕ, List, Option, Some, None, refl, sym, ap, subst}
 use Rattle.fsb_probe.specs.Weights.{totals_of}
 use Rattle.fsb_rules.specs.Checker.{as_broken}
@@ -12,25 +12,6 @@ use Rattle.fsb_signal.specs.declared.sample.Sample.{Sample}
 use Rattle.fsb_table.specs.declared.row.Row.{Row}
 use Rattle.fsb_table.specs.Rows.{rows_of}
 use Rattle.fsb_trace.specs.Verdict.{verdict}
-use Rattle.fsb_top.specs.declared.status.Status.{Status}
-use Rattle.fsb_top.specs.declared.status.Status.TheVariants as statuses
-use Rattle.fsb_top.specs.StatusTold.{IsTableTold}
-use Rattle.fsb_top.specs.BenchEnds.{TellsVerdict, IsWritten}
-
-pub tells_table : (status : Status) (broken : Option Broken) (marks : Marks) (w : List Sample)
-    → IsTableTold status broken → broken ≡ as_broken (verdict marks w) → TellsVerdict status marks w
-tells_table statuses.Done broken marks w told e = as_broken-none (verdict marks w) (sym e ∙ told)
-tells_table (statuses.Rejected first) broken marks w told e = sym e ∙ told
-tells_table statuses.WriteFault broken marks w told e = tt
-tells_table statuses.DumpFault broken marks w told e = told
-tells_table statuses.BadWords broken marks w told e = told
-tells_table (statuses.BadBench fault) broken marks w told e = told
-tells_table (statuses.BadDump fault) broken marks w told e = told
-tells_table statuses.ReadFault broken marks w told e = told
-tells_table statuses.OutOfMemory broken marks w told e = told
-tells_table statuses.TooLong broken marks w told e = told
-tells_table (statuses.Foul foul) broken marks w told e = told
-tells_table statuses.NotFound broken marks w told e = told
 
 -- where no rule is broken, the totals and the rows are told; else neither is
 told_alike : (broken : Option Broken) (clocks : ℕ) (totals sums : List ℕ) (rows all : List Row)
@@ -43,7 +24,7 @@ told_alike None clocks totals sums rows all same_totals same_rows =
 told_alike (Some first) clocks totals sums rows all same_totals same_rows = refl
 
 -- what is shown of a trace is told as its text
-shown_text : (weights : List (Sample → ℕ)) (totals : List ℕ) (shown : Shown) (marks : Marks) (w : List Sample)
+pub shown_text : (weights : List (Sample → ℕ)) (totals : List ℕ) (shown : Shown) (marks : Marks) (w : List Sample)
     → IsOfTrace weights totals shown marks w
     → told_text shown.broken totals shown.rows.items shown.clocks ≡ show_text weights marks w
 unfolding show_text
@@ -54,15 +35,3 @@ shown_text weights totals shown marks w of_trace =
     (λ none. of_trace.weighed (accepted none)) (λ none. of_trace.rows (accepted none))
     ∙ ap (λ b. told_text b (totals_of weights w) (rows_of w) shown.clocks) of_trace.broken
     ∙ ap (λ n. told_text (as_broken (verdict marks w)) (totals_of weights w) (rows_of w) n) of_trace.clocks
-
--- the table of a trace is that of the trace that the dump reads to
-pub table_lines : (status : Status) (weights : List (Sample → ℕ)) (totals : List ℕ) (shown : Shown)
-    (m n : Marks) (w v : List Sample) (before held : List ℕ)
-    → IsWritten status (told_text shown.broken totals shown.rows.items shown.clocks) before held
-    → IsOfTrace weights totals shown n v → n ≡ m → v ≡ w
-    → IsWritten status (show_text weights m w) before held
-table_lines status weights totals shown m n w v before held written of_trace marks same =
-    let text : told_text shown.broken totals shown.rows.items shown.clocks ≡ show_text weights m w =
-    shown_text weights totals shown n v of_trace
-    ∙ ap (λ k. show_text weights k v) marks ∙ ap (λ u. show_text weights m u) same in
-    subst (λ (t : List ℕ). IsWritten status t before held) text written

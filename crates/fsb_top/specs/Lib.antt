@@ -1,7 +1,6 @@
 pub mod BenchEnds
+pub mod CallEnds
 pub mod Complete
-pub mod BenchRead
-pub mod Refused
+pub mod FileRead
 pub mod StatusText
-pub mod StatusTold
-pub mod Stopped
+pub mod StopStatus

@@ -5,8 +5,7 @@ ghost use Rattle.fsb_script.specs.Drafts.{BenchText, FirstBad};
 ghost use Rattle.fsb_script.specs.View.{plan_view};
 ghost use Rattle.fsb_script.specs.declared.fault.ScriptFault.{ScriptFault};
 ghost use Rattle.fsb_watch.specs.Watched.{IsBegunOrStays};
-ghost use Rattle.fsb_top.specs.BenchRead.{HasRead};
-ghost use Rattle.fsb_top.specs.Stopped.{HasReadPast, HasReadAtMost};
+ghost use Rattle.fsb_top.specs.FileRead.{HasReadAll, HasReadAtMost, HasReadPast, bench_file};
 
 use fsb_io::{ReadStop, Source, read_all};
 use fsb_script::{Plan, ScriptFault, ScriptStop, read_bench};
@@ -32,14 +31,15 @@ pub enum Refusal {
 pub fn read_plan<S: Source>(alloc: Global, name: &str, source: &mut S) -> Result<Plan, Refusal>
     requires { length name.now ≤ 4096 }
     ensures whole { IsTrue S.tells →
-        IfOk result (λ plan. HasRead (S.holds source.old) name.now (S.left source.new)
-        (S.begun_as source.new)) }
+        IfOk result (λ plan. HasReadAll bench_file name.now (S.holds source.old)
+        (S.left source.new) (S.begun_as source.new)) }
     ensures plan { IsTrue S.tells →
         IfOk result (λ plan. BenchText (S.holds source.old) (plan_view plan)) }
     ensures bad { IsTrue S.tells → (f : ScriptFault) → result ≡ Err (Refusal.Bad f) →
         FirstBad (S.holds source.old) f }
     ensures bad_whole { IsTrue S.tells → (f : ScriptFault) → result ≡ Err (Refusal.Bad f) →
-        HasRead (S.holds source.old) name.now (S.left source.new) (S.begun_as source.new) }
+        HasReadAll bench_file name.now (S.holds source.old) (S.left source.new)
+        (S.begun_as source.new) }
     ensures too_long { IsTrue S.tells → result ≡ Err Refusal.TooLong →
         4194304 < length (S.holds source.old) }
     ensures long_read { IsTrue S.tells → result ≡ Err Refusal.TooLong →

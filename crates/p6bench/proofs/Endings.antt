@@ -1,22 +1,32 @@
--- What is left of a call of `bench` once the end of the dump is handed on.
+-- What is left of a call once the end of the dump is handed on.
 use Rattle.std.proofs.Common.{◌≡◌, ◌≢◌, ◌≤◌, ◌⊎◌, ◌++◌, inl, inr, ⊎_elim, ℕ, List, [], Option, Some, None, refl, sym}
-use Rattle.std.proofs.Common.{subst, ap, ◌∙◌, arith}
+use Rattle.std.proofs.Common.{subst, ap, ◌∙◌, arith, Bool, false, is_some, true, Result, Ok}
+use Rattle.std.specs.Prelude.{IfOk}
+use Rattle.fsb_io.specs.declared.refusal.Memory.{Memory}
 use Rattle.std.proofs.lemmas.List.{append-nil, append_assoc}
 use Rattle.fsb_gather.specs.GatherView.{GatherView}
 use Rattle.fsb_gather.specs.HandsOn.{HandsOn}
+use Rattle.fsb_command.specs.Form.{Form, run, check, audit, show, find, wave, gen}
 use Rattle.fsb_hazard.specs.Told.{Told}
+use Rattle.fsb_io.specs.declared.sink.Sink.{Ghosts as SinkGhosts}
+use Rattle.fsb_io.specs.declared.source.Source.{Ghosts as SourceGhosts}
+use Rattle.fsb_play.specs.Printed.{run_dump, run_log, run_summary}
+use Rattle.fsb_script.specs.Made.{made_plan}
+use Rattle.fsb_signal.specs.declared.sample.Sample.{Sample}
+use Rattle.fsb_top.specs.CallEnds.{DumpCall, GenEnds, IsPlayed, Look, LookEnds, RowEnds, RunEnds, audit_look}
+use Rattle.fsb_top.specs.CallEnds.{check_look, find_look, show_look, wave_look}
+use Rattle.fsb_top.specs.FileRead.{IsStopped, bench_file}
 use Rattle.fsb_play.specs.RunOf.{IsRunOf}
 use Rattle.fsb_play.specs.Writing.{HasDump, HasDumpPart, HasPart}
 use Rattle.fsb_script.specs.Plans.{PlanView}
 use Rattle.fsb_timely.specs.Runs.{Run}
 use Rattle.fsb_io.specs.Faults.{Rose}
-use Rattle.fsb_top.specs.BenchEnds.{HasRun, HasRunFrom, HasRunOf, IsDumped, IsLogged, IsOfRun, IsSilent, IsWritten}
-use Rattle.fsb_top.specs.Complete.{IsComplete}
+use Rattle.fsb_top.specs.BenchEnds.{HasRunFrom, HasRunOf, IsDumped, IsLogged, MayEnd}
 use Rattle.fsb_top.specs.declared.status.Status.{Status}
 use Rattle.fsb_top.specs.declared.status.Status.TheVariants.{Done, Rejected, BadWords, BadBench, BadDump}
 use Rattle.fsb_top.specs.declared.status.Status.TheVariants.{ReadFault, WriteFault, DumpFault, OutOfMemory}
 use Rattle.fsb_top.specs.declared.status.Status.TheVariants.{TooLong, Foul, NotFound}
-use Rattle.p6bench.specs.Program.{HasPartBelow, IsDumpedBelow}
+use Rattle.p6bench.specs.Program.{HasPartBelow, IsDumpedBelow, name_written}
 
 -- the status stays as the call had it, or the call was done and the end of its dump was not handed on
 abbrev pub Ends : Status → Status → Type 0
@@ -43,11 +53,7 @@ ends_of called status others fault =
     (λ was. ⊎_elim (λ is. inl (is ∙ sym was)) (λ not. inr (was, fault was not)) (is_done_or_not status))
     (λ not. inl (others not)) (is_done_or_not called)
 
-pub has_run_called : (called status : Status) → Ends called status → HasRun status → HasRun called
-has_run_called called status (inl same) has = subst HasRun same has
-has_run_called called status (inr lost) has = subst HasRun (sym lost.0) tt
-
-pub logged_still : (called status : Status) (text before held : List ℕ) → Ends called status
+logged_still : (called status : Status) (text before held : List ℕ) → Ends called status
     → IsLogged called text before held → IsLogged status text before held
 logged_still called status text before held (inl same) has =
     subst (λ (s : Status). IsLogged s text before held) (sym same) has
@@ -55,32 +61,24 @@ logged_still called status text before held (inr lost) has =
     subst (λ (s : Status). IsLogged s text before held) (sym lost.1)
     (subst (λ (s : Status). IsLogged s text before held) lost.0 has)
 
-pub was_done : (called status : Status) → Ends called status → status ≡ Done → called ≡ Done
+was_done : (called status : Status) → Ends called status → status ≡ Done → called ≡ Done
 was_done called status (inl same) done = sym same ∙ done
 was_done called status (inr lost) done = lost.0
 
 -- every other status than that of a dump that failed is the call's
-pub was : (called status it : Status) → Ends called status → status ≡ it → (it ≡ DumpFault → ⊥) → called ≡ it
+was : (called status it : Status) → Ends called status → status ≡ it → (it ≡ DumpFault → ⊥) → called ≡ it
 was called status it (inl same) is not = sym same ∙ is
 was called status it (inr lost) is not = absurd (not (sym is ∙ lost.1))
 
-pub stays : (called status : Status) → Ends called status → (called ≡ Done → ⊥) → status ≡ called
+stays : (called status : Status) → Ends called status → (called ≡ Done → ⊥) → status ≡ called
 stays called status (inl same) not = same
 stays called status (inr lost) not = absurd (not lost.0)
-
-pub silent_called : (called status : Status) → Ends called status → IsSilent status → IsSilent called
-silent_called called status (inl same) silent = subst IsSilent same silent
-silent_called called status (inr lost) silent = absurd (subst IsSilent lost.1 silent)
-
-pub of_run_still : (called status : Status) → Ends called status → IsOfRun called → IsOfRun status
-of_run_still called status (inl same) of = subst IsOfRun (sym same) of
-of_run_still called status (inr lost) of = subst IsOfRun (sym lost.1) tt
 
 -- a count of the sink below that was 0 before the call rose in it where it rose at some time
 rose_later : (before between now : ℕ) → before ≡ 0 → Rose between now → Rose before now
 rose_later before between now none rose = omega (arith, none, rose)
 
-pub rose_before : (before between now : ℕ) → Rose before between → between ≤ now → Rose before now
+rose_before : (before between now : ℕ) → Rose before between → between ≤ now → Rose before now
 rose_before before between now rose later = omega (arith, rose, later)
 
 not_both : (status : Status) → status ≡ DumpFault → status ≡ Done → ⊥
@@ -100,12 +98,6 @@ pub left_alone : (D : Type 0) (called status : Status) (old mid new : GatherView
     → (mid.gathered ≡ [] → (status ≡ called) × (new ≡ mid)) → (status ≡ called) × (new ≡ old)
 left_alone D called status old mid new same none nothing =
     let both = nothing (ap (λ (g : GatherView D). g.gathered) same ∙ none) in (both.0, both.1 ∙ same)
-
--- a call that was complete is so where the end of its dump was handed on
-pub complete_still : (called status : Status) → Ends called status → (status ≡ DumpFault → ⊥) → IsComplete called
-    → IsComplete status
-complete_still called status (inl same) not complete = subst IsComplete (sym same) complete
-complete_still called status (inr lost) not complete = absurd (not lost.1)
 
 -- the dump of the sink below is that of the sink that gathered it, where the end was handed on
 handed_on : (text : List ℕ) (name : Option (List ℕ)) (held held' : List ℕ) (begun_as begun_as' : Option (List ℕ))
@@ -209,12 +201,7 @@ dumped_below called status text name before start mid_held gathered held left wa
     (λ lost. part_handed text name before mid_held gathered held left was mid_begun begun (named fault) hands same
     (of_call Done lost.0)) ends)
 
--- every status other than that of the dump's fault is the call's
-pub called_is : (called status it : Status) → (called ≢ Done → status ≡ called)
-    → (called ≡ Done → status ≢ Done → status ≡ DumpFault) → status ≡ it → (it ≡ DumpFault → ⊥) → called ≡ it
-called_is called status it others fault is not = was called status it (ends_of called status others fault) is not
-
-pub run_of_on : (told told' : List (Option Told)) (plan : PlanView) (Leaves Leaves' : Run → Type 0)
+run_of_on : (told told' : List (Option Told)) (plan : PlanView) (Leaves Leaves' : Run → Type 0)
     → HasRunOf told plan Leaves → told ≡ told' → ((r : Run) → Leaves r → Leaves' r) → HasRunOf told' plan Leaves'
 run_of_on told told' plan Leaves Leaves' has same leaves = record {
   run = has.run;
@@ -222,7 +209,7 @@ run_of_on told told' plan Leaves Leaves' has same leaves = record {
   leaves = leaves has.run has.leaves;
 }
 
-pub run_from_on : (IsPlan : PlanView → Type 0) (told told' : PlanView → List (Option Told))
+run_from_on : (IsPlan : PlanView → Type 0) (told told' : PlanView → List (Option Told))
     (Leaves Leaves' : Run → Type 0) → HasRunFrom IsPlan told Leaves → ((plan : PlanView) → told plan ≡ told' plan)
     → ((r : Run) → Leaves r → Leaves' r) → HasRunFrom IsPlan told' Leaves'
 run_from_on IsPlan told told' Leaves Leaves' has same leaves = record {
@@ -230,3 +217,155 @@ run_from_on IsPlan told told' Leaves Leaves' has same leaves = record {
   is_plan = has.is_plan;
   ran = run_of_on (told has.plan) (told' has.plan) has.plan Leaves Leaves' has.ran (same has.plan) leaves;
 }
+
+-- ---- the row of a command, over the sink below
+
+module _ {S O : Type 0} (source : SourceGhosts S) (out : SinkGhosts O) (up down : DumpCall) (was now : S)
+    (before after : O) (told below : PlanView → List (Option Told)) (called status : Status) (ends : Ends called status)
+    (still : up.Stays → (status ≡ called) × down.Stays)
+    (fails : (called ≡ DumpFault → up.Fails) → status ≡ DumpFault → down.Fails)
+    (has : (text : List ℕ) (name : Option (List ℕ)) → (status ≡ DumpFault → name ≡ None → ⊥)
+    → up.Has called text name → down.Has status text name)
+    (same_told : (plan : PlanView) → told plan ≡ below plan) where
+  abbrev PrintFails : Type 0
+  PrintFails = Rose (out.faults before) (out.faults after)
+
+  -- where the sink of the dump failed, the words name a dump
+  faulty_named : (name : Option (List ℕ)) → (name ≡ None → up.Stays) → IsPlayed PrintFails up name called
+      → status ≡ DumpFault → name ≡ None → ⊥
+  faulty_named name unnamed played fault none =
+      let is = sym (still (unnamed none)).0 ∙ fault in
+      let it : IsPlayed PrintFails up name DumpFault =
+      subst (λ (s : Status). IsPlayed PrintFails up name s) is played in it.1 none
+
+  played_same : (name : Option (List ℕ)) (s : Status) → called ≡ s → status ≡ s → IsPlayed PrintFails up name s
+      → IsPlayed PrintFails down name s
+  played_same name Done was is played = tt
+  played_same name WriteFault was is played = (played.0, (still played.1).1)
+  played_same name DumpFault was is played = (fails (λ e. played.0) is, played.1)
+  played_same name (Rejected broken) was is played = played
+  played_same name BadWords was is played = played
+  played_same name (BadBench fault) was is played = played
+  played_same name (BadDump fault) was is played = played
+  played_same name ReadFault was is played = played
+  played_same name OutOfMemory was is played = played
+  played_same name TooLong was is played = played
+  played_same name (Foul foul) was is played = played
+  played_same name NotFound was is played = played
+
+  played_below : (name : Option (List ℕ)) → (name ≡ None → up.Stays) → Ends called status
+      → IsPlayed PrintFails up name called → IsPlayed PrintFails down name status
+  played_below name unnamed (inl same) played =
+      subst (λ (s : Status). IsPlayed PrintFails down name s) (sym same)
+      (played_same name called refl same played)
+  played_below name unnamed (inr lost) played =
+      subst (λ (s : Status). IsPlayed PrintFails down name s) (sym lost.1)
+      (
+        fails (λ fault. absurd (not_both called fault lost.0)) lost.1,
+        λ none. faulty_named name unnamed played lost.1 none,
+      )
+
+  look_below : {F : Type 0} (look : Look F) → up.Stays × LookEnds source out was now before after look called
+      → down.Stays × LookEnds source out was now before after look status
+  look_below look row =
+      let s = still row.0 in
+      (s.1, subst (λ (it : Status). LookEnds source out was now before after look it) (sym s.0) row.1)
+
+  made_below : (seed agents items : ℕ) → GenEnds out up before after told seed agents items called
+      → GenEnds out down before after below seed agents items status
+  made_below seed agents items (stays, inl lacks) =
+      let s = still stays in (s.1, inl (s.0 ∙ lacks.0, lacks.1))
+  made_below seed agents items (stays, inr played) =
+      let plan = made_plan seed agents items in
+      let s = still stays in (
+        s.1,
+        inr (
+          played_below None (λ none. stays) ends played.0,
+          run_of_on (told plan) (below plan) plan _ _ played.1 (same_told plan)
+              (λ r leaves tells. logged_still called status (run_summary seed agents items r) (out.holds before)
+              (out.holds after) ends (leaves tells)),
+        ),
+      )
+
+  ran_below : (bench : List ℕ) (name : Option (List ℕ))
+      → RunEnds source out up was now before after told bench name called
+      → RunEnds source out down was now before after below bench name status
+  ran_below bench name (unnamed, inl stopped) =
+      let s = still stopped.1.1 in (
+        λ none. s.1,
+        inl (
+          subst (λ (it : Status). IsStopped source bench_file bench was now it) (sym s.0) stopped.0,
+          (stopped.1.0, s.1),
+        ),
+      )
+  ran_below bench name (unnamed, inr played) = (
+    λ none. (still (unnamed none)).1,
+    inr (
+      played_below name unnamed ends played.0,
+      run_from_on _ told below _ _ played.1 same_told
+          (λ r leaves. (
+            λ tells. logged_still called status (run_log r) (out.holds before) (out.holds after) ends
+                (leaves.0 tells),
+            has (run_dump r) name (faulty_named name unnamed played.0) leaves.1,
+          )),
+    ),
+  )
+
+  pub row_below : (weights same : List (Sample → ℕ)) (form : Form) → weights ≡ same
+      → RowEnds source out up was now before after told weights form called
+      → RowEnds source out down was now before after below same form status
+  row_below weights same (run bench name) e row = ran_below bench name row
+  row_below weights same (check name) e row = look_below (check_look name) row
+  row_below weights same (audit name) e row = look_below (audit_look name) row
+  row_below weights same (show name) e row =
+      subst (λ (w : List (Sample → ℕ)). RowEnds source out down was now before after below w (show name) status) e
+      (look_below (show_look weights name) row)
+  row_below weights same (find name steps) e row = look_below (find_look name steps) row
+  row_below weights same (wave name from to) e row = look_below (wave_look name from to) row
+  row_below weights same (gen seed agents items) e row = (row.0, made_below seed agents items row.1)
+
+-- no command ends as words of no form do
+has_form : (form : Form) → MayEnd (Some form) BadWords → ⊥
+has_form (run bench None) ends = ends.0
+has_form (run bench (Some dump)) ends = ends
+has_form (check dump) ends = ends
+has_form (audit dump) ends = ends
+has_form (show dump) ends = ends
+has_form (find dump steps) ends = ends
+has_form (wave dump from to) ends = ends
+has_form (gen seed agents items) ends = ends
+
+-- a call that writes a dump may end with a fault of it
+may_fault : (form : Form) → is_some (name_written form) ≡ true → MayEnd (Some form) DumpFault
+may_fault (run bench None) e = let no : ⊥ = cc in absurd no
+may_fault (run bench (Some dump)) e = tt
+may_fault (check dump) e = let no : ⊥ = cc in absurd no
+may_fault (audit dump) e = let no : ⊥ = cc in absurd no
+may_fault (show dump) e = let no : ⊥ = cc in absurd no
+may_fault (find dump steps) e = let no : ⊥ = cc in absurd no
+may_fault (wave dump from to) e = let no : ⊥ = cc in absurd no
+may_fault (gen seed agents items) e = let no : ⊥ = cc in absurd no
+
+-- a call whose dump was stored, or refused, ends as one of its form may
+pub may_end_kept : (form : Form) (called status : Status) (named : Bool) → named ≡ is_some (name_written form)
+    → (named ≡ false → status ≡ called) → Ends called status → MayEnd (Some form) called
+    → MayEnd (Some form) status
+may_end_kept form called status named is unnamed (inl same) may =
+    subst (λ (s : Status). MayEnd (Some form) s) (sym same) may
+may_end_kept form called status false is unnamed (inr lost) may =
+    subst (λ (s : Status). MayEnd (Some form) s) (sym (unnamed refl)) may
+may_end_kept form called status true is unnamed (inr lost) may =
+    subst (λ (s : Status). MayEnd (Some form) s) (sym lost.1) (may_fault form (sym is))
+
+-- how a call with words of a form ends
+pub may_end_words : (words : Option Form) (form : Form) (result : Result Status Memory) → words ≡ Some form
+    → IfOk result (λ status. MayEnd (Some form) status) → IfOk result (λ status. MayEnd words status)
+may_end_words words form result e may =
+    subst (λ (w : Option Form). IfOk result (λ status. MayEnd w status)) (sym e) may
+
+pub no_words_of_form : (words : Option Form) (form : Form) (result : Result Status Memory)
+    → IfOk result (λ status. MayEnd (Some form) status) → result ≡ Ok BadWords → words ≡ None
+no_words_of_form words form result may e =
+    let ends : MayEnd (Some form) BadWords =
+    subst (λ (r : Result Status Memory). IfOk r (λ status. MayEnd (Some form) status)) e may in
+    absurd (has_form form ends)

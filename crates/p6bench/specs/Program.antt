@@ -1,17 +1,19 @@
--- What the program hands to a call of `bench`, how the call may end, and what is left of it once the end of the dump is
--- handed on.
-use Rattle.std.specs.Prelude.{◌≡◌, ◌≢◌, ◌⊎◌, ◌++◌, ℕ, List, [], ◌∷◌, Option, Some, None, Result, Ok, Err, codes}
+-- What the program hands to a call, and what is left of it once the end of the dump is handed on.
+use Rattle.std.specs.Prelude.{◌≡◌, ◌⊎◌, ◌++◌, ℕ, IsTrue, List, [], ◌∷◌, Option, Some, None, Result, Ok, Err, codes}
 use Rattle.fsb_command.specs.Form.{Form, run, check, audit, show, find, wave, gen}
+use Rattle.fsb_gather.specs.GatherView.{GatherView}
 use Rattle.fsb_hazard.specs.Told.{Told, by_lines}
+use Rattle.fsb_io.specs.Faults.{Rose}
+use Rattle.fsb_io.specs.declared.sink.Sink.{Ghosts as SinkGhosts}
 use Rattle.fsb_io.specs.declared.refusal.Memory.{Memory}
 use Rattle.fsb_play.specs.Writing.{HasDump, HasPart}
 use Rattle.fsb_probe.specs.Weights.{line_weight, data_weight}
 use Rattle.fsb_script.specs.Plans.{PlanView}
 use Rattle.fsb_signal.specs.declared.lines.TheConstants.Lines.{ADS, DRDY}
 use Rattle.fsb_signal.specs.declared.sample.Sample.{Sample}
-use Rattle.fsb_top.specs.BenchEnds.{IsOfRun, IsOfGen, IsOfCheck, IsOfAudit, IsOfFind, IsOfWave}
+use Rattle.fsb_top.specs.CallEnds.{DumpCall}
 use Rattle.fsb_top.specs.declared.status.Status.{Status}
-use Rattle.fsb_top.specs.declared.status.Status.TheVariants.{Done, BadWords, DumpFault, OutOfMemory}
+use Rattle.fsb_top.specs.declared.status.Status.TheVariants.{Done, DumpFault, OutOfMemory}
 
 -- what the program's objects tell of a plan: there is one, and it does what the hazard lines of the plan say
 abbrev pub told_of : PlanView → List (Option Told)
@@ -43,17 +45,36 @@ IsDumpedBelow DumpFault text name before was_begun_as held gathered begun_as =
     HasPartBelow text name before was_begun_as held gathered begun_as
 IsDumpedBelow _ text name before was_begun_as held gathered begun_as = Unit {0}
 
--- how a call with words of this form may end
-abbrev pub MayEnd : Option Form → Status → Type 0
-MayEnd None status = (status ≡ BadWords) ⊎ (status ≡ OutOfMemory)
-MayEnd (Some (run bench None)) status = IsOfRun status × (status ≢ DumpFault)
-MayEnd (Some (run bench (Some dump))) status = IsOfRun status
-MayEnd (Some (check dump)) status = IsOfCheck status
-MayEnd (Some (audit dump)) status = IsOfAudit status
-MayEnd (Some (show dump)) status = IsOfCheck status
-MayEnd (Some (find dump steps)) status = IsOfFind status
-MayEnd (Some (wave dump from to)) status = IsOfWave status
-MayEnd (Some (gen seed agents items)) status = IsOfGen status
+-- the sink of the dump below the one that gathers, before and after a call: that both stay as they were,
+-- that the sink below failed, and what it has of a dump
+abbrev pub dump_below : {D : Type 0} → SinkGhosts D → GatherView D → GatherView D → DumpCall
+dump_below sink was now = record {
+  Stays = now ≡ was;
+  Fails = Rose (sink.faults was.sink) (sink.faults now.sink);
+  Has = λ status text name. IsTrue sink.tells → IsDumpedBelow status text name
+      (sink.holds was.sink) (sink.begun_as was.sink) (sink.holds now.sink) now.gathered
+      (sink.begun_as now.sink);
+}
+
+-- the name of the file that a command of this form reads, where it reads one
+abbrev pub name_read : Form → Option (List ℕ)
+name_read (run bench dump) = Some bench
+name_read (check dump) = Some dump
+name_read (audit dump) = Some dump
+name_read (show dump) = Some dump
+name_read (find dump steps) = Some dump
+name_read (wave dump from to) = Some dump
+name_read (gen seed agents items) = None
+
+-- the name of the dump that a command of this form writes, where it writes one
+abbrev pub name_written : Form → Option (List ℕ)
+name_written (run bench dump) = dump
+name_written (check dump) = None
+name_written (audit dump) = None
+name_written (show dump) = None
+name_written (find dump steps) = None
+name_written (wave dump from to) = None
+name_written (gen seed agents items) = None
 
 -- the status of a call that came to its end, or lacked memory before it began
 abbrev pub status_after : Result Status Memory → Status

@@ -1,24 +1,38 @@
-use Rattle.std.proofs.Common.{◌∙◌, sym}
-use Rattle.fsb_top.proofs.Findings.{tells_finding, finding_line}
+use Rattle.std.proofs.Common.{◌∙◌, ap, inl, inr, length, refl, subst}
+use Rattle.fsb_audit_dump.specs.AuditText.{audit_text}
+use Rattle.fsb_audit_dump.specs.Audited.{IsAudited}
+use Rattle.fsb_top.proofs.Stops.{stopped_pieces}
+use Rattle.fsb_top.specs.BenchEnds.{IsWritten}
+use Rattle.fsb_top.specs.CallEnds.{EndsTold}
 use Rattle.fsb_top.proofs.audit.audit_file.Goals as goal
 
-pub returns-in-Ok-clause-audited : goal.returns-in-Ok-clause-audited
-returns-in-Ok-clause-audited g c tells run =
-    let read = c.in-Ok.ensures.audited tells in
-    record {
-      read = read.0;
-      named = c.in-Ok.ensures.named tells tt;
-      marks = read.1.marks;
-      trace = read.1.trace;
-      reads = read.1.reads;
-      few = read.1.few;
-      told = tells_finding c.tell_audit.result c.in-Ok.audited.found read.1.marks read.1.trace
-          c.tell_audit.ensures.told read.1.seen_all;
-    }
+pub returns-in-Ok-clause-ends : goal.returns-in-Ok-clause-ends
+returns-in-Ok-clause-ends g c = inr (record {
+  found = c.in-Ok.audited.found;
+  ends = subst (λ s. EndsTold g.O.Sink c.args.out.now c.tell_line.new.out s c.tell_line.result)
+      c.status_of_audit.ensures c.tell_line.ensures.ends;
+  told = λ tells.
+      let read = c.in-Ok.ensures.audited tells in
+      record {
+        marks = read.1.marks;
+        trace = read.1.trace;
+        read = record { named = c.in-Ok.ensures.named tells tt; short = read.0.short; all = read.0.all };
+        reads = read.1.reads;
+        few = read.1.few;
+        is_found = read.1.seen_all;
+        printed = λ prints.
+            subst (λ t. IsWritten c.tell_line.result t (g.O.Sink.holds c.args.out.now)
+            (g.O.Sink.holds c.tell_line.new.out))
+            (c.audit_line-line.ensures ∙ ap (λ n. audit_text n c.in-Ok.audited.found) read.1.clocks_are
+            ∙ ap (λ f. audit_text (length read.1.trace) f) read.1.seen_all) (c.tell_line.ensures.text prints);
+      };
+})
 
-pub returns-in-Ok-clause-text : goal.returns-in-Ok-clause-text
-returns-in-Ok-clause-text g c tells out m w reads =
-    let read = c.in-Ok.ensures.audited tells in
-    finding_line c.tell_audit.result c.in-Ok.audited.found _ m read.1.marks w read.1.trace _ _
-    (c.tell_audit.ensures.text out) read.1.seen_all read.1.clocks_are
-    (read.1.reads.1 ∙ sym reads.1) (read.1.reads.2 ∙ sym reads.2)
+pub returns-in-Err-clause-ends : goal.returns-in-Err-clause-ends
+returns-in-Err-clause-ends g c =
+    inl (
+      stopped_pieces g.S.Source c.args.name.now c.args.source.now c.audit_dump.new.source IsAudited c.in-Err.stop
+          c.from.result c.from.ensures c.in-Err.ensures.audited c.in-Err.ensures.named
+          (λ tells is. c.in-Err.ensures.not_read tells (cc)) (λ is. c.in-Err.ensures.read_fault (cc)),
+      refl,
+    )

@@ -1,16 +1,38 @@
-use Rattle.fsb_top.proofs.Verdicts.{tells_verdict}
+use Rattle.std.proofs.Common.{◌∙◌, ap, inl, inr, length, refl, subst}
+use Rattle.fsb_check.specs.Found.{IsFound}
+use Rattle.fsb_report.specs.VerdictText.{verdict_text}
+use Rattle.fsb_top.proofs.Stops.{stopped_pieces}
+use Rattle.fsb_top.specs.BenchEnds.{IsWritten}
+use Rattle.fsb_top.specs.CallEnds.{EndsTold}
 use Rattle.fsb_top.proofs.check.check_file.Goals as goal
 
-pub returns-in-Ok-clause-judged : goal.returns-in-Ok-clause-judged
-returns-in-Ok-clause-judged g c tells run =
-    let checked = c.in-Ok.ensures.checked tells in
-    record {
-      read = checked.0;
-      named = c.in-Ok.ensures.named tells tt;
-      marks = checked.1.marks;
-      trace = checked.1.trace;
-      reads = checked.1.reads;
-      few = checked.1.few;
-      told = tells_verdict c.tell.result c.in-Ok.finding checked.1.marks checked.1.trace c.tell.ensures.told
-          checked.1.seen_all;
-    }
+pub returns-in-Ok-clause-ends : goal.returns-in-Ok-clause-ends
+returns-in-Ok-clause-ends g c = inr (record {
+  found = c.in-Ok.finding.broken;
+  ends = subst (λ s. EndsTold g.O.Sink c.args.out.now c.tell_line.new.out s c.tell_line.result)
+      c.status_of_broken.ensures c.tell_line.ensures.ends;
+  told = λ tells.
+      let read = c.in-Ok.ensures.checked tells in
+      record {
+        marks = read.1.marks;
+        trace = read.1.trace;
+        read = record { named = c.in-Ok.ensures.named tells tt; short = read.0.short; all = read.0.all };
+        reads = read.1.reads;
+        few = read.1.few;
+        is_found = read.1.seen_all;
+        printed = λ prints.
+            subst (λ t. IsWritten c.tell_line.result t (g.O.Sink.holds c.args.out.now)
+            (g.O.Sink.holds c.tell_line.new.out))
+            (c.verdict_line-line.ensures ∙ ap (λ n. verdict_text n c.in-Ok.finding.broken) read.1.clocks_are
+            ∙ ap (λ b. verdict_text (length read.1.trace) b) read.1.seen_all) (c.tell_line.ensures.text prints);
+      };
+})
+
+pub returns-in-Err-clause-ends : goal.returns-in-Err-clause-ends
+returns-in-Err-clause-ends g c =
+    inl (
+      stopped_pieces g.S.Source c.args.name.now c.args.source.now c.check_dump.new.source IsFound c.in-Err.stop
+          c.from.result c.from.ensures c.in-Err.ensures.checked c.in-Err.ensures.named
+          (λ tells is. c.in-Err.ensures.not_read tells (cc)) (λ is. c.in-Err.ensures.read_fault (cc)),
+      refl,
+    )

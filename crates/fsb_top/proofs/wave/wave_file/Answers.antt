@@ -1,25 +1,31 @@
-use Rattle.std.proofs.Common.{◌∙◌, List, sym, subst}
-use Rattle.fsb_signal.specs.declared.sample.Sample.{Sample}
-use Rattle.fsb_wave.specs.Wave.{Stands}
-use Rattle.fsb_top.proofs.Searches.{tells_nothing}
+use Rattle.std.proofs.Common.{inl, inr, refl}
+use Rattle.fsb_look.specs.Looked.{IsWave}
+use Rattle.fsb_top.proofs.Stops.{stopped_pieces}
 use Rattle.fsb_top.proofs.wave.wave_file.Goals as goal
 
-pub returns-in-Ok-clause-looked : goal.returns-in-Ok-clause-looked
-returns-in-Ok-clause-looked g c tells run =
-    let read = c.in-Ok.ensures.read tells in
-    record {
-      read = read.0;
-      named = c.in-Ok.ensures.named tells tt;
-      marks = read.1.marks;
-      trace = read.1.trace;
-      reads = read.1.reads;
-      few = read.1.few;
-      told = tells_nothing c.tell_wave.result read.1.trace c.tell_wave.ensures.told;
-    }
+pub returns-in-Ok-clause-ends : goal.returns-in-Ok-clause-ends
+returns-in-Ok-clause-ends g c = inr (record {
+  found = tt;
+  ends = c.tell_wave.ensures.ends;
+  told = λ tells.
+      let read = c.in-Ok.ensures.read tells in
+      record {
+        marks = read.1.marks;
+        trace = read.1.trace;
+        read = record { named = c.in-Ok.ensures.named tells tt; short = read.0.short; all = read.0.all };
+        reads = read.1.reads;
+        few = read.1.few;
+        is_found = refl;
+        printed = λ prints. c.tell_wave.ensures.text prints _ _ read.1.trace read.1.drawn;
+      };
+})
 
-pub returns-in-Ok-clause-text : goal.returns-in-Ok-clause-text
-returns-in-Ok-clause-text g c tells out m w reads =
-    let read = c.in-Ok.ensures.read tells in
-    c.tell_wave.ensures.text out _ _ w
-    (subst (λ (v : List Sample). Stands c.in-Ok.wave c.args.range.now.from c.args.range.now.to v)
-    (read.1.reads.2 ∙ sym reads.2) read.1.drawn)
+pub returns-in-Err-clause-ends : goal.returns-in-Err-clause-ends
+returns-in-Err-clause-ends g c =
+    inl (
+      stopped_pieces g.S.Source c.args.name.now c.args.source.now c.wave_of_dump.new.source
+          (IsWave c.args.range.now.from c.args.range.now.to) c.in-Err.stop c.from.result c.from.ensures
+          c.in-Err.ensures.read c.in-Err.ensures.named (λ tells is. c.in-Err.ensures.not_read tells (cc))
+          (λ is. c.in-Err.ensures.read_fault (cc)),
+      refl,
+    )

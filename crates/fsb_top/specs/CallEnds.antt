@@ -20,6 +20,7 @@ use Rattle.fsb_script.specs.Plans.{PlanView}
 use Rattle.fsb_show.specs.ShowText.{show_text}
 use Rattle.fsb_signal.specs.declared.marks.Marks.{Marks}
 use Rattle.fsb_signal.specs.declared.sample.Sample.{Sample}
+use Rattle.fsb_timely.specs.Runs.{Run}
 use Rattle.fsb_top.specs.BenchEnds.{HasRunFrom, HasRunOf, IsDumped, IsLogged, IsPlanOf, IsWritten}
 use Rattle.fsb_top.specs.BenchEnds.{finding_text, match_text}
 use Rattle.fsb_top.specs.declared.status.Status.{Status}
@@ -31,8 +32,8 @@ use Rattle.fsb_trigger.specs.Match.{least_match}
 use Rattle.fsb_trigger.specs.TriggerSteps.{StepView}
 use Rattle.fsb_wave.specs.WaveText.{wave_text}
 use Rattle.vcd_grammar.specs.Reading.{Reads}
-use Rattle.fsb_calls.specs.FileRead.{FileKind, bench_file, dump_in_pieces, whole_dump}
-use Rattle.fsb_calls.specs.FileRead.{IsReadAll, IsStopped, sample_limit}
+use Rattle.fsb_top.specs.FileRead.{FileKind, bench_file, dump_in_pieces, whole_dump}
+use Rattle.fsb_top.specs.FileRead.{IsReadAll, IsStopped, sample_limit}
 
 -- ---- commands that look at a dump
 
@@ -172,6 +173,17 @@ IsPlayed Failed dump name DumpFault = dump.Fails × (name ≢ None)
 IsPlayed Failed dump name _ = ⊥
 
 module _ {O : Type 0} (out : SinkGhosts O) (dump : DumpCall) (before after : O) where
+  -- a plan was run, and what was printed and dumped is of one run of it, or memory lacked; without
+  -- a name for a dump nothing is dumped
+  abbrev pub PlanEnds : List (Option Told) → PlanView → (Run → List ℕ) → Option (List ℕ) → Status
+      → Type 0
+  PlanEnds told plan text name status = (name ≡ None → dump.Stays)
+      × (((status ≡ OutOfMemory) × (after ≡ before) × dump.Stays)
+      ⊎ (IsPlayed (Rose (out.faults before) (out.faults after)) dump name status
+      × HasRunOf told plan (λ r.
+      (IsTrue out.tells → IsLogged status (text r) (out.holds before) (out.holds after))
+      × dump.Has status (run_dump r) name)))
+
   -- the plan that is made from a seed was run, or memory lacked; nothing is dumped
   abbrev pub GenEnds : (PlanView → List (Option Told)) → ℕ → ℕ → ℕ → Status → Type 0
   GenEnds told seed agents items status = dump.Stays

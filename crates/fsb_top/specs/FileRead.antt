@@ -1,12 +1,12 @@
 -- What was read of the file that the words of a call name, and what stops a call.
-use Rattle.std.specs.Prelude.{◌≡◌, ◌≤◌, ◌-◌, ◌+◌, ◌^◌, ◌⊎◌, ℕ, IsTrue, List, [], length}
+use Rattle.std.specs.Prelude.{◌≡◌, ◌≤◌, ◌<◌, ◌-◌, ◌+◌, ◌^◌, ◌⊎◌, ℕ, IsTrue, List, [], drop, length}
 use Rattle.std.specs.Prelude.{Option, Some}
 use Rattle.fsb_io.specs.Faults.{Rose}
+use Rattle.fsb_io.specs.Takes.{TakesAtMost}
 use Rattle.fsb_io.specs.declared.source.Source.{Ghosts}
 use Rattle.fsb_script.specs.Drafts.{FirstBad}
 use Rattle.fsb_script.specs.declared.fault.ScriptFault.{ScriptFault}
 use Rattle.fsb_show.specs.ShownDump.{IsLongDump}
-use Rattle.fsb_top.specs.Stopped.{HasReadAtMost, HasReadPast}
 use Rattle.fsb_top.specs.declared.status.Status.{Status}
 use Rattle.fsb_top.specs.declared.status.Status.TheVariants.{BadBench, BadDump, ReadFault}
 use Rattle.fsb_top.specs.declared.status.Status.TheVariants.{OutOfMemory, TooLong}
@@ -53,6 +53,19 @@ pub record HasReadAll (kind : FileKind) (name held left : List ℕ) (begun_as : 
   pub named : begun_as ≡ Some name
   pub short : length held ≤ byte_limit kind
   pub all : left ≡ []
+
+-- the file under this name is longer than the limit, and was read to one byte past it
+pub record HasReadPast (limit : ℕ) (name held left : List ℕ) (begun_as : Option (List ℕ))
+    : Type 0 where
+  pub named : begun_as ≡ Some name
+  pub long : limit < length held
+  pub rest : left ≡ drop (limit + 1) held
+
+-- the file under this name was opened, and of what it holds at most so many bytes were read
+pub record HasReadAtMost (most : ℕ) (name held left : List ℕ) (begun_as : Option (List ℕ))
+    : Type 0 where
+  pub named : begun_as ≡ Some name
+  pub taken : TakesAtMost most held left
 
 -- it is too long: it was read to one byte past the limit, or whole and has too many samples
 abbrev pub HasReadTooMuch : FileKind → List ℕ → List ℕ → List ℕ → Option (List ℕ) → Type 0
