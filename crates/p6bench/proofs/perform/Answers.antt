@@ -1,5 +1,7 @@
-use Rattle.std.proofs.Common.{ap}
+use Rattle.std.proofs.Common.{◌++◌, IsTrue, ap}
 use Rattle.fsb_command.specs.Command.{form_meant}
+use Rattle.fsb_top.proofs.Interface.{may_end}
+use Rattle.fsb_top.specs.BenchEnds.{IsDumped}
 use Rattle.p6bench.specs.Program.{dump_below, told_of, weights}
 use Rattle.p6bench.proofs.Endings.{Ends, dumped_below, ends_of, left_alone, rose_in, row_below}
 use Rattle.p6bench.proofs.perform.Goals as goal
@@ -18,7 +20,9 @@ returns-clause-ends g c =
     (λ stays. left_alone _ _ _ _ _ _ stays c.requires.fresh c.finished.ensures.nothing_left)
     (λ rose fault. rose_in called status _ _ _ ends c.requires.unfailed c.finished.ensures.later rose
     c.finished.ensures.cause fault)
-    (λ text name named leaves tells. dumped_below called status text name (g.D.Sink.holds old.sink) old.gathered
+    (λ text name named (leaves : IsTrue g.D.Sink.tells → IsDumped called text name
+    (g.D.Sink.holds old.sink ++ old.gathered) (g.D.Sink.begun_as old.sink) (g.D.Sink.holds mid.sink ++ mid.gathered)
+    (g.D.Sink.begun_as mid.sink)) tells. dumped_below called status text name (g.D.Sink.holds old.sink) old.gathered
     (g.D.Sink.holds mid.sink) mid.gathered (g.D.Sink.holds new.sink) new.gathered (g.D.Sink.begun_as old.sink)
     (g.D.Sink.begun_as mid.sink) (g.D.Sink.begun_as new.sink) ends c.requires.fresh named
     (c.finished.ensures.whole tells) (c.finished.ensures.handed tells) (c.finished.ensures.name_stays tells)
@@ -28,3 +32,9 @@ returns-clause-ends g c =
     ))
     (leaves tells))
     c.requires.scripted _ weights (form_meant c.args.command) c.requires.weighed c.carry_out-status.ensures.ends
+
+pub returns-clause-may_end : goal.returns-clause-may_end
+returns-clause-may_end g c =
+    may_end g.S.Source g.O.Sink (dump_below g.D.Sink c.args.dump.now c.finished.new.dump) c.args.source.now
+    c.carry_out-status.new.source c.args.out.now c.carry_out-status.new.out told_of weights
+    (form_meant c.args.command) c.finished.result (returns-clause-ends g c)
