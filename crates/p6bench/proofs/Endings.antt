@@ -1,5 +1,5 @@
 -- What is left of a call once the end of the dump is handed on.
-use Rattle.std.proofs.Common.{◌≡◌, ◌≢◌, ◌≤◌, ◌⊎◌, ◌++◌, inl, inr, ⊎_elim, ℕ, List, [], Option, Some, None, refl, sym}
+use Rattle.std.proofs.Common.{IsTrue, ◌≡◌, ◌≢◌, ◌≤◌, ◌⊎◌, ◌++◌, inl, inr, ⊎_elim, ℕ, List, [], Option, Some, None, refl, sym}
 use Rattle.std.proofs.Common.{subst, ap, ◌∙◌, arith, Bool, false, is_some, true, Result, Ok}
 use Rattle.std.specs.Prelude.{IfOk}
 use Rattle.fsb_io.specs.declared.refusal.Memory.{Memory}
@@ -219,6 +219,16 @@ run_from_on IsPlan told told' Leaves Leaves' has same leaves = record {
 }
 
 -- ---- the row of a command, over the sink below
+
+-- the sink that gathers, before and after a call
+abbrev pub dump_gathered : {D : Type 0} → SinkGhosts D → GatherView D → GatherView D → DumpCall
+dump_gathered sink was now = record {
+  Stays = now ≡ was;
+  Fails = Rose (sink.faults was.sink) (sink.faults now.sink);
+  Has = λ status text name. IsTrue sink.tells → IsDumped status text name
+      (sink.holds was.sink ++ was.gathered) (sink.begun_as was.sink)
+      (sink.holds now.sink ++ now.gathered) (sink.begun_as now.sink);
+}
 
 module _ {S O : Type 0} (source : SourceGhosts S) (out : SinkGhosts O) (up down : DumpCall) (was now : S)
     (before after : O) (told below : PlanView → List (Option Told)) (called status : Status) (ends : Ends called status)

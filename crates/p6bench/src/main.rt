@@ -190,6 +190,7 @@ fn perform<S: Source, O: Sink, D: Sink>(
     requires unfailed { D.faults dump.old.sink ≡ 0 }
     ensures ends { RowEnds S.Source O.Sink (dump_below D.Sink dump.old dump.new)
         source.old source.new out.old out.new told_of weights (form_meant command.entry) result }
+    ensures may_end { MayEnd (Some (form_meant command.entry)) result }
     ensures holds_stays { IsTrue S.tells → S.holds source.new ≡ S.holds source.old }
     ensures log_name { IsTrue O.tells → O.begun_as out.new ≡ O.begun_as out.old }
     ensures handed_on { result ≡ Status.Done → dump.new.gathered ≡ [] }

@@ -1,12 +1,8 @@
 use Rattle.fsb_command.specs.Command.{form_meant}
-use Rattle.fsb_top.proofs.Interface.{may_end}
-use Rattle.p6bench.specs.Program.{told_of, weights}
 use Rattle.p6bench.proofs.Endings.{may_end_kept}
 use Rattle.p6bench.proofs.obey.Goals as goal
 
 pub returns : goal.returns
 returns g c =
     may_end_kept (form_meant c.args.command) c.perform-status.result c.kept.result c.names_dump-names_dump.result
-    c.names_dump-names_dump.ensures c.kept.ensures.unnamed c.kept.ensures.ends
-    (may_end _ _ _ _ _ _ _ told_of weights (form_meant c.args.command) c.perform-status.result
-    c.perform-status.ensures.ends)
+    c.names_dump-names_dump.ensures c.kept.ensures.unnamed c.kept.ensures.ends c.perform-status.ensures.may_end

@@ -1,7 +1,8 @@
 use Rattle.std.proofs.Common.{ap}
 use Rattle.fsb_command.specs.Command.{form_meant}
+use Rattle.fsb_top.proofs.Interface.{may_end}
 use Rattle.p6bench.specs.Program.{dump_below, told_of, weights}
-use Rattle.p6bench.proofs.Endings.{Ends, dumped_below, ends_of, left_alone, rose_in, row_below}
+use Rattle.p6bench.proofs.Endings.{Ends, dump_gathered, dumped_below, ends_of, left_alone, rose_in, row_below}
 use Rattle.p6bench.proofs.perform.Goals as goal
 
 pub returns-clause-ends : goal.returns-clause-ends
@@ -13,7 +14,7 @@ returns-clause-ends g c =
     let new = c.finished.new.dump in
     let ends : Ends called status =
     ends_of called status c.finished.ensures.others_stay c.finished.ensures.fault in
-    row_below g.S.Source g.O.Sink _ (dump_below g.D.Sink old new) c.args.source.now c.carry_out-status.new.source
+    row_below g.S.Source g.O.Sink (dump_gathered g.D.Sink old mid) (dump_below g.D.Sink old new) c.args.source.now c.carry_out-status.new.source
     c.args.out.now c.carry_out-status.new.out _ told_of called status ends
     (λ stays. left_alone _ _ _ _ _ _ stays c.requires.fresh c.finished.ensures.nothing_left)
     (λ rose fault. rose_in called status _ _ _ ends c.requires.unfailed c.finished.ensures.later rose
@@ -28,3 +29,9 @@ returns-clause-ends g c =
     ))
     (leaves tells))
     c.requires.scripted _ weights (form_meant c.args.command) c.requires.weighed c.carry_out-status.ensures.ends
+
+pub returns-clause-may_end : goal.returns-clause-may_end
+returns-clause-may_end g c =
+    may_end g.S.Source g.O.Sink (dump_below g.D.Sink c.args.dump.now c.finished.new.dump) c.args.source.now
+    c.carry_out-status.new.source c.args.out.now c.carry_out-status.new.out told_of weights
+    (form_meant c.args.command) c.finished.result (returns-clause-ends g c)
