@@ -15,8 +15,8 @@ unfoldable pub line_width : ℕ → ℕ
 line_width line = entry_width (slice_get table line)
 
 -- the line has more than one bit
-unfoldable pub is_word : ℕ → Bool
-is_word line = nat_lt line 22 && nat_lt 1 (line_width line)
+unfoldable pub is_multi_bit : ℕ → Bool
+is_multi_bit line = nat_lt line 22 && nat_lt 1 (line_width line)
 
 unfoldable pub is_entry_needed : Option TableEntry → Bool
 is_entry_needed None = false
@@ -67,12 +67,12 @@ place_within line width range =
     else None
 
 -- the variable's range: where none is written, from its width less one down to 0
-unfoldable pub range_of : ℕ → Written → Option Range
-range_of width Absent = Some (record { left = width - 1; right = 0 })
-range_of width (Numbers range) = Some range
-range_of width Unreadable = None
+unfoldable pub known_range : ℕ → Written → Option Range
+known_range width Absent = Some (record { left = width - 1; right = 0 })
+known_range width (Numbers range) = Some range
+known_range width Unreadable = None
 
 -- which bits of a variable are the line, if it can be the line
 unfoldable pub place_of : ℕ → ℕ → Written → Option Place
 place_of line width written =
-    elim (range_of width written) [ None ↦ None | Some range ↦ place_within line width range ]
+    elim (known_range width written) [ None ↦ None | Some range ↦ place_within line width range ]

@@ -2,7 +2,7 @@
 use Rattle.std.specs.Prelude.{ℕ, Bool, true, false, nat_eq, nat_lt, not, length, ◌&&◌, ◌||◌, List, [], ◌∷◌, Option, Some, None, is_some, if◌then◌else◌}
 use Rattle.std.specs.List.{find, filter, list_any, list_all}
 use Rattle.scope_pick.specs.declared.wires.Named.{Named}
-use Rattle.scope_pick.specs.Places.{is_line_needed, is_word}
+use Rattle.scope_pick.specs.Places.{is_line_needed, is_multi_bit}
 
 -- the numbers of the lines
 abbrev pub lines : List ℕ
@@ -74,19 +74,19 @@ qualified ns settled = filter (qualifies ns settled) ns
 unfoldable pub has_same : Option Named → Option Named → Bool
 has_same None theirs = not (is_some theirs)
 has_same (Some e) None = true
-has_same (Some e) (Some f) = is_word e.line || nat_eq e.wire f.wire
+has_same (Some e) (Some f) = is_multi_bit e.line || nat_eq e.wire f.wire
 
 -- the two are a word of one wire, if both stand there
 unfoldable pub may_be_one_word : Option Named → Option Named → Bool
 may_be_one_word None theirs = true
 may_be_one_word (Some e) None = true
-may_be_one_word (Some e) (Some f) = not (is_word e.line) || nat_eq e.wire f.wire
+may_be_one_word (Some e) (Some f) = not (is_multi_bit e.line) || nat_eq e.wire f.wire
 
 -- the two are a word of two wires, if both stand there
 unfoldable pub may_be_two_words : Option Named → Option Named → Bool
 may_be_two_words None theirs = true
 may_be_two_words (Some e) None = true
-may_be_two_words (Some e) (Some f) = not (is_word e.line) || not (nat_eq e.wire f.wire)
+may_be_two_words (Some e) (Some f) = not (is_multi_bit e.line) || not (nat_eq e.wire f.wire)
 
 -- every line of the other scope stands in this one
 abbrev pub has_lines_of : List Named → List ℕ → ℕ → ℕ → Bool

@@ -8,16 +8,16 @@ use Rattle.scope_pick.specs.declared.variable.Written.TheVariants.{Absent, Numbe
 use Rattle.scope_pick.specs.declared.split.Bit.{Bit}
 use Rattle.scope_pick.specs.declared.split.BitName.{BitName}
 use Rattle.scope_pick.specs.Names.{line_named, is_exact_name, without_escape}
-use Rattle.scope_pick.specs.Places.{line_width, lowest_index, is_word}
+use Rattle.scope_pick.specs.Places.{line_width, lowest_index, is_multi_bit}
 use Rattle.scope_pick.specs.Numbering.{is_wire_kind, scope_number, wire_number}
 
 -- a decimal digit
-unfoldable pub is_digit : ℕ → Bool
-is_digit b = nat_le 48 b && nat_le b 57
+unfoldable pub is_index_digit : ℕ → Bool
+is_index_digit b = nat_le 48 b && nat_le b 57
 
 -- the digits go on from a number and stay below a hundred million
 unfoldable pub fits_on : ℕ → ℕ → Bool
-fits_on n b = is_digit b && nat_le n 9999999
+fits_on n b = is_index_digit b && nat_le n 9999999
 
 -- the number that decimal digits make of the number before them
 abbrev pub index_from : ℕ → List ℕ → Option ℕ
@@ -64,7 +64,7 @@ indexed name = before_last (opener name) (unclosed name)
 unfoldable pub bit_called : List ℕ → Option ℕ → ℕ → Option BitName
 bit_called name None number = None
 bit_called name (Some line) number =
-    if is_word line then Some (record { line = line; number = number; exact = is_exact_name line name })
+    if is_multi_bit line then Some (record { line = line; number = number; exact = is_exact_name line name })
     else None
 
 -- the bit that a name with an index stands for

@@ -44,14 +44,14 @@ whole_at vs i v =
     ]
 
 -- a word that has all its bits stands at the first of them
-unfoldable pub word_at : List Bit → Option Bit → Option Named
-word_at bs None = None
-word_at bs (Some b) = if is_first_bit bs b && is_joined bs b then Some (as_word b) else None
+unfoldable pub split_at : List Bit → Option Bit → Option Named
+split_at bs None = None
+split_at bs (Some b) = if is_first_bit bs b && is_joined bs b then Some (as_word b) else None
 
 -- the i-th variable as a line of the bus: a whole one, or the first bit of a word
 unfoldable pub named_at : List Variable → List Bit → ℕ → Variable → Option Named
 named_at vs bs i v =
-    elim (whole_at vs i v) [ Some e ↦ Some e | None ↦ word_at bs (bit_at vs i v) ]
+    elim (whole_at vs i v) [ Some e ↦ Some e | None ↦ split_at bs (bit_at vs i v) ]
 
 -- a bit of a word that lacks others
 unfoldable pub lone_bit : List Bit → Option Bit → Option Named

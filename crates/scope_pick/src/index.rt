@@ -2,7 +2,7 @@
 
 ghost use Rattle.std.specs.Prelude.{◌≡◌, ◌≤◌, ◌<◌, ◌+◌, ◌*◌, ◌-◌, length, IsTrue, nat_eq, reverse};
 ghost use Rattle.std.specs.List.{position};
-ghost use Rattle.scope_pick.specs.Splits.{is_digit, fits_on, index_from, index_in, after_last, before_last, opener, unclosed, index_of, indexed};
+ghost use Rattle.scope_pick.specs.Splits.{is_index_digit, fits_on, index_from, index_in, after_last, before_last, opener, unclosed, index_of, indexed};
 
 /// The number that a word is: digits alone, one or more, below a hundred million.
 #[tactic(auto, unfolding(crate::specs::Splits::index_in))]
@@ -28,7 +28,7 @@ fn index_from_zero(word: &[u8]) -> Option<u32>
     Some(number)
 }
 
-#[tactic(auto, unfolding(crate::specs::Splits::fits_on, crate::specs::Splits::is_digit))]
+#[tactic(auto, unfolding(crate::specs::Splits::fits_on, crate::specs::Splits::is_index_digit))]
 fn fits_on(number: u32, byte: u8) -> bool
     ensures value { result ≡ fits_on number byte }
     ensures small { IsTrue result → number ≤ 9999999 }

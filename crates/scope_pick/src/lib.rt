@@ -12,7 +12,7 @@ pub use index::{after_last, before_last, index_in, index_of, indexed};
 pub use names::{is_exact_name, line_named, without_escape};
 pub use numbering::{is_same_wire, is_wire_kind};
 pub use place::{
-    Place, is_line_needed, is_range_of, is_word, line_width, lowest_index, place_of, range_of,
+    Place, is_line_needed, is_range_of, is_multi_bit, line_width, lowest_index, place_of, known_range,
 };
 pub use scopes::{
     ScopeFault, buses, first_in, found_in, fullest, is_ambiguous, is_head, is_listed, is_scope_needed,

@@ -1,5 +1,5 @@
 ghost use Rattle.std.specs.Prelude.{◌≡◌, ◌<◌, ◌≤◌, IsTrue};
-ghost use Rattle.scope_pick.specs.Places.{line_width, is_word, is_line_needed, lowest_index, highest_index, is_range_of, place_by_index, place_within, range_of, place_of};
+ghost use Rattle.scope_pick.specs.Places.{line_width, is_multi_bit, is_line_needed, lowest_index, highest_index, is_range_of, place_by_index, place_within, known_range, place_of};
 
 use crate::variable::{Range, Written};
 use fsb_signal::signal_at;
@@ -31,9 +31,9 @@ pub fn is_line_needed(line: u8) -> bool
 }
 
 /// Whether the line has more than one bit.
-#[tactic(auto, unfolding(crate::specs::Places::is_word))]
-pub fn is_word(line: u8) -> bool
-    ensures { result ≡ is_word line }
+#[tactic(auto, unfolding(crate::specs::Places::is_multi_bit))]
+pub fn is_multi_bit(line: u8) -> bool
+    ensures { result ≡ is_multi_bit line }
 {
     line < 22 && 1 < line_width(line)
 }
@@ -44,16 +44,16 @@ pub fn place_of(line: u8, width: u32, written: Written) -> Option<Place>
     requires { line < 22 }
     ensures { result ≡ place_of line width written }
 {
-    match range_of(width, written) {
+    match known_range(width, written) {
         None => None,
         Some(range) => place_within(line, width, range),
     }
 }
 
 /// The range of a variable of this width, or `None` where it cannot be read.
-#[tactic(auto, unfolding(crate::specs::Places::range_of))]
-pub fn range_of(width: u32, written: Written) -> Option<Range>
-    ensures { result ≡ range_of width written }
+#[tactic(auto, unfolding(crate::specs::Places::known_range))]
+pub fn known_range(width: u32, written: Written) -> Option<Range>
+    ensures { result ≡ known_range width written }
 {
     match written {
         Written::Absent => Some(Range {

@@ -3,7 +3,7 @@ ghost use Rattle.std.specs.List.{list_any, list_all, find, filter};
 ghost use Rattle.scope_pick.specs.Scopes.{lines, is_for, exact_in, like_in, first_in, is_rival, is_ambiguous, found_in, is_settled, is_whole, is_head, qualifies, qualified, has_same, may_be_one_word, may_be_two_words, is_same_bus, is_fullest, picked, lies_in, stands_alone, buses, is_free, is_scope_needed, is_listed};
 ghost use Rattle.scope_pick.specs.ScopeFaults.{IsPicked, IsScopeFault};
 
-use crate::place::{is_line_needed, is_word};
+use crate::place::{is_line_needed, is_multi_bit};
 use crate::wires::Named;
 use std::alloc::{AllocError, Global};
 
@@ -309,7 +309,7 @@ fn has_same(ours: Option<Named>, theirs: Option<Named>) -> bool
         None => theirs.is_none(),
         Some(our) => match theirs {
             None => true,
-            Some(their) => is_word(our.line) || our.wire == their.wire,
+            Some(their) => is_multi_bit(our.line) || our.wire == their.wire,
         },
     }
 }
@@ -322,7 +322,7 @@ fn may_be_one_word(ours: Option<Named>, theirs: Option<Named>) -> bool
         None => true,
         Some(our) => match theirs {
             None => true,
-            Some(their) => !is_word(our.line) || our.wire == their.wire,
+            Some(their) => !is_multi_bit(our.line) || our.wire == their.wire,
         },
     }
 }
@@ -335,7 +335,7 @@ fn may_be_two_words(ours: Option<Named>, theirs: Option<Named>) -> bool
         None => true,
         Some(our) => match theirs {
             None => true,
-            Some(their) => !is_word(our.line) || our.wire != their.wire,
+            Some(their) => !is_multi_bit(our.line) || our.wire != their.wire,
         },
     }
 }

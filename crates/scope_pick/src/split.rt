@@ -8,7 +8,7 @@ ghost use Rattle.scope_pick.specs.Splits.{bit_called, bit_by_name, bit_by_range,
 use crate::index::{index_of, indexed};
 use crate::names::{is_exact_name, line_named, without_escape};
 use crate::numbering::{is_wire_kind, scope_number, wire_number};
-use crate::place::{is_word, line_width, lowest_index};
+use crate::place::{is_multi_bit, line_width, lowest_index};
 use crate::variable::{Variable, Written};
 use std::alloc::{AllocError, Global};
 
@@ -130,7 +130,7 @@ fn bit_called(name: &[u8], line: Option<u8>, number: u32) -> Option<BitName>
     match line {
         None => None,
         Some(line) => {
-            if is_word(line) {
+            if is_multi_bit(line) {
                 Some(BitName {
                     line,
                     number,

@@ -1,7 +1,7 @@
 ghost use Rattle.std.specs.Prelude.{◌≡◌, ◌<◌, IfOk, IfSome};
 ghost use Rattle.std.specs.List.{filter_map, enumerate_from};
 ghost use Rattle.scope_pick.specs.Splits.{bits};
-ghost use Rattle.scope_pick.specs.Wires.{can_be, as_line, as_word, whole_at, word_at, lone_bit, unfit_line, unfit_at, unfit_lines, named_at, named_lines};
+ghost use Rattle.scope_pick.specs.Wires.{can_be, as_line, as_word, whole_at, split_at, lone_bit, unfit_line, unfit_at, unfit_lines, named_at, named_lines};
 
 use crate::names::{is_exact_name, line_named};
 use crate::numbering::{is_wire_kind, scope_number, wire_number};
@@ -81,7 +81,7 @@ fn named_at(variables: &[Variable], bits: &[Bit], index: usize, variable: &Varia
 {
     match whole_at(variables, index, variable) {
         Some(name) => Some(name),
-        None => word_at(bits, bit_at(variables, index, variable)),
+        None => split_at(bits, bit_at(variables, index, variable)),
     }
 }
 
@@ -101,10 +101,10 @@ fn whole_at(variables: &[Variable], index: usize, variable: &Variable) -> Option
     }
 }
 
-#[tactic(auto, unfolding(crate::specs::Wires::word_at))]
-fn word_at(bits: &[Bit], bit: Option<Bit>) -> Option<Named>
+#[tactic(auto, unfolding(crate::specs::Wires::split_at))]
+fn split_at(bits: &[Bit], bit: Option<Bit>) -> Option<Named>
     requires { IfSome bit (λ b. b.line < 22) }
-    ensures { result ≡ word_at bits.now bit }
+    ensures { result ≡ split_at bits.now bit }
 {
     match bit {
         None => None,

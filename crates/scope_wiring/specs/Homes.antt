@@ -13,12 +13,12 @@ use Rattle.scope_wiring.specs.declared.home.Home.TheVariants.{Nowhere, At, Refus
 use Rattle.scope_wiring.specs.Texts.{scope_path}
 
 -- the variable stands in the scope of this path
-unfoldable pub is_at : List ℕ → Variable → Bool
-is_at path v = pointwise nat_eq v.scope.items path
+unfoldable pub is_in_scope : List ℕ → Variable → Bool
+is_in_scope path v = pointwise nat_eq v.scope.items path
 
 -- the number of the scope of this path: its first declaration
 unfoldable pub scope_at : List Variable → List ℕ → Option ℕ
-scope_at vs path = position (is_at path) vs
+scope_at vs path = position (is_in_scope path) vs
 
 -- the scope that the user names: it must have every needed line, and none that is ambiguous
 unfoldable pub home_named : List Variable → List Named → List ℕ → List ℕ → Home

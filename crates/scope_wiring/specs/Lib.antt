@@ -1,8 +1,8 @@
 pub mod Texts
 pub mod Meanings
 pub mod Taps
-pub mod Options
+pub mod Settling
 pub mod Homes
 pub mod Wirings
 pub mod Candidates
-pub mod Answers
+pub mod Pickings

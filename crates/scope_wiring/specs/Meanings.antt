@@ -1,9 +1,11 @@
 -- Which variable a user's text means.
-use Rattle.std.specs.Prelude.{ℕ, Bool, nat_eq, not, ◌&&◌, List, Option, Some, None, slice_get, if◌then◌else◌}
+use Rattle.std.specs.Prelude.{ℕ, Bool, false, nat_eq, not, ◌&&◌, List, Option, Some, None, slice_get, if◌then◌else◌}
 use Rattle.std.specs.List.{position, list_any}
 use Rattle.std.specs.Cmp.Lexicographic.{pointwise}
 use Rattle.scope_pick.specs.declared.variable.Variable.{Variable}
 use Rattle.scope_pick.specs.declared.variable.Range.{Range}
+use Rattle.scope_pick.specs.declared.variable.Written.{Written}
+use Rattle.scope_pick.specs.declared.variable.Written.TheVariants.{Absent, Numbers, Unreadable}
 use Rattle.scope_pick.specs.Names.{without_escape}
 use Rattle.scope_pick.specs.Numbering.{is_same_wire}
 use Rattle.scope_pick.specs.Splits.{after_last, before_last}
@@ -47,15 +49,46 @@ with_bits range Several = Several
 with_bits range (Whole i) = Bits i range
 with_bits range (Bits i other) = Bits i range
 
--- the bits that the text means, where it ends with bits
+-- the range is written behind the variable's name
+unfoldable pub has_range : Range → Written → Bool
+has_range range Absent = false
+has_range range Unreadable = false
+has_range range (Numbers r) = nat_eq r.left range.left && nat_eq r.right range.right
+
+-- the variable stands in the scope and has the name and the range
+unfoldable pub is_ranged : List ℕ → List ℕ → Range → Variable → Bool
+is_ranged scope name range v = is_called scope name v && has_range range v.range
+
+-- the first such variable
+unfoldable pub first_ranged : List Variable → List ℕ → List ℕ → Range → Option ℕ
+first_ranged vs scope name range = position (is_ranged scope name range) vs
+
+-- another such variable, on another wire
+unfoldable pub is_other_ranged : List ℕ → List ℕ → Range → Variable → Variable → Bool
+is_other_ranged scope name range v w = is_ranged scope name range w && not (is_same_wire w v)
+
+-- the scope has such a variable on another wire than this one's
+unfoldable pub has_other_ranged : List Variable → List ℕ → List ℕ → Range → Option Variable → Bool
+has_other_ranged vs scope name range None = list_any (is_ranged scope name range) vs
+has_other_ranged vs scope name range (Some v) = list_any (is_other_ranged scope name range v) vs
+
+-- the variable with the name and the range, or else these bits of the one with the name
+unfoldable pub ranged_meant : List Variable → List ℕ → List ℕ → Range → Meaning
+ranged_meant vs scope name range =
+    elim (first_ranged vs scope name range) [
+      | None ↦ with_bits range (whole_meant vs scope name)
+      | Some i ↦ if has_other_ranged vs scope name range (slice_get vs i) then Several else Whole i
+    ]
+
+-- what the text means, where it ends with bits
 unfoldable pub bits_meant : List Variable → List ℕ → List ℕ → Meaning
 bits_meant vs scope text =
     elim (bits_named text) [
       | None ↦ Nothing
-      | Some range ↦ with_bits range (whole_meant vs scope (before_bits text))
+      | Some range ↦ ranged_meant vs scope (before_bits text) range
     ]
 
--- what a name means in the scope: the variable of this name, or else bits of one
+-- what a name means in the scope: the variable of this name, or else the one of this name and range, or bits
 unfoldable pub meant_in : List Variable → List ℕ → List ℕ → Meaning
 meant_in vs scope text =
     elim (whole_meant vs scope text) [

@@ -3,7 +3,7 @@ use Rattle.std.specs.Prelude.{ℕ, Bool, true, false, nat_eq, nat_le, nat_lt, no
 use Rattle.scope_pick.specs.declared.variable.Variable.{Variable}
 use Rattle.scope_pick.specs.declared.variable.Range.{Range}
 use Rattle.scope_pick.specs.declared.place.Place.{Place}
-use Rattle.scope_pick.specs.Places.{line_width, place_of, from_bit, is_range_of, range_of}
+use Rattle.scope_pick.specs.Places.{line_width, place_of, from_bit, is_range_of, known_range}
 use Rattle.scope_pick.specs.Numbering.{is_wire_kind}
 use Rattle.vcd_way.specs.declared.tap.Tap.{Tap}
 use Rattle.vcd_way.specs.declared.tap.Part.{Part}
@@ -50,8 +50,8 @@ tap_of line v inverted =
     if nat_lt line 22 then tap_if line v inverted (place_of line v.width v.range) else None
 
 -- the bit of an index, counted from the last digit
-unfoldable pub bit_of : Range → ℕ → Option ℕ
-bit_of range index =
+unfoldable pub bit_at_index : Range → ℕ → Option ℕ
+bit_at_index range index =
     if nat_le range.right range.left then
     if nat_le range.right index && nat_le index range.left then Some (index - range.right) else None
     else
@@ -68,7 +68,7 @@ place_between (Some high) (Some low) =
 unfoldable pub place_named : ℕ → ℕ → Range → Range → Option Place
 place_named line width range bits =
     if is_range_of (line_width line) bits && is_range_of width range
-    then place_between (bit_of range bits.left) (bit_of range bits.right) else None
+    then place_between (bit_at_index range bits.left) (bit_at_index range bits.right) else None
 
 -- the same, where the variable's range can be read
 unfoldable pub place_if : ℕ → ℕ → Option Range → Range → Option Place
@@ -79,4 +79,4 @@ place_if line width (Some range) bits = place_named line width range bits
 unfoldable pub tap_named : ℕ → Variable → Bool → Range → Option Tap
 tap_named line v inverted bits =
     if nat_lt line 22
-    then tap_if line v inverted (place_if line v.width (range_of v.width v.range) bits) else None
+    then tap_if line v inverted (place_if line v.width (known_range v.width v.range) bits) else None

@@ -19,7 +19,7 @@ use Rattle.scope_wiring.specs.declared.meaning.Meaning.TheVariants.{Nothing, Sev
 use Rattle.scope_wiring.specs.declared.text.LineOption.{LineOption}
 use Rattle.scope_wiring.specs.declared.wire.Wire.{Wire}
 use Rattle.scope_wiring.specs.Meanings.{meaning_of}
-use Rattle.scope_wiring.specs.Options.{options_cause}
+use Rattle.scope_wiring.specs.Settling.{options_cause}
 use Rattle.scope_wiring.specs.Taps.{tap_of, tap_named, bit_tap}
 
 -- a tap of the variable of this index, if there is one
@@ -122,13 +122,15 @@ bit_wire bs ns settled scope (Some b) =
     && is_first b (bit_in bs b b.number)
     then bit_from b (base_of bs b) else None
 
+-- the first wire, or else the other
+abbrev pub first_some : Option Wire → Option Wire → Option Wire
+first_some (Some w) other = Some w
+first_some None other = other
+
 -- what is taken of the i-th variable as a line of the scope
 unfoldable pub wire_in : List Variable → List Bit → List Named → List ℕ → ℕ → ℕ → Variable → Option Wire
 wire_in vs bs ns settled scope i v =
-    elim (line_wire ns settled scope i v (line_named v.name.items)) [
-      | Some w ↦ Some w
-      | None ↦ bit_wire bs ns settled scope (bit_at vs i v)
-    ]
+    first_some (line_wire ns settled scope i v (line_named v.name.items)) (bit_wire bs ns settled scope (bit_at vs i v))
 
 -- what is taken of it in the scope that is judged
 unfoldable pub wire_at : List Variable → List Bit → List Named → List ℕ → Home → ℕ → Variable → Option Wire

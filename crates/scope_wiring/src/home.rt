@@ -2,7 +2,7 @@
 
 ghost use Rattle.std.specs.Prelude.{◌≡◌, IfOk};
 ghost use Rattle.std.specs.List.{position};
-ghost use Rattle.scope_wiring.specs.Homes.{is_at, scope_at, home_among, home_by_default, home_named, home_of};
+ghost use Rattle.scope_wiring.specs.Homes.{is_in_scope, scope_at, home_among, home_by_default, home_named, home_of};
 ghost use Rattle.scope_wiring.specs.Texts.{scope_path};
 
 use crate::cause::Cause;
@@ -60,12 +60,12 @@ pub fn scope_at(variables: &[Variable], path: &[u8]) -> Option<usize>
 {
     variables
         .iter()
-        .position(|variable| is_at(path, variable))
+        .position(|variable| is_in_scope(path, variable))
 }
 
-#[tactic(auto, unfolding(crate::specs::Homes::is_at))]
-fn is_at(path: &[u8], variable: &Variable) -> bool
-    ensures { result ≡ is_at path.now variable.now }
+#[tactic(auto, unfolding(crate::specs::Homes::is_in_scope))]
+fn is_in_scope(path: &[u8], variable: &Variable) -> bool
+    ensures { result ≡ is_in_scope path.now variable.now }
 {
     variable.scope.as_slice() == path
 }

@@ -11,7 +11,7 @@ pub use candidates::{found_count, heads};
 pub use cause::Cause;
 pub use home::{Home, scope_at};
 pub use meaning::Meaning;
-pub use options::settled_by;
+pub use options::settled_lines;
 pub use taps::{tap_named, tap_of};
 pub use text::{LineOption, line_option, range_inside};
 pub use wire::{Wire, absent_lines, is_wired};

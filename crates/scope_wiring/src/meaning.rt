@@ -2,11 +2,11 @@
 
 ghost use Rattle.std.specs.Prelude.{◌≡◌, option_map};
 ghost use Rattle.std.specs.List.{list_any};
-ghost use Rattle.scope_wiring.specs.Meanings.{is_called, first_called, is_other_called, has_other_called, whole_meant, with_bits, bits_meant, meant_in, meant_at_home, meaning_of};
+ghost use Rattle.scope_wiring.specs.Meanings.{is_called, first_called, is_other_called, has_other_called, whole_meant, with_bits, has_range, is_ranged, first_ranged, is_other_ranged, has_other_ranged, ranged_meant, bits_meant, meant_in, meant_at_home, meaning_of};
 
 use crate::home::Home;
 use crate::text::{before_bits, bits_named, has_byte};
-use scope_pick::{Range, Variable, after_last, before_last, is_same_wire, without_escape};
+use scope_pick::{Range, Variable, Written, after_last, before_last, is_same_wire, without_escape};
 
 /// What a text means.
 #[derive(Clone, Copy, Debug)]
@@ -64,7 +64,102 @@ fn bits_meant(variables: &[Variable], scope: &[u8], text: &[u8]) -> Meaning
 {
     match bits_named(text) {
         None => Meaning::Nothing,
-        Some(range) => with_bits(range, whole_meant(variables, scope, before_bits(text))),
+        Some(range) => ranged_meant(variables, scope, before_bits(text), range),
+    }
+}
+
+#[tactic(auto, unfolding(crate::specs::Meanings::ranged_meant))]
+fn ranged_meant(variables: &[Variable], scope: &[u8], name: &[u8], range: Range) -> Meaning
+    ensures { result ≡ ranged_meant variables.now scope.now name.now range }
+{
+    match first_ranged(variables, scope, name, range) {
+        None => with_bits(range, whole_meant(variables, scope, name)),
+        Some(index) => {
+            if has_other_ranged(variables, scope, name, range, variables.get(index)) {
+                Meaning::Several
+            } else {
+                Meaning::Whole(index)
+            }
+        }
+    }
+}
+
+#[tactic(auto, unfolding(crate::specs::Meanings::first_ranged))]
+fn first_ranged(variables: &[Variable], scope: &[u8], name: &[u8], range: Range) -> Option<usize>
+    ensures { result ≡ first_ranged variables.now scope.now name.now range }
+{
+    variables
+        .iter()
+        .position(|variable| is_ranged(scope, name, range, variable))
+}
+
+#[tactic(auto, unfolding(crate::specs::Meanings::has_other_ranged))]
+fn has_other_ranged(
+    variables: &[Variable],
+    scope: &[u8],
+    name: &[u8],
+    range: Range,
+    first: Option<&Variable>,
+) -> bool
+    ensures { result ≡ has_other_ranged variables.now scope.now name.now range
+        (option_map (λ v. v.now) first.entry) }
+{
+    match first {
+        None => is_any_ranged(variables, scope, name, range),
+        Some(first) => is_any_other_ranged(variables, scope, name, range, first),
+    }
+}
+
+fn is_any_ranged(variables: &[Variable], scope: &[u8], name: &[u8], range: Range) -> bool
+    ensures { result ≡ list_any (is_ranged scope.now name.now range) variables.now }
+{
+    variables
+        .iter()
+        .any(|variable| is_ranged(scope, name, range, variable))
+}
+
+fn is_any_other_ranged(
+    variables: &[Variable],
+    scope: &[u8],
+    name: &[u8],
+    range: Range,
+    first: &Variable,
+) -> bool
+    ensures { result ≡ list_any (is_other_ranged scope.now name.now range first.now) variables.now }
+{
+    variables
+        .iter()
+        .any(|variable| is_other_ranged(scope, name, range, first, variable))
+}
+
+#[tactic(auto, unfolding(crate::specs::Meanings::is_other_ranged))]
+fn is_other_ranged(
+    scope: &[u8],
+    name: &[u8],
+    range: Range,
+    first: &Variable,
+    other: &Variable,
+) -> bool
+    ensures { result ≡ is_other_ranged scope.now name.now range first.now other.now }
+{
+    is_ranged(scope, name, range, other) && !is_same_wire(other, first)
+}
+
+#[tactic(auto, unfolding(crate::specs::Meanings::is_ranged))]
+fn is_ranged(scope: &[u8], name: &[u8], range: Range, variable: &Variable) -> bool
+    ensures { result ≡ is_ranged scope.now name.now range variable.now }
+{
+    is_called(scope, name, variable) && has_range(range, variable.range)
+}
+
+#[tactic(auto, unfolding(crate::specs::Meanings::has_range))]
+fn has_range(range: Range, written: Written) -> bool
+    ensures { result ≡ has_range range written }
+{
+    match written {
+        Written::Absent => false,
+        Written::Unreadable => false,
+        Written::Numbers(other) => other.left == range.left && other.right == range.right,
     }
 }
 

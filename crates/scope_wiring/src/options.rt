@@ -2,7 +2,7 @@
 
 ghost use Rattle.std.specs.Prelude.{◌≡◌, ◌++◌, map, nat_eq, count_by, IfOk, slice_get};
 ghost use Rattle.std.specs.List.{find, filter_map, enumerate_from};
-ghost use Rattle.scope_wiring.specs.Options.{settled_by, is_fixed, is_twice, twice_cause, options_cause};
+ghost use Rattle.scope_wiring.specs.Settling.{settled_lines, is_fixed, is_twice, twice_cause, options_cause};
 ghost use Rattle.scope_wiring.specs.Wirings.{cause_meant, option_cause, first_cause, cause_at, cause_with};
 
 use crate::cause::Cause;
@@ -14,13 +14,13 @@ use scope_pick::{Variable, is_line_needed};
 use std::alloc::{AllocError, Global};
 
 /// The lines that the user named, and those that he left out.
-#[tactic(auto, unfolding(crate::specs::Options::settled_by))]
-pub fn settled_by(
+#[tactic(auto, unfolding(crate::specs::Settling::settled_lines))]
+pub fn settled_lines(
     alloc: Global,
     options: &[LineOption],
     without: &[u8],
 ) -> Result<Vec<u8>, AllocError>
-    ensures { IfOk result (λ v. v.items ≡ settled_by options.now without.now) }
+    ensures { IfOk result (λ v. v.items ≡ settled_lines options.now without.now) }
 {
     let mut settled = lines_of(alloc, options)?;
     settled.extend_from_slice(without)?;
@@ -33,7 +33,7 @@ fn lines_of(alloc: Global, options: &[LineOption]) -> Result<Vec<u8>, AllocError
     options.iter().map(|option| option.line).collect(alloc)
 }
 
-#[tactic(auto, unfolding(crate::specs::Options::is_fixed))]
+#[tactic(auto, unfolding(crate::specs::Settling::is_fixed))]
 fn is_fixed(line: u8) -> bool
     ensures { result ≡ is_fixed line }
 {
@@ -46,7 +46,7 @@ fn first_fixed(without: &[u8]) -> Option<u8>
     without.iter().copied().find(|line| is_fixed(*line))
 }
 
-#[tactic(auto, unfolding(crate::specs::Options::is_twice))]
+#[tactic(auto, unfolding(crate::specs::Settling::is_twice))]
 fn is_twice(settled: &[u8], line: u8) -> bool
     ensures { result ≡ is_twice settled.now line }
 {
@@ -65,7 +65,7 @@ fn first_twice(settled: &[u8]) -> Option<u8>
     settled.iter().copied().find(|line| is_twice(settled, *line))
 }
 
-#[tactic(auto, unfolding(crate::specs::Options::twice_cause))]
+#[tactic(auto, unfolding(crate::specs::Settling::twice_cause))]
 fn twice_cause(settled: &[u8]) -> Option<Cause>
     ensures { result ≡ twice_cause settled.now }
 {
@@ -75,7 +75,7 @@ fn twice_cause(settled: &[u8]) -> Option<Cause>
     }
 }
 
-#[tactic(auto, unfolding(crate::specs::Options::options_cause))]
+#[tactic(auto, unfolding(crate::specs::Settling::options_cause))]
 fn options_cause(settled: &[u8], without: &[u8]) -> Option<Cause>
     ensures { result ≡ options_cause settled.now without.now }
 {

@@ -1,10 +1,10 @@
 //! What is taken of a variable as a line of the bus.
 
 ghost use Rattle.std.specs.Prelude.{◌≡◌, ◌<◌, IfSome, true};
-ghost use Rattle.scope_wiring.specs.Taps.{part_at, tap_at, bit_tap, tap_if, tap_of, bit_of, place_between, place_named, place_if, tap_named};
+ghost use Rattle.scope_wiring.specs.Taps.{part_at, tap_at, bit_tap, tap_if, tap_of, bit_at_index, place_between, place_named, place_if, tap_named};
 
 use scope_pick::{
-    Place, Range, Variable, is_range_of, is_wire_kind, line_width, place_of, range_of,
+    Place, Range, Variable, is_range_of, is_wire_kind, line_width, place_of, known_range,
 };
 use vcd_way::{BitRun, Part, Tap};
 
@@ -92,7 +92,7 @@ pub fn tap_named(line: u8, variable: &Variable, inverted: bool, bits: Range) -> 
     ensures { result ≡ tap_named line variable.now inverted bits }
 {
     if line < 22 {
-        let place = place_if(line, variable.width, range_of(variable.width, variable.range), bits);
+        let place = place_if(line, variable.width, known_range(variable.width, variable.range), bits);
         tap_if(line, variable, inverted, place)
     } else {
         None
@@ -116,7 +116,7 @@ fn place_named(line: u8, width: u32, range: Range, bits: Range) -> Option<Place>
     ensures { result ≡ place_named line width range bits }
 {
     if is_range_of(line_width(line), bits) && is_range_of(width, range) {
-        place_between(bit_of(range, bits.left), bit_of(range, bits.right))
+        place_between(bit_at_index(range, bits.left), bit_at_index(range, bits.right))
     } else {
         None
     }
@@ -144,9 +144,9 @@ fn place_between(high: Option<u32>, low: Option<u32>) -> Option<Place>
     }
 }
 
-#[tactic(auto, unfolding(crate::specs::Taps::bit_of))]
-fn bit_of(range: Range, index: u32) -> Option<u32>
-    ensures { result ≡ bit_of range index }
+#[tactic(auto, unfolding(crate::specs::Taps::bit_at_index))]
+fn bit_at_index(range: Range, index: u32) -> Option<u32>
+    ensures { result ≡ bit_at_index range index }
 {
     if range.right <= range.left {
         if range.right <= index && index <= range.left {

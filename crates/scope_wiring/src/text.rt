@@ -3,7 +3,7 @@
 ghost use Rattle.std.specs.Prelude.{◌≡◌, ◌<◌, ◌-◌, length, take, nat_eq, IfOk, IfSome, position, option_map};
 ghost use Rattle.std.specs.List.{list_any};
 ghost use Rattle.scope_wiring.specs.Texts.{has_byte, said, said_at, said_of, scope_path, range_with, range_inside, bits_named, before_bits, Said};
-ghost use Rattle.scope_wiring.specs.Options.{said_by};
+ghost use Rattle.scope_wiring.specs.Settling.{said_by};
 
 use scope_pick::{Range, after_last, before_last, index_in, line_named};
 use std::alloc::{AllocError, Global};

@@ -1,12 +1,12 @@
 //! The one call over all options.
 
 ghost use Rattle.std.specs.Prelude.{◌≡◌, IfOk};
-ghost use Rattle.scope_wiring.specs.Answers.{settled_in, IsPicking, IsPickingWith, IsPickingAt};
+ghost use Rattle.scope_wiring.specs.Pickings.{settled_in, IsPicking, IsPickingWith, IsPickingAt};
 
 use crate::candidates::candidates;
 use crate::cause::Cause;
 use crate::home::{Home, home_of};
-use crate::options::{cause_with, settled_by};
+use crate::options::{cause_with, settled_lines};
 use crate::text::LineOption;
 use crate::wire::{Wire, absent_lines, wires_with};
 use scope_pick::{Named, Variable, named_lines};
@@ -48,12 +48,12 @@ pub enum Picking {
 }
 
 /// The wires of the bus among the variables of a header, as the user chooses them, or why they are not to be told.
-#[tactic(auto, unfolding(crate::specs::Answers::settled_in))]
+#[tactic(auto, unfolding(crate::specs::Pickings::settled_in))]
 pub fn pick(alloc: Global, variables: &[Variable], choice: &Choice) -> Result<Picking, AllocError>
     ensures { IfOk result (IsPicking variables.now choice.now) }
 {
     let names = named_lines(alloc, variables)?;
-    let settled = settled_by(alloc, &choice.lines, &choice.without)?;
+    let settled = settled_lines(alloc, &choice.lines, &choice.without)?;
     pick_with(alloc, variables, choice, &names, &settled)
 }
 

@@ -7,7 +7,7 @@ use Rattle.scope_wiring.specs.declared.home.Home.{Home}
 use Rattle.scope_wiring.specs.declared.wiring.Choice.{Choice}
 use Rattle.scope_wiring.specs.declared.wiring.Picking.{Picking}
 use Rattle.scope_wiring.specs.declared.wiring.Picking.TheVariants as pickings
-use Rattle.scope_wiring.specs.Options.{settled_by}
+use Rattle.scope_wiring.specs.Settling.{settled_lines}
 use Rattle.scope_wiring.specs.Homes.{home_of}
 use Rattle.scope_wiring.specs.Wirings.{cause_with, wires_with, absent_lines}
 use Rattle.scope_wiring.specs.Candidates.{candidates}
@@ -30,7 +30,7 @@ IsPickingWith vs choice ns settled = IsPickingAt vs choice ns settled (home_of v
 
 -- the lines that the user settles
 unfoldable pub settled_in : Choice → List ℕ
-settled_in choice = settled_by choice.lines.items choice.without.items
+settled_in choice = settled_lines choice.lines.items choice.without.items
 
 -- the answer for the declared variables and the user's choice
 abbrev pub IsPicking : List Variable → Choice → Picking → Type 0

@@ -12,8 +12,8 @@ abbrev pub said_by : LineOption → Said
 said_by o = record { line = o.line; inverted = o.inverted; target = o.target.items }
 
 -- the lines that the user named, and those that he left out
-unfoldable pub settled_by : List LineOption → List ℕ → List ℕ
-settled_by os without = map (λ o. o.line) os ++ without
+unfoldable pub settled_lines : List LineOption → List ℕ → List ℕ
+settled_lines os without = map (λ o. o.line) os ++ without
 
 -- a line that cannot be left out: a needed one but for the data
 unfoldable pub is_fixed : ℕ → Bool
