@@ -1,8 +1,8 @@
-//! Tests of scope_pick and scope_wiring over headers that are written here, with answers that were worked out by hand.
+//! Tests of scope_pick, scope_wiring and scope_way over headers that are written here, with answers that were worked out by hand.
 //!
 //! `headers` makes the declarations from a few words, `options` the options. `scopes` says which scope of each header
-//! is judged, or why none is, `wires` what is taken as a line, `lines` which name stands for which line, `places` which
-//! bits of a variable are a line, `told` what is told of a scope.
+//! is judged, or why none is, `tools` the same of headers that tools wrote, `wires` what is taken as a line, `lines`
+//! which name stands for which line, `places` which bits of a variable are a line, `told` what is told of a scope.
 //!
 //! Nothing is promised. Read scope_wiring next.
 #![tactic(auto)]
@@ -19,5 +19,7 @@ mod places;
 mod scopes;
 #[cfg(test)]
 mod told;
+#[cfg(test)]
+mod tools;
 #[cfg(test)]
 mod wires;

@@ -15,7 +15,7 @@ enum Answer {
 }
 
 /// Headers, options, and what is found.
-static HEADERS: [(&'static str, &'static str, Answer); 58] = [
+static HEADERS: [(&'static str, &'static str, Answer); 60] = [
     // Names: the table's, other spellings, escaped ones
     ("tb.dut bus a", "", Answer::At(0)),
     (LOOSE, "", Answer::At(0)),
@@ -46,6 +46,9 @@ static HEADERS: [(&'static str, &'static str, Answer); 58] = [
     // ghdl and yosys: no code is shared
     ("tb bus a\ntb.dut bus b\ntb.mon bus c", "", Answer::Refused(Cause::Several, &[0, 12, 24])),
     ("tb bus a\ntb.dut bus b\ntb.mon bus c", "@tb.dut", Answer::At(12)),
+    // yosys, each word bit by bit
+    (SPLIT, "", Answer::Refused(Cause::Several, &[0, 113])),
+    (SPLIT, "@tb.dut", Answer::At(113)),
     // Some words share their codes and some don't: two buses with one set of control lines
     ("tb bus a b\ntb.dut bus a b -A_n\ntb.dut wire 33 c A_n 35:3", "", Answer::Refused(Cause::Several, &[0, 12])),
     // Lines that lack
@@ -85,6 +88,18 @@ static HEADERS: [(&'static str, &'static str, Answer); 58] = [
     ("tb.dut bus a\ntb.dut bits d D_n _ 0 63", "", Answer::At(0)),
     ("tb.dut bus a\ntb.dut bits d D_n _ 0 64", "", Answer::Refused(Cause::NoneWhole, &[0])),
 ];
+
+/// Two scopes, in each of which all words are declared bit by bit.
+const SPLIT: &str = "tb bus a a -REQ_n -A_n -RS_n -D_n
+tb bits b REQ_n [ 0 5
+tb bits c A_n [ 3 36
+tb bits d RS_n [ 0 3
+tb bits e D_n [ 0 64
+tb.dut bus f f -REQ_n -A_n -RS_n -D_n
+tb.dut bits g REQ_n [ 0 5
+tb.dut bits h A_n [ 3 36
+tb.dut bits i RS_n [ 0 3
+tb.dut bits j D_n [ 0 64";
 
 /// Every other spelling.
 const LOOSE: &str = "tb.dut wire 1 a bclk

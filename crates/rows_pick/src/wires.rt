@@ -21,7 +21,7 @@ const HIGH: &str = "tb.dut bus a a -A_n\ntb.dut wire 40 e A_n 1:40";
 const SPLIT: &str = "tb.dut bus a a -A_n -D_n\ntb.dut bits e A_n : 0 36\ntb.dut bits d d_l ( 0 64";
 
 /// Headers, options, a line, and what is taken as it.
-static LINES: [(&'static str, &'static str, u8, Taken); 31] = [
+static LINES: [(&'static str, &'static str, u8, Taken); 35] = [
     (BUS, "", 8, Taken::Wires(1, 2, 1, None, false)),
     (BUS, "", 10, Taken::Wires(1, 4, 33, None, false)),
     (BUS, "", 6, Taken::Absent),
@@ -51,6 +51,10 @@ static LINES: [(&'static str, &'static str, u8, Taken); 31] = [
     (SPLIT, "", 19, Taken::Wires(64, 46, 1, Some((1, 0, 0, false)), false)),
     (SPLIT, "-D_n", 19, Taken::Absent),
     (SPLIT, "LOCK_n=d_l(5)", 6, Taken::Wires(1, 51, 1, None, false)),
+    (SPLIT, "LOCK_n=A_n[0]", 6, Taken::Wires(1, 10, 1, None, false)),
+    (SPLIT, "LOCK_n=tb.dut.A_n[35]", 6, Taken::Wires(1, 45, 1, None, false)),
+    (SPLIT, "LOCK_n=A_n", 6, Taken::Refused(Cause::SeveralVariables(0), &[10, 11, 12, 13, 14, 15, 16, 17, 18, 19, 20, 21, 22, 23, 24, 25, 26, 27, 28, 29, 30, 31, 32, 33, 34, 35, 36, 37, 38, 39, 40, 41, 42, 43, 44, 45])),
+    ("tb bus a\ntb wire 64 z x 63:0", "D_n=x[63:0]", 19, Taken::Wires(1, 12, 64, None, false)),
     ("tb.dut bus a a -A_n\ntb.dut bits e a_n _ 0 33", "", 10, Taken::Wires(33, 11, 1, Some((1, 0, 0, false)), false)),
     ("SystemC wire 1 z x\nSystemC.tb bus a", "LOCK_n=SystemC.x", 6, Taken::Wires(1, 0, 1, None, false)),
 ];
