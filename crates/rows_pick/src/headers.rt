@@ -159,15 +159,7 @@ fn bits(
             Written::Absent
         };
         let codes = [code, digit.wrapping_add(33)];
-        declared.push(variable(
-            alloc,
-            scope,
-            "wire",
-            1,
-            codes.as_slice(),
-            &text,
-            range,
-        )?)?;
+        declared.push(variable(alloc, scope, "wire", 1, codes.as_slice(), &text, range)?)?;
     }
     Ok(())
 }

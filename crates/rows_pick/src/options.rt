@@ -14,7 +14,9 @@ pub(crate) fn choice(alloc: Global, options: &str) -> Result<Choice, AllocError>
         if let Some(path) = word.strip_prefix('@') {
             choice.scope = Some(Vec::from_slice(alloc, path.as_bytes())?);
         } else if let Some(name) = word.strip_prefix('-') {
-            choice.without.push(line_named(name.as_bytes()).unwrap_or(255))?;
+            choice
+                .without
+                .push(line_named(name.as_bytes()).unwrap_or(255))?;
         } else if let Some(option) = line_option(alloc, word.as_bytes())? {
             choice.lines.push(option)?;
         }

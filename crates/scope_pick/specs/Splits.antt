@@ -96,16 +96,16 @@ bit_at vs i v =
     elim (bit_name v.name.items v.range) [
       | None ↦ None
       | Some b ↦
-        if nat_eq v.width 1 && is_wire_kind v.kind.items then
-        Some (record {
-          index = i;
-          line = b.line;
-          number = b.number;
-          exact = b.exact;
-          scope = scope_number vs i v;
-          wire = wire_number vs i v;
-        })
-        else None
+          if nat_eq v.width 1 && is_wire_kind v.kind.items then
+          Some (record {
+            index = i;
+            line = b.line;
+            number = b.number;
+            exact = b.exact;
+            scope = scope_number vs i v;
+            wire = wire_number vs i v;
+          })
+          else None
     ]
 
 -- all variables that are bits of words, in the order of the header

@@ -12,11 +12,12 @@ pub use index::{after_last, before_last, index_in, index_of, indexed};
 pub use names::{is_exact_name, line_named, without_escape};
 pub use numbering::{is_same_wire, is_wire_kind};
 pub use place::{
-    Place, is_line_needed, is_range_of, is_multi_bit, line_width, lowest_index, place_of, known_range,
+    Place, is_line_needed, is_multi_bit, is_range_of, known_range, line_width, lowest_index,
+    place_of,
 };
 pub use scopes::{
-    ScopeFault, buses, first_in, found_in, fullest, is_ambiguous, is_head, is_listed, is_scope_needed,
-    is_settled, is_whole, picked, qualified,
+    ScopeFault, buses, first_in, found_in, fullest, is_ambiguous, is_head, is_listed,
+    is_scope_needed, is_settled, is_whole, picked, qualified,
 };
 pub use split::{Bit, BitName, base_of, bit_at, bit_in, bit_name, bits, is_first_bit, is_joined};
 pub use told::{ambiguous_lines, other_names, unfound_lines};

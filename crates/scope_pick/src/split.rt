@@ -205,9 +205,8 @@ fn has_bits_among(bits: &[Bit], bit: Bit, base: u32, width: u32, numbers: &[u8])
     requires { base ≤ 3 }
     ensures { result ≡ list_all (λ k. nat_le width k || has_bit bits.now bit (base + k)) numbers.now }
 {
-    numbers
-        .iter()
-        .all(|number| width <= u32::from(*number) || has_bit(bits, bit, base + u32::from(*number)))
+    numbers.iter().all(|number| width <= u32::from(*number)
+        || has_bit(bits, bit, base + u32::from(*number)))
 }
 
 /// The number of the word's lowest bit, where it has all of them: the table's, or else 0.

@@ -76,7 +76,12 @@ fn named_among(
 }
 
 #[tactic(auto, unfolding(crate::specs::Wires::named_at))]
-fn named_at(variables: &[Variable], bits: &[Bit], index: usize, variable: &Variable) -> Option<Named>
+fn named_at(
+    variables: &[Variable],
+    bits: &[Bit],
+    index: usize,
+    variable: &Variable,
+) -> Option<Named>
     ensures { result ≡ named_at variables.now bits.now index variable.now }
 {
     match whole_at(variables, index, variable) {
@@ -119,7 +124,12 @@ fn split_at(bits: &[Bit], bit: Option<Bit>) -> Option<Named>
 }
 
 #[tactic(auto, unfolding(crate::specs::Wires::unfit_at))]
-fn unfit_at(variables: &[Variable], bits: &[Bit], index: usize, variable: &Variable) -> Option<Named>
+fn unfit_at(
+    variables: &[Variable],
+    bits: &[Bit],
+    index: usize,
+    variable: &Variable,
+) -> Option<Named>
     ensures { result ≡ unfit_at variables.now bits.now index variable.now }
 {
     let bit = bit_at(variables, index, variable);

@@ -75,10 +75,10 @@ some_low false q p e = absurd cc
 
 index_fits : (line : ℕ) (range : Range) (p : Place) (d : Bool) → d ≡ nat_le range.right range.left → 1 ≤ line_width line
     → cond d
-      (cond (nat_le range.right (lowest_index line) && nat_le (highest_index line) range.left)
-      (Some (from_bit (lowest_index line - range.right) false)) None)
-      (cond (nat_le range.left (lowest_index line) && nat_le (highest_index line) range.right)
-      (Some (from_bit (range.right - highest_index line) true)) None) ≡ Some p
+    (cond (nat_le range.right (lowest_index line) && nat_le (highest_index line) range.left)
+    (Some (from_bit (lowest_index line - range.right) false)) None)
+    (cond (nat_le range.left (lowest_index line) && nat_le (highest_index line) range.right)
+    (Some (from_bit (range.right - highest_index line) true)) None) ≡ Some p
     → p.low + line_width line ≤ apart range + 1
 unfolding highest_index
 index_fits line range p true o w e =
@@ -105,8 +105,8 @@ wide_fits line width range p false w h e = absurd cc
 within_fits : (line width : ℕ) (range : Range) (p : Place) (b : Bool) → 1 ≤ line_width line
     → (b ≡ true → width ≡ line_width line)
     → cond b (Some (from_bit 0 false))
-      (cond ((nat_lt 1 (line_width line) && nat_lt (line_width line) width) && is_range_of width range)
-      (place_by_index line range) None) ≡ Some p
+    (cond ((nat_lt 1 (line_width line) && nat_lt (line_width line) width) && is_range_of width range)
+    (place_by_index line range) None) ≡ Some p
     → p.low + line_width line ≤ width
 within_fits line width range p true w h e =
     let low : 0 ≡ p.low = ap low_in e in
@@ -138,8 +138,8 @@ some_number false n k e = absurd cc
 
 bit_down : (range : Range) (index k : ℕ) (d : Bool) → d ≡ true
     → cond d
-      (cond (nat_le range.right index && nat_le index range.left) (Some (index - range.right)) None)
-      (cond (nat_le range.left index && nat_le index range.right) (Some (range.right - index)) None) ≡ Some k
+    (cond (nat_le range.right index && nat_le index range.left) (Some (index - range.right)) None)
+    (cond (nat_le range.left index && nat_le index range.right) (Some (range.right - index)) None) ≡ Some k
     → (index - range.right ≡ k) × (range.right ≤ index) × (index ≤ range.left)
 bit_down range index k true h e =
     let found = some_number _ _ k e in
@@ -149,8 +149,8 @@ bit_down range index k false h e = absurd cc
 
 bit_up : (range : Range) (index k : ℕ) (d : Bool) → d ≡ false
     → cond d
-      (cond (nat_le range.right index && nat_le index range.left) (Some (index - range.right)) None)
-      (cond (nat_le range.left index && nat_le index range.right) (Some (range.right - index)) None) ≡ Some k
+    (cond (nat_le range.right index && nat_le index range.left) (Some (index - range.right)) None)
+    (cond (nat_le range.left index && nat_le index range.right) (Some (range.right - index)) None) ≡ Some k
     → (range.right - index ≡ k) × (range.left ≤ index) × (index ≤ range.right)
 bit_up range index k true h e = absurd cc
 bit_up range index k false h e =
@@ -230,9 +230,9 @@ named_fits line width (Some range) bits p e =
 part_fits : (line width : ℕ) (place : Place) (b : Bool) → (b ≡ true → width ≡ line_width line)
     → place.low + line_width line ≤ width
     → is_part_within
-      (cond b parts.Whole
-      (parts.Bits (record { count = line_width line; low = place.low; lowest = 0; is_turned = place.turned })))
-      width (width_of line) ≡ true
+    (cond b parts.Whole
+    (parts.Bits (record { count = line_width line; low = place.low; lowest = 0; is_turned = place.turned })))
+    width (width_of line) ≡ true
 part_fits line width place true h f = eq-eqb width (width_of line) (h refl ∙ same_width line)
 part_fits line width place false h f =
     let same = same_width line in
@@ -246,8 +246,8 @@ tap_fits line width inverted place k f =
     and_from _ _ (lt-ltb line (length table) k)
     (and_from _ _ (le-leb 1 width (omega (arith, f, some)))
     (part_fits line width place (nat_eq width (line_width line) && not place.turned)
-        (λ t. eqb-true width (line_width line)
-            (and_parts (nat_eq width (line_width line)) (not place.turned) t).0) f))
+    (λ t. eqb-true width (line_width line)
+    (and_parts (nat_eq width (line_width line)) (not place.turned) t).0) f))
 
 abbrev tap_in : Option Tap → Tap → Tap
 tap_in None tap = tap
@@ -277,7 +277,7 @@ unfolding tap_of
 tap_is_lawful line v inverted tap e =
     within_line line tap (tap_if line v inverted (place_of line v.width v.range)) (nat_lt line 22)
     (λ k q. placed_fits line v inverted (place_of line v.width v.range) tap (ltb-true line 22 k)
-        (λ p. place_fits line v.width v.range p (line_has_bits line (ltb-true line 22 k))) q) e
+    (λ p. place_fits line v.width v.range p (line_has_bits line (ltb-true line 22 k))) q) e
 
 pub named_tap_is_lawful : (line : ℕ) (v : Variable) (inverted : Bool) (bits : Range) (tap : Tap)
     → tap_named line v inverted bits ≡ Some tap → is_lawful_tap tap ≡ true
@@ -285,7 +285,7 @@ unfolding tap_named
 named_tap_is_lawful line v inverted bits tap e =
     within_line line tap (tap_if line v inverted (place_if line v.width (known_range v.width v.range) bits)) (nat_lt line 22)
     (λ k q. placed_fits line v inverted (place_if line v.width (known_range v.width v.range) bits) tap (ltb-true line 22 k)
-        (λ p. named_fits line v.width (known_range v.width v.range) bits p) q) e
+    (λ p. named_fits line v.width (known_range v.width v.range) bits p) q) e
 
 pub bit_tap_is_lawful : (line number : ℕ) → line < 22 → number < line_width line
     → is_lawful_tap (bit_tap line number) ≡ true

@@ -154,7 +154,7 @@ pub picked_are_lawful : (vs : List Variable) (os : List LineOption) (ns : List N
 unfolding wires_with option_wires found_wires
 picked_are_lawful vs os ns settled home =
     list_all-append fits (filter_map (option_wire vs home) os)
-        (filter_map (λ p. wire_at vs (bits vs) ns settled home p.0 p.1) (enumerate_from 0 vs))
+    (filter_map (λ p. wire_at vs (bits vs) ns settled home p.0 p.1) (enumerate_from 0 vs))
     ∙ and_from _ _ (mapped_fit (option_wire vs home) (option_fits vs home) os)
-        (mapped_fit (λ p. wire_at vs (bits vs) ns settled home p.0 p.1)
-            (λ p. at_fits vs (bits vs) ns settled home p.0 p.1) (enumerate_from 0 vs))
+    (mapped_fit (λ p. wire_at vs (bits vs) ns settled home p.0 p.1)
+    (λ p. at_fits vs (bits vs) ns settled home p.0 p.1) (enumerate_from 0 vs))

@@ -70,7 +70,7 @@ ends_two inside i e =
     let found = at _ _ _ e in
     let near : colon inside < length inside = ltb-true _ _ found.1 in
     let l : length (take (colon inside) inside) ≡ colon inside
-        = length-take-le (colon inside) inside (omega (arith, near)) in
+    = length-take-le (colon inside) inside (omega (arith, near)) in
     rw (sym found.0) (rw l (rw (ne_eqb (colon inside) (length inside) (λ q. omega (arith, near, q)))
     (sym (both (signed_number (take (colon inside) inside)) (signed_number (drop (colon inside + 1) inside))))))
 
@@ -79,7 +79,7 @@ ends_two inside i e =
 rev_take : (n : ℕ) (xs : List ℕ) → n ≤ length xs → reverse (take n xs) ≡ drop (length xs - n) (reverse xs)
 rev_take n xs h =
     let parts : reverse xs ≡ reverse (drop n xs) ++ reverse (take n xs)
-        = ap reverse (sym (take-append-drop n xs)) ∙ reverse-append (take n xs) (drop n xs) in
+    = ap reverse (sym (take-append-drop n xs)) ∙ reverse-append (take n xs) (drop n xs) in
     let len : length (reverse (drop n xs)) ≡ length xs - n = length-reverse (drop n xs) ∙ length-drop n xs in
     rw parts (sym (drop-append-le (length xs - n) (reverse (drop n xs)) (reverse (take n xs)) (omega (arith, len))
     ∙ rw (drop_all (length xs - n) (reverse (drop n xs)) (omega (arith, len))) refl))
@@ -153,7 +153,7 @@ alone reference after h = rw h refl
 same_if : (b : Bool) (reference text own : List ℕ)
     → cond b (ranged_by_words reference text (ends_at_end text)) (ranged own (ends_at_end own))
     ≡ cond b (ranged_by_words reference (cond b text own) (ends_at_end (cond b text own)))
-      (ranged (cond b text own) (ends_at_end (cond b text own)))
+    (ranged (cond b text own) (ends_at_end (cond b text own)))
 same_if true reference text own = refl
 same_if false reference text own = refl
 

@@ -60,7 +60,7 @@ added : (ls : List ℕ) (c : Code) (cs : List Code) (code line : List ℕ) (b : 
     → is_kept_code ls c ≡ true → list_all (is_kept_code ls) cs ≡ true
     → list_all (is_kept_line ls) line ≡ true → list_all (is_kept_code ls) (with_code cs code line) ≡ true
     → list_all (is_kept_code ls)
-      (cond b (record { code = c.code; lines = c.lines ++ line } ∷ cs) (c ∷ with_code cs code line)) ≡ true
+    (cond b (record { code = c.code; lines = c.lines ++ line } ∷ cs) (c ∷ with_code cs code line)) ≡ true
 added ls c cs code line true h k l m =
     and_from _ _ (list_all-append (is_kept_line ls) c.lines line ∙ and_from _ _ h l) k
 added ls c cs code line false h k l m = and_from _ _ h m
@@ -102,15 +102,15 @@ strict_line_kept : (h : StrictHeader) (code : List ℕ) (n : ℕ) → is_line n 
 strict_line_kept h code n l k =
     let parts = and_parts (list_all is_line h.lines) (list_all (is_kept_code h.lines) h.codes) k in
     let own : list_all (is_kept_line (h.lines ++ n ∷ [])) (n ∷ []) ≡ true
-        = and_from _ _ (and_from _ _ l (declared_last h.lines n)) refl in
+    = and_from _ _ (and_from _ _ l (declared_last h.lines n)) refl in
     and_from _ _
     (and_from _ _ (list_all-append is_line h.lines (n ∷ []) ∙ and_from _ _ parts.0 (and_from _ _ l refl))
-        (with_code_kept (h.lines ++ n ∷ []) h.codes code (n ∷ []) (codes_more h.lines n h.codes parts.1) own))
+    (with_code_kept (h.lines ++ n ∷ []) h.codes code (n ∷ []) (codes_more h.lines n h.codes parts.1) own))
     (and_from _ _ l refl)
 
 named_kept : (h : StrictHeader) (code : List ℕ) (n : ℕ) (b c : Bool) → is_line n ≡ true → holds_strictly h ≡ true
     → is_lawfully_kept holds_strictly
-      (cond b (with_other h code) (cond c (with_strict_line h code n) (Refuses causes.Width))) ≡ true
+    (cond b (with_other h code) (cond c (with_strict_line h code n) (Refuses causes.Width))) ≡ true
 named_kept h code n true c l k = other_kept h code k
 named_kept h code n false true l k = strict_line_kept h code n l k
 named_kept h code n false false l k = refl

@@ -200,11 +200,7 @@ fn ranged(alloc: Global, text: &[u8]) -> Result<NameAndRange, AllocError>
 }
 
 // The same, where the words after a reference are to be the range.
-fn ranged_by_words(
-    alloc: Global,
-    reference: &[u8],
-    text: &[u8],
-) -> Result<NameAndRange, AllocError>
+fn ranged_by_words(alloc: Global, reference: &[u8], text: &[u8]) -> Result<NameAndRange, AllocError>
     ensures { IfOk result (IsRanged
         (ranged_by_words reference.now text.now (ends_at_end text.now)) text.now) }
 {

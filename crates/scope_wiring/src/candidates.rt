@@ -135,11 +135,7 @@ fn alike_at(name: &[u8], index: usize, variable: &Variable) -> Option<usize>
     }
 }
 
-fn alike_named(
-    alloc: Global,
-    variables: &[Variable],
-    name: &[u8],
-) -> Result<Vec<usize>, AllocError>
+fn alike_named(alloc: Global, variables: &[Variable], name: &[u8]) -> Result<Vec<usize>, AllocError>
     ensures { IfOk result (λ v. v.items
         ≡ filter_map (λ p. alike_at name.now p.0 p.1) (enumerate_from 0 variables.now)) }
 {

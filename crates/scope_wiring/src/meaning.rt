@@ -127,9 +127,7 @@ fn is_any_other_ranged(
 ) -> bool
     ensures { result ≡ list_any (is_other_ranged scope.now name.now range first.now) variables.now }
 {
-    variables
-        .iter()
-        .any(|variable| is_other_ranged(scope, name, range, first, variable))
+    variables.iter().any(|variable| is_other_ranged(scope, name, range, first, variable))
 }
 
 #[tactic(auto, unfolding(crate::specs::Meanings::is_other_ranged))]
@@ -215,12 +213,7 @@ fn is_any_called(variables: &[Variable], scope: &[u8], name: &[u8]) -> bool
         .any(|variable| is_called(scope, name, variable))
 }
 
-fn is_any_other_called(
-    variables: &[Variable],
-    scope: &[u8],
-    name: &[u8],
-    first: &Variable,
-) -> bool
+fn is_any_other_called(variables: &[Variable], scope: &[u8], name: &[u8], first: &Variable) -> bool
     ensures { result ≡ list_any (is_other_called scope.now name.now first.now) variables.now }
 {
     variables

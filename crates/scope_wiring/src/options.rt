@@ -62,7 +62,10 @@ fn count(settled: &[u8], line: u8) -> usize
 fn first_twice(settled: &[u8]) -> Option<u8>
     ensures { result ≡ find (is_twice settled.now) settled.now }
 {
-    settled.iter().copied().find(|line| is_twice(settled, *line))
+    settled
+        .iter()
+        .copied()
+        .find(|line| is_twice(settled, *line))
 }
 
 #[tactic(auto, unfolding(crate::specs::Settling::twice_cause))]

@@ -4,7 +4,7 @@ ghost use Rattle.std.specs.Prelude.{◌≡◌, ◌<◌, IfSome, true};
 ghost use Rattle.scope_wiring.specs.Taps.{part_at, tap_at, bit_tap, tap_if, tap_of, bit_at_index, place_between, place_named, place_if, tap_named};
 
 use scope_pick::{
-    Place, Range, Variable, is_range_of, is_wire_kind, line_width, place_of, known_range,
+    Place, Range, Variable, is_range_of, is_wire_kind, known_range, line_width, place_of,
 };
 use vcd_way::{BitRun, Part, Tap};
 
@@ -79,7 +79,12 @@ pub fn tap_of(line: u8, variable: &Variable, inverted: bool) -> Option<Tap>
     ensures { result ≡ tap_of line variable.now inverted }
 {
     if line < 22 {
-        tap_if(line, variable, inverted, place_of(line, variable.width, variable.range))
+        tap_if(
+            line,
+            variable,
+            inverted,
+            place_of(line, variable.width, variable.range),
+        )
     } else {
         None
     }
@@ -92,7 +97,12 @@ pub fn tap_named(line: u8, variable: &Variable, inverted: bool, bits: Range) -> 
     ensures { result ≡ tap_named line variable.now inverted bits }
 {
     if line < 22 {
-        let place = place_if(line, variable.width, known_range(variable.width, variable.range), bits);
+        let place = place_if(
+            line,
+            variable.width,
+            known_range(variable.width, variable.range),
+            bits,
+        );
         tap_if(line, variable, inverted, place)
     } else {
         None
@@ -116,7 +126,10 @@ fn place_named(line: u8, width: u32, range: Range, bits: Range) -> Option<Place>
     ensures { result ≡ place_named line width range bits }
 {
     if is_range_of(line_width(line), bits) && is_range_of(width, range) {
-        place_between(bit_at_index(range, bits.left), bit_at_index(range, bits.right))
+        place_between(
+            bit_at_index(range, bits.left),
+            bit_at_index(range, bits.right),
+        )
     } else {
         None
     }

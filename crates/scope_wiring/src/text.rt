@@ -50,15 +50,15 @@ fn said_at(
 }
 
 #[tactic(auto, unfolding(crate::specs::Texts::said_of))]
-fn said_of(
-    alloc: Global,
-    line: Option<u8>,
-    text: &[u8],
-) -> Result<Option<LineOption>, AllocError>
+fn said_of(alloc: Global, line: Option<u8>, text: &[u8]) -> Result<Option<LineOption>, AllocError>
     ensures { IfOk result (λ o. option_map said_by o ≡ said_of line text.now) }
 {
     let inverted = text.starts_with(b"!");
-    let target = if inverted { &text[text.len().min(1)..] } else { text };
+    let target = if inverted {
+        &text[text.len().min(1)..]
+    } else {
+        text
+    };
     match line {
         None => Ok(None),
         Some(line) => {
@@ -87,7 +87,11 @@ pub(crate) fn has_byte(byte: u8, text: &[u8]) -> bool
 pub(crate) fn scope_path(text: &[u8]) -> &[u8]
     ensures { result.now ≡ scope_path text.now }
 {
-    if text == b".".as_slice() { b"".as_slice() } else { text }
+    if text == b".".as_slice() {
+        b"".as_slice()
+    } else {
+        text
+    }
 }
 
 #[tactic(auto, unfolding(crate::specs::Texts::range_with))]

@@ -40,7 +40,11 @@ fn wire_if(index: usize, tap: Option<Tap>) -> Option<Wire>
 
 /// The variable of this index as the line that the option names.
 #[tactic(auto, unfolding(crate::specs::Wirings::whole_wire))]
-pub(crate) fn whole_wire(option: &LineOption, index: usize, variable: Option<&Variable>) -> Option<Wire>
+pub(crate) fn whole_wire(
+    option: &LineOption,
+    index: usize,
+    variable: Option<&Variable>,
+) -> Option<Wire>
     ensures { result ≡ whole_wire option.now index (option_map (λ v. v.now) variable.entry) }
 {
     match variable {
@@ -222,9 +226,22 @@ fn wire_in(
     ensures { result
         ≡ wire_in variables.now bits.now names.now settled.now scope index variable.now }
 {
-    match line_wire(names, settled, scope, index, variable, line_named(&variable.name)) {
+    match line_wire(
+        names,
+        settled,
+        scope,
+        index,
+        variable,
+        line_named(&variable.name),
+    ) {
         Some(wire) => Some(wire),
-        None => bit_wire(bits, names, settled, scope, bit_at(variables, index, variable)),
+        None => bit_wire(
+            bits,
+            names,
+            settled,
+            scope,
+            bit_at(variables, index, variable),
+        ),
     }
 }
 

@@ -80,9 +80,24 @@ fn pick_at(
 ) -> Result<Picking, AllocError>
     ensures { IfOk result (IsPickingAt variables.now choice.now names.now settled.now home) }
 {
-    match cause_with(alloc, variables, &choice.lines, &choice.without, settled, home)? {
+    match cause_with(
+        alloc,
+        variables,
+        &choice.lines,
+        &choice.without,
+        settled,
+        home,
+    )? {
         Some(cause) => {
-            let candidates = candidates(alloc, variables, &choice.lines, names, settled, home, cause)?;
+            let candidates = candidates(
+                alloc,
+                variables,
+                &choice.lines,
+                names,
+                settled,
+                home,
+                cause,
+            )?;
             Ok(Picking::Refused(Refusal { cause, candidates }))
         }
         None => {

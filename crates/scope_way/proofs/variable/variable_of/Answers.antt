@@ -7,7 +7,7 @@ use Rattle.scope_way.proofs.variable.variable_of.Goals as goal
 pub returns : goal.returns
 returns c place =
     let d = declared_as place (words_told c.args.path.now) c.args.kind.now c.args.width c.args.code.now
-            c.args.reference.now (words_told c.args.after.now) in
+    c.args.reference.now (words_told c.args.after.now) in
     let path = dotted (words_told c.args.path.now) in
     let full = c.in_ok-text.ensures ∙ ap (λ name. path ++ name) (c.deref.ensures.value ∙ c.in_ok-named.ensures.0) in
     shown_by_parts d c.in_ok-text.text.items c.in_ok-scope.scope.items c.in_ok-name.name.items c.in_ok-kind.kind.items
