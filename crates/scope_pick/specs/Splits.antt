@@ -1,8 +1,7 @@
 -- Words of the bus that a dump declares bit by bit: `A_n[3]`, `A_n(3)`, `A_n_3`.
-use Rattle.std.specs.Prelude.{ℕ, Bool, true, false, nat_eq, nat_le, ◌+◌, ◌-◌, ◌*◌, ◌&&◌, ◌||◌, not, List, [], ◌∷◌, length, take, drop, reverse, slice_get, Option, Some, None, is_some, if◌then◌else◌}
+use Rattle.std.specs.Prelude.{ℕ, Bool, false, nat_eq, nat_le, ◌+◌, ◌-◌, ◌*◌, ◌&&◌, ◌||◌, not, List, [], ◌∷◌, length, take, drop, reverse, Option, Some, None, is_some, if◌then◌else◌}
 use Rattle.std.specs.List.{position, find, filter_map, list_all, list_any, enumerate_from, ends_with}
 use Rattle.scope_pick.specs.declared.variable.Variable.{Variable}
-use Rattle.scope_pick.specs.declared.variable.Range.{Range}
 use Rattle.scope_pick.specs.declared.variable.Written.{Written}
 use Rattle.scope_pick.specs.declared.variable.Written.TheVariants.{Absent, Numbers, Unreadable}
 use Rattle.scope_pick.specs.declared.split.Bit.{Bit}
