@@ -1,5 +1,5 @@
 -- What is taken of a variable as a line of the bus.
-use Rattle.std.specs.Prelude.{ℕ, Bool, true, false, nat_eq, nat_le, nat_lt, not, ◌-◌, ◌&&◌, ◌||◌, List, Option, Some, None, if◌then◌else◌}
+use Rattle.std.specs.Prelude.{ℕ, Bool, true, false, nat_eq, nat_le, nat_lt, not, ◌-◌, ◌&&◌, Option, Some, None, if◌then◌else◌}
 use Rattle.scope_pick.specs.declared.variable.Variable.{Variable}
 use Rattle.scope_pick.specs.declared.variable.Range.{Range}
 use Rattle.scope_pick.specs.declared.place.Place.{Place}

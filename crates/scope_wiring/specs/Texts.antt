@@ -1,5 +1,5 @@
 -- The texts by which a user names lines, variables and bits.
-use Rattle.std.specs.Prelude.{ℕ, Bool, true, false, nat_eq, not, ◌+◌, ◌-◌, ◌&&◌, ◌||◌, List, [], ◌∷◌, codes, length, take, drop, Option, Some, None, if◌then◌else◌}
+use Rattle.std.specs.Prelude.{ℕ, Bool, nat_eq, ◌+◌, ◌-◌, ◌&&◌, List, [], ◌∷◌, length, take, drop, Option, Some, None, if◌then◌else◌}
 use Rattle.std.specs.List.{position, list_any, starts_with, ends_with}
 use Rattle.std.specs.Cmp.Lexicographic.{pointwise}
 use Rattle.scope_pick.specs.declared.variable.Range.{Range}

@@ -1,5 +1,5 @@
 -- What is taken of a dump's variables as the lines of the bus.
-use Rattle.std.specs.Prelude.{ℕ, Bool, true, false, nat_eq, nat_le, nat_lt, not, ◌-◌, ◌&&◌, ◌||◌, List, [], ◌∷◌, ◌++◌, Option, Some, None, is_some, slice_get, if◌then◌else◌}
+use Rattle.std.specs.Prelude.{ℕ, Bool, false, nat_eq, nat_le, nat_lt, not, ◌-◌, ◌&&◌, ◌||◌, List, ◌++◌, Option, Some, None, is_some, slice_get, if◌then◌else◌}
 use Rattle.std.specs.List.{filter, filter_map, list_any, enumerate_from}
 use Rattle.scope_pick.specs.declared.variable.Variable.{Variable}
 use Rattle.scope_pick.specs.declared.variable.Range.{Range}
