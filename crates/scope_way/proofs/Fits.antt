@@ -1,15 +1,13 @@
 -- What is taken as a line fits the line and the variable.
-use Rattle.std.proofs.Common.{◌≡◌, ◌∙◌, ℕ, ◌+◌, ◌-◌, ◌<◌, ◌≤◌, Bool, true, false, not, ◌&&◌, ◌||◌, nat_eq, nat_le, nat_lt, List, [], ◌∷◌, ◌++◌, length, Option, Some, None, slice_get, refl, sym, ap, cond, arith, suc, zero}
-use Rattle.std.specs.List.{filter_map, cons_option, list_all, enumerate_from}
+use Rattle.std.proofs.Common.{◌≡◌, ◌∙◌, ℕ, ◌+◌, ◌-◌, ◌<◌, ◌≤◌, Bool, true, false, not, ◌&&◌, nat_eq, nat_le, nat_lt, List, [], ◌∷◌, length, Option, Some, None, slice_get, refl, sym, ap, cond, arith, suc, zero}
+use Rattle.std.specs.List.{list_all}
 use Rattle.std.specs.Option.{option_map_or}
 use Rattle.std.proofs.lemmas.Bool.{and_parts, and_from, leb-true, leb-false, le-leb, lt-ltb, ltb-true, eqb-true, eq-eqb}
-use Rattle.std.proofs.lemmas.List.Folds.{list_all-append}
 use Rattle.fsb_signal.specs.Table.{TableEntry, table}
 use Rattle.fsb_signal.specs.DumpText.{width_of}
 use Rattle.vcd_way.specs.declared.tap.Tap.{Tap}
-use Rattle.vcd_way.specs.declared.tap.Part.{Part}
 use Rattle.vcd_way.specs.declared.tap.Part.TheVariants as parts
-use Rattle.vcd_way.specs.Lawful.{is_line, is_part_within, is_lawful_tap}
+use Rattle.vcd_way.specs.Lawful.{is_part_within, is_lawful_tap}
 use Rattle.scope_pick.specs.declared.variable.Range.{Range}
 use Rattle.scope_pick.specs.declared.variable.Variable.{Variable}
 use Rattle.scope_pick.specs.declared.variable.Written.{Written}

@@ -1,12 +1,12 @@
 -- A way by lawful wires is lawful.
-use Rattle.std.proofs.Common.{◌≡◌, ◌∙◌, ℕ, Bool, true, false, ◌&&◌, ◌||◌, ◌==◌, List, [], ◌∷◌, ◌++◌, Option, Some, None, slice_get, refl, sym, ap, cond}
+use Rattle.std.proofs.Common.{◌≡◌, ◌∙◌, ℕ, Bool, true, false, ◌||◌, ◌==◌, List, [], ◌∷◌, Option, Some, None, slice_get, refl, sym, ap, cond}
 use Rattle.std.specs.List.{filter_map, cons_option, list_any, list_all}
 use Rattle.std.proofs.lemmas.Bool.{and_parts, and_from, or_left, or_right, eq-eqb}
 use Rattle.vcd_grammar.specs.Words.{same}
 use Rattle.vcd_grammar.specs.Judging.{is_declared}
 use Rattle.vcd_way.specs.Declarations.{Declaration}
 use Rattle.vcd_way.specs.declared.tap.Tap.{Tap}
-use Rattle.vcd_way.specs.Ways.{ValueRules, Way}
+use Rattle.vcd_way.specs.Ways.{ValueRules}
 use Rattle.vcd_way.specs.Lawful.{is_line, is_lawful_tap, IsLawfulWay}
 use Rattle.scope_wiring.specs.declared.wire.Wire.{Wire}
 use Rattle.scope_way.specs.Wired.{tap_if_coded, tap_by_code, taps_by_code, wired_lines, way_by, AreLawfulWires, holds_always}

@@ -1,6 +1,6 @@
 -- The range at the end of a text.
-use Rattle.std.proofs.Common.{◌≡◌, ◌∙◌, ℕ, ◌+◌, ◌-◌, ◌<◌, ◌≤◌, Bool, true, false, not, ◌&&◌, ◌==◌, nat_lt, List, [], ◌∷◌, ◌++◌, length, take, drop, reverse, Option, Some, None, is_some, option_map, refl, sym, ap, cond, arith, ℤ}
-use Rattle.std.specs.List.{position, take_while, prefix_len}
+use Rattle.std.proofs.Common.{◌≡◌, ◌∙◌, ℕ, ◌+◌, ◌-◌, ◌<◌, ◌≤◌, Bool, true, false, not, ◌&&◌, ◌==◌, nat_lt, List, ◌∷◌, ◌++◌, length, take, drop, reverse, Option, Some, None, is_some, option_map, refl, sym, ap, cond, arith, ℤ}
+use Rattle.std.specs.List.{position, prefix_len}
 use Rattle.std.proofs.lemmas.Bool.{ltb-true, ltb-false, ne_eqb, eq-eqb}
 use Rattle.std.proofs.lemmas.List.{length-take-le, take_all, drop_all, drop-append-le, take-append-drop, reverse-append, reverse-reverse, length-reverse, length-drop}
 use Rattle.vcd_grammar.specs.Digits.{is_number, number_from}

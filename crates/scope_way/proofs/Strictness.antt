@@ -1,6 +1,6 @@
 -- The strict way is lawful.
-use Rattle.std.proofs.Common.{arith, ◌≡◌, ◌∙◌, ℕ, ◌<◌, ◌≤◌, Bool, true, false, not, ◌&&◌, ◌||◌, ◌==◌, nat_le, nat_lt, List, [], ◌∷◌, ◌++◌, length, map, Option, Some, None, option_map, refl, sym, ap, cond}
-use Rattle.std.specs.List.{list_any, list_all, position}
+use Rattle.std.proofs.Common.{arith, ◌≡◌, ◌∙◌, ℕ, ◌≤◌, Bool, true, false, ◌||◌, ◌==◌, List, [], ◌∷◌, ◌++◌, length, map, Option, Some, None, option_map, refl, sym, ap, cond}
+use Rattle.std.specs.List.{list_all}
 use Rattle.std.specs.Cmp.Lexicographic.{pointwise}
 use Rattle.std.proofs.Common.{nat_eq}
 use Rattle.std.proofs.lemmas.Bool.{and_parts, and_from, or_left, or_right, le-leb, lt-ltb, ltb-true, eq-eqb}
@@ -14,7 +14,7 @@ use Rattle.vcd_grammar.specs.Codes.{Code, with_code, lines_of}
 use Rattle.vcd_grammar.specs.Judging.{is_declared, missing_from}
 use Rattle.vcd_way.specs.Declarations.{Declaration}
 use Rattle.vcd_way.specs.declared.tap.Tap.{Tap}
-use Rattle.vcd_way.specs.Ways.{Kept, Keeps, Refuses}
+use Rattle.vcd_way.specs.Ways.{Refuses}
 use Rattle.vcd_way.specs.Events.{whole}
 use Rattle.vcd_way.specs.Strict.{StrictHeader, with_other, with_strict_line, strict_named, strict_declares, strict_closed, strict_closes, strict_taps, strict}
 use Rattle.vcd_way.specs.Lawful.{is_line, is_lawful_tap, is_lawfully_kept, IsLawfulWay}

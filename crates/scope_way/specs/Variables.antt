@@ -1,7 +1,6 @@
 -- A declaration of a header as a variable: its path parted at the last dot, its name without its range.
-use Rattle.std.specs.Prelude.{◌≡◌, ℕ, Vec, map, nat_le, ◌-◌, List, [], ◌∷◌, ◌++◌, length, take, Option, Some, None, if◌then◌else◌}
+use Rattle.std.specs.Prelude.{◌≡◌, ℕ, Vec, map, nat_le, List, [], ◌∷◌, ◌++◌, Some, None, if◌then◌else◌}
 use Rattle.scope_pick.specs.declared.variable.Variable.{Variable}
-use Rattle.scope_pick.specs.declared.variable.Range.{Range}
 use Rattle.scope_pick.specs.declared.variable.Written.{Written}
 use Rattle.scope_pick.specs.declared.variable.Written.TheVariants as writings
 use Rattle.scope_pick.specs.Splits.{after_last, before_last}

@@ -4,7 +4,7 @@ use Rattle.std.specs.List.{filter_map, list_any, list_all}
 use Rattle.vcd_grammar.specs.Words.{same}
 use Rattle.vcd_way.specs.Declarations.{Declaration}
 use Rattle.vcd_way.specs.declared.tap.Tap.{Tap}
-use Rattle.vcd_way.specs.Ways.{Kept, Keeps, ValueRules, Way}
+use Rattle.vcd_way.specs.Ways.{Keeps, ValueRules, Way}
 use Rattle.vcd_way.specs.Lawful.{is_lawful_tap}
 use Rattle.scope_wiring.specs.declared.wire.Wire.{Wire}
 

@@ -1,6 +1,6 @@
-use Rattle.std.proofs.Common.{◌≡◌, ◌∙◌, ◌++◌, List, ℕ, true, false, sym, ap}
+use Rattle.std.proofs.Common.{◌≡◌, ◌∙◌, ◌++◌, true, false, sym, ap}
 use Rattle.vcd_way.specs.Declarations.{as_one, is_bracketed, without_backslash}
-use Rattle.scope_way.specs.Variables.{words_told, ranged_text, ranged_of}
+use Rattle.scope_way.specs.Variables.{words_told, ranged_text}
 use Rattle.scope_way.proofs.Ranges.{text_of_words, text_alone, of_words, alone}
 use Rattle.scope_way.proofs.variable.name_and_range.Goals as goal
 

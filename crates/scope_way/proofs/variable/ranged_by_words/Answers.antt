@@ -1,4 +1,4 @@
-use Rattle.std.proofs.Common.{◌≡◌, ◌∙◌, sym}
+use Rattle.std.proofs.Common.{◌∙◌, sym}
 use Rattle.vcd_way.specs.Declarations.{ends_at_end}
 use Rattle.scope_way.proofs.Ranges.{by_words_some, by_words_none}
 use Rattle.scope_way.proofs.variable.ranged_by_words.Goals as goal

@@ -1,6 +1,6 @@
-use Rattle.std.proofs.Common.{◌≡◌, ◌∙◌, ◌++◌, List, ℕ, sym, ap}
+use Rattle.std.proofs.Common.{◌∙◌, ◌++◌, ap}
 use Rattle.scope_pick.specs.Splits.{after_last, before_last}
-use Rattle.scope_way.specs.Variables.{words_told, dotted, ranged_of, declared_as}
+use Rattle.scope_way.specs.Variables.{words_told, dotted, declared_as}
 use Rattle.scope_way.proofs.Ranges.{shown_by_parts}
 use Rattle.scope_way.proofs.variable.variable_of.Goals as goal
 
