@@ -6,6 +6,7 @@ use fsb_hazard::{
     ask_all, effective, entry_laws, entry_of, join, join_laws, load_all, next_state, quiet_choice,
     seed_entry, seed_line,
 };
+use std::alloc::{AllocError, Global};
 use std::test::Fail;
 
 const QUIET: Choice = Choice {
@@ -278,43 +279,63 @@ fn turns_in_effect(rt: HostRuntime) {
 }
 
 /// What is asked, what three objects answer, and what they answer together.
-type Asked = (Ask, [Choice; 3], Choice);
+type Asked = (Ask, &'static [Choice], Choice);
+
+const FIFTH: Ask = Ask::Begun {
+    number: 5,
+    request: READ,
+};
+
+const STALLED_AND_RETRIED: Choice = Choice {
+    stall: 1,
+    turn: Turn::Retry,
+    ..QUIET
+};
+
+const ASKED: [Asked; 4] = [
+    (FIFTH, &[RETRIED, STALLED, QUIET], STALLED_AND_RETRIED),
+    (Ask::Clock(1), &[QUIET, QUIET, QUIET], QUIET),
+    (Ask::Clock(2), &[HELD, QUIET, QUIET], HELD),
+    (FIFTH, &[RETRIED, STALLED, QUIET], STALLED_AND_RETRIED),
+];
+
+/// Whether each object answers so.
+fn answer_so(objects: &mut [Box<dyn Hazard>], ask: &Ask, answers: &[Choice]) -> bool {
+    for (object, answer) in objects.iter_mut().zip(answers) {
+        if object.choose(ask) != *answer {
+            return false;
+        }
+    }
+    true
+}
 
 /// Whether each object answers so, and all of them together.
 fn is_answered(objects: &mut [Box<dyn Hazard>], row: &Asked) -> bool {
     let &(ask, answers, together) = row;
-    for (object, answer) in objects.iter_mut().zip(answers.iter()) {
-        if object.choose(&ask) != *answer {
-            return false;
-        }
-    }
-    ask_all(objects, &ask) == together
+    answer_so(objects, &ask, answers) && ask_all(objects, &ask) == together
+}
+
+/// Whether the objects take the lines.
+fn is_loaded(objects: &mut [Box<dyn Hazard>], lines: &[HazardLine]) -> bool {
+    load_all(objects, lines) == Ok(())
+}
+
+/// An object of each kind.
+fn one_of_each(alloc: Global) -> Result<Vec<Box<dyn Hazard>>, AllocError> {
+    let mut objects: Vec<Box<dyn Hazard>> = Vec::new(alloc);
+    objects.push(Box::new(alloc, ScriptHazard::new(alloc))?)?;
+    objects.push(Box::new(alloc, SeedHazard::new(0))?)?;
+    objects.push(Box::new(alloc, QuietHazard::new())?)?;
+    Ok(objects)
 }
 
 #[test]
 fn boxed_objects_answer_what_they_tell(rt: HostRuntime) -> Result<(), Fail> {
-    let both = Choice {
-        stall: 1,
-        turn: Turn::Retry,
-        ..QUIET
-    };
-    let fifth = begun(5);
-    let mut objects: Vec<Box<dyn Hazard>> = Vec::new(rt.alloc());
-    objects.push(Box::new(rt.alloc(), ScriptHazard::new(rt.alloc()))?)?;
-    objects.push(Box::new(rt.alloc(), SeedHazard::new(0))?)?;
-    objects.push(Box::new(rt.alloc(), QuietHazard::new())?)?;
-    assert!(rt; ask_all(&mut objects, &fifth) == STALLED, "before any line");
-    let given = [HazardLine::Aerr(5), HazardLine::Bnr(1, 1)];
-    assert!(rt; load_all(&mut objects, &given) == Ok(()));
-    let given = [HazardLine::Retry(5), HazardLine::Bnr(2, 3)];
-    assert!(rt; load_all(&mut objects, &given) == Ok(()));
-    let rows = [
-        (fifth, [RETRIED, STALLED, QUIET], both),
-        (Ask::Clock(1), [QUIET, QUIET, QUIET], QUIET),
-        (Ask::Clock(2), [HELD, QUIET, QUIET], HELD),
-        (fifth, [RETRIED, STALLED, QUIET], both),
-    ];
-    for (at, row) in rows.iter().enumerate() {
+    let mut objects = one_of_each(rt.alloc())?;
+    assert!(rt; ask_all(&mut objects, &FIFTH) == STALLED, "before any line");
+    assert!(rt; is_loaded(&mut objects, &[HazardLine::Aerr(5), HazardLine::Bnr(1, 1)]));
+    assert!(rt; is_loaded(&mut objects, &[HazardLine::Retry(5), HazardLine::Bnr(2, 3)]));
+    for (at, row) in ASKED.iter().enumerate() {
         assert!(rt; is_answered(&mut objects, row), "row {at}");
     }
     Ok(())
