@@ -67,14 +67,19 @@ fn memory(alloc: Global, bytes: &[(u64, u8)]) -> Result<Flat, Memory> {
     Flat::new(alloc, &sets)
 }
 
+/// Whether the access is lawful, and has that value.
+fn is_served(flat: &mut Flat, row: &Served) -> bool {
+    let &(agent, size, addr, stored, value) = row;
+    let access = access(size, addr, stored);
+    access.is_lawful() && agent < 4 && flat.serve(agent, &access) == Ok(value)
+}
+
 #[test]
 fn accesses_served_one_after_the_other(rt: HostRuntime) -> Result<(), Fail> {
-    for (bytes, served) in MEMORIES {
+    for (bytes, served) in MEMORIES.iter() {
         let mut flat = memory(rt.alloc(), bytes)?;
-        for &(agent, size, addr, stored, value) in served {
-            let access = access(size, addr, stored);
-            assert!(rt; access.is_lawful() && agent < 4);
-            assert_eq!(rt; flat.serve(agent, &access), Ok(value), "at {access:?}");
+        for (at, row) in served.iter().enumerate() {
+            assert!(rt; is_served(&mut flat, row), "access {at}");
         }
     }
     Ok(())
@@ -82,13 +87,15 @@ fn accesses_served_one_after_the_other(rt: HostRuntime) -> Result<(), Fail> {
 
 #[test]
 fn sums_are_cut_to_the_bytes_put(rt: HostRuntime) {
-    assert_eq!(rt; number_put(2, 0xffff, &Operand::LastPlus(3)), 2);
-    assert_eq!(rt; number_put(2, 0xffff, &Operand::Literal(7)), 7);
-    assert_eq!(rt; cut(1, 0x1ff), 0xff);
+    assert!(rt; number_put(2, 0xffff, &Operand::LastPlus(3)) == 2);
+    assert!(rt; number_put(2, 0xffff, &Operand::Literal(7)) == 7);
+    assert!(rt; cut(1, 0x1ff) == 0xff);
 }
 
 /// How many bytes are accessed, their address, what is stored, and whether the access is lawful.
-const LAWFUL: [(u8, u64, Option<Operand>, bool); 11] = [
+type Lawful = (u8, u64, Option<Operand>, bool);
+
+const LAWFUL: [Lawful; 11] = [
     (1, 0x41, None, true),
     (2, 0x41, None, false),
     (3, 0x42, None, false),
@@ -102,41 +109,59 @@ const LAWFUL: [(u8, u64, Option<Operand>, bool); 11] = [
     (8, 0x40, Some(Operand::LastPlus(u64::MAX)), true),
 ];
 
+/// Whether the access is lawful where the row says so.
+fn is_so(row: &Lawful) -> bool {
+    let &(size, addr, stored, lawful) = row;
+    access(size, addr, stored).is_lawful() == lawful
+}
+
 #[test]
 fn lawful_accesses(rt: HostRuntime) {
-    for (size, addr, stored, lawful) in LAWFUL {
-        let access = access(size, addr, stored);
-        assert_eq!(rt; access.is_lawful(), lawful, "at {access:?}");
+    for (at, row) in LAWFUL.iter().enumerate() {
+        assert!(rt; is_so(row), "row {at}");
     }
     let access = access(8, 0x1058, None);
-    assert_eq!(rt; (access.size(), access.addr()), (8, 0x1058));
-    assert_eq!(rt; (access.line(), access.chunk()), (0x82, 3));
-    assert_eq!(rt; Operand::Literal(5).number(), 5);
+    assert!(rt; access.size() == 8 && access.addr() == 0x1058);
+    assert!(rt; access.line() == 0x82 && access.chunk() == 3);
+    assert!(rt; Operand::Literal(5).number() == 5);
+}
+
+/// A group of a load and a store.
+fn pair(alloc: Global) -> Result<Group, Memory> {
+    let mut group = Group::new(alloc);
+    group.push(LOAD)?;
+    group.push(INCREMENT)?;
+    Ok(group)
+}
+
+/// A script of a locked pair, idle clocks and a load.
+fn mixed(alloc: Global) -> Result<Script, Memory> {
+    let mut script = Script::new(alloc);
+    script.push(Item::Locked(pair(alloc)?))?;
+    script.push(Item::Idle(3))?;
+    script.push(Item::One(LOAD))?;
+    Ok(script)
+}
+
+/// Whether these are the items of the script.
+fn is_mixed(items: &[Item]) -> bool {
+    match items {
+        [Item::Locked(group), Item::Idle(3), Item::One(LOAD)] => is_pair(group.as_slice()),
+        _ => false,
+    }
+}
+
+/// Whether these are the accesses of the group.
+fn is_pair(accesses: &[Access]) -> bool {
+    accesses == [LOAD, INCREMENT].as_slice()
 }
 
 #[test]
 fn lists_push_and_copy(rt: HostRuntime) -> Result<(), Fail> {
-    let alloc = rt.alloc();
-    let mut group = Group::new(alloc);
-    group.push(LOAD)?;
-    group.push(INCREMENT)?;
-    let copied = group.copy(alloc)?;
-    assert_eq!(rt; copied.as_slice(), [LOAD, INCREMENT].as_slice());
-
-    let mut script = Script::new(alloc);
-    script.push(Item::Locked(group))?;
-    script.push(Item::Idle(3))?;
-    script.push(Item::One(LOAD))?;
-    let copied = script.copy(alloc)?;
-    assert!(rt;
-        matches!(
-            copied.as_slice(),
-            [Item::Locked(_), Item::Idle(3), Item::One(LOAD)]
-        )
-    );
-    if let [Item::Locked(group), ..] = copied.as_slice() {
-        assert_eq!(rt; group.as_slice(), [LOAD, INCREMENT].as_slice());
-    }
+    let copied = pair(rt.alloc())?.copy(rt.alloc())?;
+    assert!(rt; is_pair(copied.as_slice()));
+    let copied = mixed(rt.alloc())?.copy(rt.alloc())?;
+    assert!(rt; is_mixed(copied.as_slice()));
     Ok(())
 }
 
@@ -156,6 +181,6 @@ fn log_fills_its_room(rt: HostRuntime) -> Result<(), Fail> {
     assert!(rt; log.spare() >= 2);
     log.add(both[0]);
     log.add(both[1]);
-    assert_eq!(rt; log.as_slice(), both.as_slice());
+    assert!(rt; log.as_slice() == both.as_slice());
     Ok(())
 }

@@ -35,7 +35,9 @@ const UPGRADE: Request = Request {
 };
 
 /// Lawful requests, and their two clocks. Line 5 has the byte address A0h, and its chunk 3 has B8h; a word's bit 0 is A3#.
-const CODES: [(Request, Words, Words); 7] = [
+type Code = (Request, Words, Words);
+
+const CODES: [Code; 7] = [
     (HIGH_READ, (0x2000_0008, 0b01110), (2, 0b00010)),
     (UPGRADE, (8, 0b00010), (0, 0b00000)),
     (
@@ -106,30 +108,38 @@ fn decoded(first: Words, second: Words) -> Result<Request, DecodeFault> {
     decode(pair(first), pair(second))
 }
 
+/// Whether the request has those two clocks, and they are decoded to it.
+fn is_code(row: &Code) -> bool {
+    let &(request, first, second) = row;
+    encoded(&request) == Some((pair(first), pair(second))) && decoded(first, second) == Ok(request)
+}
+
 #[test]
 fn codes_of_each_kind(rt: HostRuntime) {
-    for (request, first, second) in CODES {
-        assert_eq!(rt; encoded(&request), Some((pair(first), pair(second))));
-        assert_eq!(rt; decoded(first, second), Ok(request));
+    for (at, row) in CODES.iter().enumerate() {
+        assert!(rt; is_code(row), "row {at}");
     }
     codes_differ();
     clocks_hold_request();
 }
 
+/// Whether the clocks with REQ3# changed are refused, and the request is not lawful with another line or chunk.
+fn is_spoiled(row: &Code) -> bool {
+    let &(request, (addr, req), second) = row;
+    let line = 1 << 31;
+    decoded((addr, req ^ 0b01000), second).is_err()
+        && !Request { line, ..request }.is_lawful()
+        && !Request {
+            chunk: 4,
+            ..request
+        }
+        .is_lawful()
+}
+
 #[test]
 fn changed_codes_and_requests_are_not_lawful(rt: HostRuntime) {
-    for (request, first, second) in CODES {
-        let (addr, req) = first;
-        assert!(rt; decoded((addr, req ^ 0b01000), second).is_err());
-        let line = 1 << 31;
-        assert!(rt; !Request { line, ..request }.is_lawful());
-        assert!(rt;
-            !Request {
-                chunk: 4,
-                ..request
-            }
-            .is_lawful()
-        );
+    for (at, row) in CODES.iter().enumerate() {
+        assert!(rt; is_spoiled(row), "row {at}");
     }
     let deferred = Request {
         den: true,
@@ -139,7 +149,9 @@ fn changed_codes_and_requests_are_not_lawful(rt: HostRuntime) {
 }
 
 /// Clocks of the two requests of ID 0 with a word changed, and what they are decoded to.
-const CHANGED: [(Words, Words, Result<Request, DecodeFault>); 6] = [
+type Changed = (Words, Words, Result<Request, DecodeFault>);
+
+const CHANGED: [Changed; 6] = [
     (
         (0x2000_0008, 0b11111),
         (2, 0b00010),
@@ -167,10 +179,16 @@ const CHANGED: [(Words, Words, Result<Request, DecodeFault>); 6] = [
     ((8, 0b00010), (2, 0b00000), Err(DecodeFault::BadField)),
 ];
 
+/// Whether the two clocks are decoded to that.
+fn is_decoded(row: &Changed) -> bool {
+    let &(first, second, wanted) = row;
+    decoded(first, second) == wanted
+}
+
 #[test]
 fn first_wrong_word_of_two_clocks(rt: HostRuntime) {
-    for (first, second, wanted) in CHANGED {
-        assert_eq!(rt; decoded(first, second), wanted);
+    for (at, row) in CHANGED.iter().enumerate() {
+        assert!(rt; is_decoded(row), "row {at}");
     }
 }
 
@@ -227,18 +245,19 @@ fn expected(kind: Option<Kind>, line: u64, first: u8, second: u8) -> Result<Requ
     })
 }
 
+/// Whether the two words are decoded as is expected, where the first is of this kind.
+fn is_expected(kind: Option<Kind>, first: u8, second: u8) -> bool {
+    // A line at or above 4 GiB asserts REQ3#.
+    let line = if first / 8 % 2 == 1 { 1 << 27 } else { 0 };
+    decoded((line * 4, first), (0, second)) == expected(kind, line, first, second)
+}
+
 #[test]
 fn every_pair_of_req_words(rt: HostRuntime) {
     for first in 0..32 {
-        // A line at or above 4 GiB asserts REQ3#.
-        let line = if first / 8 % 2 == 1 { 1 << 27 } else { 0 };
         let kind = KINDS[usize::from(first)];
         for second in 0..32 {
-            assert_eq!(rt;
-                decoded((line * 4, first), (0, second)),
-                expected(kind, line, first, second),
-                "{first:05b} {second:05b}"
-            );
+            assert!(rt; is_expected(kind, first, second), "words {first} {second}");
         }
     }
 }

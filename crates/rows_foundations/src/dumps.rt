@@ -67,9 +67,9 @@ b11 5
 #[test]
 fn dump_of_no_samples(rt: HostRuntime) -> Result<(), Fail> {
     let mut sink = MemSink::new(rt.alloc(), 2_000, &[])?;
-    assert_eq!(rt; put_dump(&mut sink, 1, &[]), Ok(()));
-    assert_eq!(rt; sink.holds(), NO_SAMPLES.as_bytes());
-    assert_eq!(rt; sink.calls(), 1, "one piece");
+    assert!(rt; put_dump(&mut sink, 1, &[]) == Ok(()));
+    assert!(rt; sink.holds() == NO_SAMPLES.as_bytes());
+    assert!(rt; sink.calls() == 1, "one piece");
     Ok(())
 }
 
@@ -79,10 +79,10 @@ fn two_request_clocks(rt: HostRuntime) -> Result<(), Fail> {
     let begins = sample_at(&LOAD_THEN_STORE_HIT, &[], 2);
     let goes_on = sample_at(&LOAD_THEN_STORE_HIT, &[], 3);
     let mut sink = MemSink::new(rt.alloc(), 2_000, &[])?;
-    assert_eq!(rt; put_clock(&mut sink, 1, 2, &asks, &begins), Ok(()));
-    assert_eq!(rt; put_clock(&mut sink, 1, 3, &begins, &goes_on), Ok(()));
-    assert_eq!(rt; sink.holds(), TWO_CLOCKS.as_bytes());
-    assert_eq!(rt; sink.calls(), 2, "one piece a clock");
+    assert!(rt; put_clock(&mut sink, 1, 2, &asks, &begins) == Ok(()));
+    assert!(rt; put_clock(&mut sink, 1, 3, &begins, &goes_on) == Ok(()));
+    assert!(rt; sink.holds() == TWO_CLOCKS.as_bytes());
+    assert!(rt; sink.calls() == 2, "one piece a clock");
     Ok(())
 }
 
@@ -91,18 +91,15 @@ fn fault_leaves_the_pieces_before_it(rt: HostRuntime) -> Result<(), Fail> {
     let first = sample_at(&LOAD_THEN_STORE_HIT, &[], 1);
     let samples = trace_of(rt.alloc(), 3, &LOAD_THEN_STORE_HIT[1..], &[])?;
     let mut whole = MemSink::new(rt.alloc(), 2_000, &[])?;
-    assert_eq!(rt; put_header(&mut whole, 1, &first), Ok(()));
-    assert_eq!(rt; put_clock(&mut whole, 1, 0, &idle_sample(), &first), Ok(()));
+    assert!(rt; put_header(&mut whole, 1, &first) == Ok(()));
+    assert!(rt; put_clock(&mut whole, 1, 0, &idle_sample(), &first) == Ok(()));
     let mut sink = MemSink::new(rt.alloc(), 2_000, &[2])?;
-    assert_eq!(rt; put_dump(&mut sink, 1, &samples), Err(Failed));
-    assert_eq!(rt; sink.holds(), whole.holds(), "the header and clock 0");
+    assert!(rt; put_dump(&mut sink, 1, &samples) == Err(Failed));
+    assert!(rt; sink.holds() == whole.holds(), "the header and clock 0");
     let mut clock_zero = MemSink::new(rt.alloc(), 10, &[])?;
-    assert_eq!(rt;
-        put_clock(&mut clock_zero, 1, 0, &idle_sample(), &first),
-        Ok(())
-    );
-    assert_eq!(rt; clock_zero.holds(), b"#5\n1!\n".as_slice());
-    assert_eq!(rt; sink.faults(), 1);
+    assert!(rt; put_clock(&mut clock_zero, 1, 0, &idle_sample(), &first) == Ok(()));
+    assert!(rt; clock_zero.holds() == b"#5\n1!\n".as_slice());
+    assert!(rt; sink.faults() == 1);
     Ok(())
 }
 
@@ -128,11 +125,11 @@ fn parity_lines_in_profile_2(rt: HostRuntime) -> Result<(), Fail> {
             &samples[at + 1],
             &samples[at + 2],
         );
-        assert_eq!(rt; answer, Ok(()));
-        assert_eq!(rt; sink.holds(), text.as_bytes());
+        assert!(rt; answer == Ok(()));
+        assert!(rt; sink.holds() == text.as_bytes(), "clock {at}");
     }
     let mut sink = MemSink::new(rt.alloc(), 2_000, &[])?;
-    assert_eq!(rt; put_dump(&mut sink, 2, &samples), Ok(()));
+    assert!(rt; put_dump(&mut sink, 2, &samples) == Ok(()));
     assert!(rt; PARITY_OF_A_LOAD.as_bytes().starts_with(sink.holds()));
     assert!(rt;
         sink.holds()

@@ -8,15 +8,19 @@ use std::rt::Files;
 use std::test::Fail;
 use std::{env, fs, io};
 
+/// Whether a file and standard output that are interrupted so often answer so.
+fn answers_behind(interrupts: u32, answer: Result<usize, Failed>) -> bool {
+    let system = BusySystem::new(interrupts);
+    let mut source = FileSource::new(&system);
+    source.begin("text") == Ok(())
+        && source.read(&mut [0; 4]) == answer
+        && StdoutSink::new(&system).write(b"text") == answer
+}
+
 #[test]
 fn interrupted_calls_are_tried_again_a_thousand_times(rt: HostRuntime) {
-    for (interrupts, answer) in [(1_000, Ok(1)), (1_001, Err(Failed))] {
-        let system = BusySystem::new(interrupts);
-        let mut source = FileSource::new(&system);
-        assert_eq!(rt; source.begin("text"), Ok(()));
-        assert_eq!(rt; source.read(&mut [0; 4]), answer);
-        assert_eq!(rt; StdoutSink::new(&system).write(b"text"), answer);
-    }
+    assert!(rt; answers_behind(1_000, Ok(1)));
+    assert!(rt; answers_behind(1_001, Err(Failed)));
 }
 
 #[test]
@@ -26,51 +30,51 @@ fn file_is_written_and_read_back(rt: HostRuntime) -> Result<(), Fail> {
     assert!(rt; name.len() <= 4_096);
 
     let mut sink = FileSink::new(&rt, None);
-    assert_eq!(rt; put_all(&mut sink, b"lost"), Err(Failed), "not begun");
-    assert_eq!(rt; sink.begin(name), Ok(()));
-    assert_eq!(rt; put_all(&mut sink, b"old text"), Ok(()));
-    assert_eq!(rt; sink.begin(name), Ok(()));
-    assert_eq!(rt; put_all(&mut sink, b"11 0 0"), Ok(()));
-    assert_eq!(rt; put_all(&mut sink, b" ld\n"), Ok(()));
-    assert_eq!(rt; sink.faults(), 1);
+    assert!(rt; put_all(&mut sink, b"lost") == Err(Failed), "not begun");
+    assert!(rt; sink.begin(name) == Ok(()));
+    assert!(rt; put_all(&mut sink, b"old text") == Ok(()));
+    assert!(rt; sink.begin(name) == Ok(()));
+    assert!(rt; put_all(&mut sink, b"11 0 0") == Ok(()));
+    assert!(rt; put_all(&mut sink, b" ld\n") == Ok(()));
+    assert!(rt; sink.faults() == 1);
 
     let mut source = FileSource::new(&rt);
-    assert_eq!(rt; source.begin(name), Ok(()));
+    assert!(rt; source.begin(name) == Ok(()));
     let text = read_all(rt.alloc(), &mut source, 100)?;
-    assert_eq!(rt; text.as_slice(), b"11 0 0 ld\n".as_slice());
-    assert_eq!(rt; source.faults(), 0);
+    assert!(rt; text.as_slice() == b"11 0 0 ld\n".as_slice());
+    assert!(rt; source.faults() == 0);
 
     fs::remove_file(&rt, name)?;
-    assert_eq!(rt; source.begin(name), Err(Failed), "the file is gone");
-    assert_eq!(rt; source.faults(), 1);
+    assert!(rt; source.begin(name) == Err(Failed), "the file is gone");
+    assert!(rt; source.faults() == 1);
     Ok(())
 }
 
 #[test]
 fn read_of_a_folder_and_write_to_a_full_device_are_faults(rt: HostRuntime) -> Result<(), Fail> {
     let mut source = FileSource::new(&rt);
-    assert_eq!(rt; source.begin("/"), Ok(()), "a folder can be opened");
+    assert!(rt; source.begin("/") == Ok(()), "a folder can be opened");
     let answer = read_all(rt.alloc(), &mut source, 100);
     assert!(rt; matches!(answer, Err(ReadStop::ReadFault)));
-    assert_eq!(rt; source.faults(), 1);
+    assert!(rt; source.faults() == 1);
 
     let mut sink = FileSink::new(&rt, None);
-    assert_eq!(rt; sink.begin("/dev/full"), Ok(()));
-    assert_eq!(rt; put_all(&mut sink, b"lost"), Err(Failed));
-    assert_eq!(rt; sink.faults(), 1);
+    assert!(rt; sink.begin("/dev/full") == Ok(()));
+    assert!(rt; put_all(&mut sink, b"lost") == Err(Failed));
+    assert!(rt; sink.faults() == 1);
     Ok(())
 }
 
 #[test]
 fn standard_output_is_written_and_never_begun(rt: HostRuntime) {
     let mut sink = StdoutSink::new(&rt);
-    assert_eq!(rt; sink.begin("out"), Err(Failed));
-    assert_eq!(rt; put_all(&mut sink, b"a line\n"), Ok(()));
-    assert_eq!(rt; sink.faults(), 1);
+    assert!(rt; sink.begin("out") == Err(Failed));
+    assert!(rt; put_all(&mut sink, b"a line\n") == Ok(()));
+    assert!(rt; sink.faults() == 1);
 }
 
 /// Where a byte goes that is written to a sink.
-#[derive(Clone, Copy, Debug, PartialEq, Eq)]
+#[derive(Clone, Copy, PartialEq, Eq)]
 enum Place {
     /// The sink cannot be begun, nor written.
     Nowhere,
@@ -104,6 +108,27 @@ fn placed<R: Files>(
     Ok((before, place, after))
 }
 
+/// What standard output goes to, the file that is spared, the name of the sink, what the text holds before, and how long it is
+/// before the byte, where the byte goes, and how long the text is after it.
+type Placing<'a> = (
+    &'a str,
+    Option<&'a str>,
+    &'a str,
+    &'a str,
+    (u64, Place, u64),
+);
+
+/// Whether the byte goes there.
+fn is_placed<R: Files>(files: &R, text: &str, row: &Placing<'_>) -> io::Result<bool> {
+    let &(output, spared, name, held, (before, place, after)) = row;
+    fs::write(files, text, held)?;
+    if name.len() > 4_096 {
+        return Ok(false);
+    }
+    let came = placed(files, output, spared, name, text)?;
+    Ok(came == (before, Some(place), after))
+}
+
 #[test]
 fn no_file_is_lost_whatever_its_names(rt: HostRuntime) -> Result<(), Fail> {
     let folder = env::temp_dir(&rt)?;
@@ -115,9 +140,7 @@ fn no_file_is_lost_whatever_its_names(rt: HostRuntime) -> Result<(), Fail> {
     fs::write(&rt, other, b"other")?;
     let _ = fs::remove_file(&rt, link);
     fs::hard_link(&rt, text, link)?;
-
-    // What standard output goes to, the file that is spared, the name of the sink, and what the text holds before.
-    for (output, spared, name, held, wanted) in [
+    let rows = [
         (text, None, text, "text", (4, Place::Output, 4)),
         (text, Some(other), link, "text", (4, Place::Output, 4)),
         (other, Some(text), text, "text", (4, Place::Nowhere, 4)),
@@ -125,14 +148,11 @@ fn no_file_is_lost_whatever_its_names(rt: HostRuntime) -> Result<(), Fail> {
         ("/no/output", None, text, "text", (4, Place::Nowhere, 4)),
         (other, None, link, "text", (0, Place::File, 1)),
         ("/no/output", None, text, "", (0, Place::File, 1)),
-    ] {
-        fs::write(&rt, text, held)?;
-        assert!(rt; name.len() <= 4_096);
-        let (before, place, after) = wanted;
-        let came = placed(&rt, output, spared, name, text)?;
-        assert_eq!(rt; came, (before, Some(place), after));
+    ];
+    for (at, row) in rows.iter().enumerate() {
+        assert!(rt; is_placed(&rt, text, row)?, "row {at}");
     }
-    for name in [text, link, other] {
+    for name in [text, link, other].iter() {
         fs::remove_file(&rt, name)?;
     }
     Ok(())

@@ -73,7 +73,7 @@ fn begin_drops_what_was_gathered(rt: HostRuntime) -> Result<(), Fail> {
     for (at, row) in BEGUN_AGAIN.iter().enumerate() {
         assert!(rt; is_so(&mut sink, row), "call {at}");
     }
-    assert_eq!(rt; sink.sink().holds(), b"new".as_slice());
+    assert!(rt; sink.sink().holds() == b"new".as_slice());
     Ok(())
 }
 
@@ -81,9 +81,9 @@ fn begin_drops_what_was_gathered(rt: HostRuntime) -> Result<(), Fail> {
 fn pieces_are_handed_on_when_the_room_is_full(rt: HostRuntime) -> Result<(), Fail> {
     let long = vec![in rt.alloc(); b'a'; ROOM - 1]?;
     let mut sink = gathering(rt.alloc(), 200_000, &[])?;
-    assert_eq!(rt; called(&mut sink, Call::Begin("dump")), Ok(0));
-    assert_eq!(rt; sink.sink().begun_as(), Some(b"dump".as_slice()));
-    assert_eq!(rt; put_all(&mut sink, &long), Ok(()));
+    assert!(rt; called(&mut sink, Call::Begin("dump")) == Ok(0));
+    assert!(rt; sink.sink().begun_as() == Some(b"dump".as_slice()));
+    assert!(rt; put_all(&mut sink, &long) == Ok(()));
     for (at, row) in FULL.iter().enumerate() {
         assert!(rt; is_so(&mut sink, row), "call {at}");
     }
@@ -94,7 +94,9 @@ fn pieces_are_handed_on_when_the_room_is_full(rt: HostRuntime) -> Result<(), Fai
 
 /// The calls of the sink below that fail; what a full room, a byte more and two finishes answer; how many bytes are left
 /// gathered.
-const FAILING: [(&[u32], [Result<(), Failed>; 4], usize); 5] = [
+type Failing = (&'static [u32], [Result<(), Failed>; 4], usize);
+
+const FAILING: [Failing; 5] = [
     (&[], [Ok(()), Ok(()), Ok(()), Ok(())], 0),
     (&[0], [Ok(()), Err(Failed), Ok(()), Ok(())], 0),
     (&[1], [Ok(()), Ok(()), Err(Failed), Ok(())], 0),
@@ -106,24 +108,32 @@ const FAILING: [(&[u32], [Result<(), Failed>; 4], usize); 5] = [
     ),
 ];
 
-/// What they answer over a sink whose calls fail as said, and how many bytes are then left gathered and held below.
-fn filled(alloc: Global, fails: &[u32]) -> Result<([Result<(), Failed>; 4], usize, usize), Memory> {
-    let full = vec![in alloc; b'a'; ROOM]?;
+/// What they answer over a sink whose calls fail as said.
+fn filled(sink: &mut Gather<MemSink>, full: &[u8]) -> [Result<(), Failed>; 4] {
+    let room = put_all(sink, full);
+    let more = put_all(sink, b"b");
+    [room, more, sink.finish(), sink.finish()]
+}
+
+/// Whether so many bytes are left gathered, and none of them that the sink took is lost.
+fn is_kept(sink: &Gather<MemSink>, answers: &[Result<(), Failed>; 4], left: usize) -> bool {
+    let held = sink.sink().holds().len();
+    let kept = if answers[1].is_ok() { ROOM + 1 } else { ROOM };
+    sink.gathered().len() == left && held <= kept && kept - held == left
+}
+
+/// Whether a sink whose calls fail as said answers so, and loses nothing.
+fn loses_nothing(alloc: Global, full: &[u8], row: &Failing) -> Result<bool, Memory> {
+    let &(fails, answers, left) = row;
     let mut sink = gathering(alloc, 200_000, fails)?;
-    let room = put_all(&mut sink, &full);
-    let more = put_all(&mut sink, b"b");
-    let answers = [room, more, sink.finish(), sink.finish()];
-    Ok((answers, sink.gathered().len(), sink.sink().holds().len()))
+    Ok(filled(&mut sink, full) == answers && is_kept(&sink, &answers, left))
 }
 
 #[test]
 fn nothing_gathered_is_lost_where_the_sink_fails(rt: HostRuntime) -> Result<(), Fail> {
-    for &(fails, answers, left) in FAILING.iter() {
-        let (came, gathered, held) = filled(rt.alloc(), fails)?;
-        assert_eq!(rt; came, answers);
-        assert_eq!(rt; gathered, left);
-        let kept = if answers[1].is_ok() { ROOM + 1 } else { ROOM };
-        assert!(rt; held <= kept && held + left == kept);
+    let full = vec![in rt.alloc(); b'a'; ROOM]?;
+    for (at, row) in FAILING.iter().enumerate() {
+        assert!(rt; loses_nothing(rt.alloc(), &full, row)?, "row {at}");
     }
     Ok(())
 }

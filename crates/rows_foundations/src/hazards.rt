@@ -6,6 +6,7 @@ use fsb_hazard::{
     ask_all, effective, entry_laws, entry_of, join, join_laws, load_all, next_state, quiet_choice,
     seed_entry, seed_line,
 };
+use std::alloc::{AllocError, Global};
 use std::test::Fail;
 
 const QUIET: Choice = Choice {
@@ -51,7 +52,7 @@ fn lines_are_kept_in_order(rt: HostRuntime) -> Result<(), Fail> {
     for line in given {
         lines.push(line)?;
     }
-    assert_eq!(rt; lines.as_slice(), given.as_slice());
+    assert!(rt; lines.as_slice() == given.as_slice());
     Ok(())
 }
 
@@ -83,27 +84,45 @@ const CANCELLED: Choice = Choice {
     ..QUIET
 };
 
+/// Clocks, and what the lines answer there.
+const CLOCKS: [(u32, Choice); 5] = [(0, QUIET), (1, HELD), (3, HELD), (4, HELD), (5, QUIET)];
+
+/// Whether the lines answer so at the clock.
+fn is_at_clock(row: &(u32, Choice)) -> bool {
+    let &(clock, answer) = row;
+    entry_of(&LINES, &Ask::Clock(clock)) == answer
+}
+
+/// Requests, and what the lines answer to them.
+const REQUESTS: [(u32, Choice); 5] = [
+    (0, QUIET),
+    (1, LATE),
+    (2, QUIET),
+    (3, RETRIED),
+    (4, CANCELLED),
+];
+
+/// Whether the lines answer so to the request.
+fn is_of_request(row: &(u32, Choice)) -> bool {
+    let &(number, answer) = row;
+    entry_of(&LINES, &begun(number)) == answer
+}
+
 #[test]
 fn answers_of_hazard_lines(rt: HostRuntime) {
-    for (clock, answer) in [(0, QUIET), (1, HELD), (3, HELD), (4, HELD), (5, QUIET)] {
-        let entry = entry_of(&LINES, &Ask::Clock(clock));
-        assert_eq!(rt; entry, answer, "at clock {clock}");
+    for (at, row) in CLOCKS.iter().enumerate() {
+        assert!(rt; is_at_clock(row), "row {at} of the clocks");
     }
-    for (number, answer) in [
-        (0, QUIET),
-        (1, LATE),
-        (2, QUIET),
-        (3, RETRIED),
-        (4, CANCELLED),
-    ] {
-        let entry = entry_of(&LINES, &begun(number));
-        assert_eq!(rt; entry, answer, "of request {number}");
+    for (at, row) in REQUESTS.iter().enumerate() {
+        assert!(rt; is_of_request(row), "row {at} of the requests");
     }
     entry_laws();
 }
 
 /// The seed, the request, and the line that it has.
-const SEEDS: [(u64, u32, Option<HazardLine>); 10] = [
+type Seed = (u64, u32, Option<HazardLine>);
+
+const SEEDS: [Seed; 10] = [
     (0, 0, None),
     (0, 1, Some(HazardLine::Gap(1, 1))),
     (0, 3, Some(HazardLine::Aerr(3))),
@@ -116,29 +135,31 @@ const SEEDS: [(u64, u32, Option<HazardLine>); 10] = [
     (u64::MAX, 2, Some(HazardLine::Gap(2, 1))),
 ];
 
+/// Whether the request has that line.
+fn is_drawn(row: &Seed) -> bool {
+    let &(seed, number, line) = row;
+    seed_line(seed, number) == line
+}
+
 #[test]
 fn lines_of_seeds(rt: HostRuntime) {
-    assert_eq!(rt; next_state(0), 1_442_695_040_888_963_407);
-    for (seed, number, line) in SEEDS {
-        assert_eq!(rt;
-            seed_line(seed, number),
-            line,
-            "seed {seed}, request {number}"
-        );
+    assert!(rt; next_state(0) == 1_442_695_040_888_963_407);
+    for (at, row) in SEEDS.iter().enumerate() {
+        assert!(rt; is_drawn(row), "row {at}");
     }
 }
 
 #[test]
 fn entries_of_a_seed(rt: HostRuntime) {
-    for (number, answer) in [(9, QUIET), (10, RETRIED)] {
-        let entry = seed_entry(0, &begun(number));
-        assert_eq!(rt; entry, answer, "of request {number}");
-    }
-    assert_eq!(rt; seed_entry(0, &Ask::Clock(10)), QUIET);
+    assert!(rt; seed_entry(0, &begun(9)) == QUIET);
+    assert!(rt; seed_entry(0, &begun(10)) == RETRIED);
+    assert!(rt; seed_entry(0, &Ask::Clock(10)) == QUIET);
 }
 
 /// The turns of two choices, and that of both together.
-const JOINS: [(Turn, Turn, Turn); 7] = [
+type Join = (Turn, Turn, Turn);
+
+const JOINS: [Join; 7] = [
     (Turn::Keep, Turn::Keep, Turn::Keep),
     (Turn::Keep, Turn::Defer(4), Turn::Defer(4)),
     (Turn::Keep, Turn::Retry, Turn::Retry),
@@ -148,17 +169,22 @@ const JOINS: [(Turn, Turn, Turn); 7] = [
     (Turn::Retry, Turn::Retry, Turn::Retry),
 ];
 
+/// A choice of nothing but a turn.
+fn turning(turn: Turn) -> Choice {
+    Choice { turn, ..QUIET }
+}
+
+/// Whether the two turns come to that one, whichever is first.
+fn is_joined(row: &Join) -> bool {
+    let &(one, other, turn) = row;
+    let (a, b, both) = (turning(one), turning(other), turning(turn));
+    join(&a, &b) == both && join(&b, &a) == both
+}
+
 #[test]
 fn turns_of_two_choices(rt: HostRuntime) {
-    for (one, other, turn) in JOINS {
-        let a = Choice { turn: one, ..QUIET };
-        let b = Choice {
-            turn: other,
-            ..QUIET
-        };
-        let both = Choice { turn, ..QUIET };
-        assert_eq!(rt; join(&a, &b), both);
-        assert_eq!(rt; join(&b, &a), both);
+    for (at, row) in JOINS.iter().enumerate() {
+        assert!(rt; is_joined(row), "row {at}");
     }
 }
 
@@ -191,16 +217,18 @@ fn truth_values_and_numbers_of_two_choices(rt: HostRuntime) {
         gap: 1,
         turn: Turn::Keep,
     };
-    assert_eq!(rt; join(&a, &b), both);
-    assert_eq!(rt; join(&a, &quiet_choice()), a);
-    assert_eq!(rt; quiet_choice(), QUIET);
+    assert!(rt; join(&a, &b) == both);
+    assert!(rt; join(&a, &quiet_choice()) == a);
+    assert!(rt; quiet_choice() == QUIET);
     join_laws();
 }
 
 const LATER: Turn = Turn::Defer(3);
 
 /// The kind, DEN#, whether the line is in the window, whether it is pending, what was chosen, what counts.
-const TURNS: [(Kind, bool, bool, bool, Turn, Turn); 15] = [
+type InEffect = (Kind, bool, bool, bool, Turn, Turn);
+
+const TURNS: [InEffect; 15] = [
     (Kind::WriteBack, false, true, true, Turn::Retry, Turn::Keep),
     (Kind::WriteBack, false, true, false, LATER, Turn::Keep),
     (Kind::Reply, false, true, true, Turn::Retry, Turn::Keep),
@@ -225,57 +253,90 @@ const TURNS: [(Kind, bool, bool, bool, Turn, Turn); 15] = [
     (Kind::Upgrade, false, true, false, Turn::Retry, Turn::Retry),
 ];
 
+/// Whether that turn counts, and all else of the choice with it.
+fn counts(row: &InEffect) -> bool {
+    let &(kind, den, in_window, pending, chosen, turn) = row;
+    let request = Request {
+        kind,
+        line: 0,
+        den,
+        ..READ
+    };
+    let choice = Choice {
+        stall: 5,
+        aerr: true,
+        turn: chosen,
+        ..QUIET
+    };
+    effective(&choice, &request, in_window, pending) == Choice { turn, ..choice }
+}
+
 #[test]
 fn turns_in_effect(rt: HostRuntime) {
-    for (kind, den, in_window, pending, chosen, turn) in TURNS {
-        let request = Request {
-            kind,
-            line: 0,
-            chunk: 0,
-            did: 0,
-            den,
-        };
-        let choice = Choice {
-            stall: 5,
-            aerr: true,
-            turn: chosen,
-            ..QUIET
-        };
-        let effect = effective(&choice, &request, in_window, pending);
-        assert_eq!(rt; effect, Choice { turn, ..choice });
+    for (at, row) in TURNS.iter().enumerate() {
+        assert!(rt; counts(row), "row {at}");
     }
+}
+
+/// What is asked, what three objects answer, and what they answer together.
+type Asked = (Ask, &'static [Choice], Choice);
+
+const FIFTH: Ask = Ask::Begun {
+    number: 5,
+    request: READ,
+};
+
+const STALLED_AND_RETRIED: Choice = Choice {
+    stall: 1,
+    turn: Turn::Retry,
+    ..QUIET
+};
+
+const ASKED: [Asked; 4] = [
+    (FIFTH, &[RETRIED, STALLED, QUIET], STALLED_AND_RETRIED),
+    (Ask::Clock(1), &[QUIET, QUIET, QUIET], QUIET),
+    (Ask::Clock(2), &[HELD, QUIET, QUIET], HELD),
+    (FIFTH, &[RETRIED, STALLED, QUIET], STALLED_AND_RETRIED),
+];
+
+/// Whether each object answers so.
+fn answer_so(objects: &mut [Box<dyn Hazard>], ask: &Ask, answers: &[Choice]) -> bool {
+    for (object, answer) in objects.iter_mut().zip(answers) {
+        if object.choose(ask) != *answer {
+            return false;
+        }
+    }
+    true
+}
+
+/// Whether each object answers so, and all of them together.
+fn is_answered(objects: &mut [Box<dyn Hazard>], row: &Asked) -> bool {
+    let &(ask, answers, together) = row;
+    answer_so(objects, &ask, answers) && ask_all(objects, &ask) == together
+}
+
+/// Whether the objects take the lines.
+fn is_loaded(objects: &mut [Box<dyn Hazard>], lines: &[HazardLine]) -> bool {
+    load_all(objects, lines) == Ok(())
+}
+
+/// An object of each kind.
+fn one_of_each(alloc: Global) -> Result<Vec<Box<dyn Hazard>>, AllocError> {
+    let mut objects: Vec<Box<dyn Hazard>> = Vec::new(alloc);
+    objects.push(Box::new(alloc, ScriptHazard::new(alloc))?)?;
+    objects.push(Box::new(alloc, SeedHazard::new(0))?)?;
+    objects.push(Box::new(alloc, QuietHazard::new())?)?;
+    Ok(objects)
 }
 
 #[test]
 fn boxed_objects_answer_what_they_tell(rt: HostRuntime) -> Result<(), Fail> {
-    let both = Choice {
-        stall: 1,
-        turn: Turn::Retry,
-        ..QUIET
-    };
-    let fifth = begun(5);
-    let mut objects: Vec<Box<dyn Hazard>> = Vec::new(rt.alloc());
-    objects.push(Box::new(rt.alloc(), ScriptHazard::new(rt.alloc()))?)?;
-    objects.push(Box::new(rt.alloc(), SeedHazard::new(0))?)?;
-    objects.push(Box::new(rt.alloc(), QuietHazard::new())?)?;
-    assert_eq!(rt; ask_all(&mut objects, &fifth), STALLED, "before any line");
-    for lines in [
-        [HazardLine::Aerr(5), HazardLine::Bnr(1, 1)],
-        [HazardLine::Retry(5), HazardLine::Bnr(2, 3)],
-    ] {
-        assert_eq!(rt; load_all(&mut objects, &lines), Ok(()));
-    }
-    let rows = [
-        (fifth, [RETRIED, STALLED, QUIET], both),
-        (Ask::Clock(1), [QUIET, QUIET, QUIET], QUIET),
-        (Ask::Clock(2), [HELD, QUIET, QUIET], HELD),
-        (fifth, [RETRIED, STALLED, QUIET], both),
-    ];
-    for (ask, answers, together) in rows {
-        for (object, answer) in objects.iter_mut().zip(answers) {
-            assert_eq!(rt; object.choose(&ask), answer);
-        }
-        assert_eq!(rt; ask_all(&mut objects, &ask), together);
+    let mut objects = one_of_each(rt.alloc())?;
+    assert!(rt; ask_all(&mut objects, &FIFTH) == STALLED, "before any line");
+    assert!(rt; is_loaded(&mut objects, &[HazardLine::Aerr(5), HazardLine::Bnr(1, 1)]));
+    assert!(rt; is_loaded(&mut objects, &[HazardLine::Retry(5), HazardLine::Bnr(2, 3)]));
+    for (at, row) in ASKED.iter().enumerate() {
+        assert!(rt; is_answered(&mut objects, row), "row {at}");
     }
     Ok(())
 }
@@ -309,23 +370,42 @@ const HOLDS: [(u32, bool); 12] = [
     (u32::MAX, true),
 ];
 
+/// Whether the clock is held so.
+fn is_held(hazard: &mut ScriptHazard, row: &(u32, bool)) -> bool {
+    let &(clock, bnr) = row;
+    hazard.choose(&Ask::Clock(clock)) == Choice { bnr, ..QUIET }
+}
+
+const LATER_STALLED: Choice = Choice {
+    stall: 3,
+    turn: Turn::Defer(2),
+    ..QUIET
+};
+
+/// Requests, and what is chosen for them.
+const CHOSEN: [(u32, Choice); 5] = [
+    (3, QUIET),
+    (4, RETRIED),
+    (5, QUIET),
+    (7, LATER_STALLED),
+    (8, QUIET),
+];
+
+/// Whether that is chosen for the request.
+fn is_chosen(hazard: &mut ScriptHazard, row: &(u32, Choice)) -> bool {
+    let &(number, answer) = row;
+    hazard.choose(&begun(number)) == answer
+}
+
 #[test]
 fn overlapping_clocks_and_lines_of_one_request(rt: HostRuntime) -> Result<(), Fail> {
     let mut hazard = ScriptHazard::new(rt.alloc());
-    assert_eq!(rt; hazard.load(&OVERLAPPING), Ok(()));
-    for (clock, bnr) in HOLDS {
-        let answer = Choice { bnr, ..QUIET };
-        let chosen = hazard.choose(&Ask::Clock(clock));
-        assert_eq!(rt; chosen, answer, "at clock {clock}");
+    assert!(rt; hazard.load(&OVERLAPPING) == Ok(()));
+    for (at, row) in HOLDS.iter().enumerate() {
+        assert!(rt; is_held(&mut hazard, row), "row {at} of the clocks");
     }
-    let late = Choice {
-        stall: 3,
-        turn: Turn::Defer(2),
-        ..QUIET
-    };
-    for (number, answer) in [(3, QUIET), (4, RETRIED), (5, QUIET), (7, late), (8, QUIET)] {
-        let chosen = hazard.choose(&begun(number));
-        assert_eq!(rt; chosen, answer, "of request {number}");
+    for (at, row) in CHOSEN.iter().enumerate() {
+        assert!(rt; is_chosen(&mut hazard, row), "row {at} of the requests");
     }
     Ok(())
 }

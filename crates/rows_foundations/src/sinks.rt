@@ -43,15 +43,19 @@ fn called(sink: &mut MemSink, call: Call) -> Result<usize, Failed> {
     }
 }
 
+/// Whether the call does what the row says.
+fn is_so(sink: &mut MemSink, row: &Row) -> bool {
+    let &(call, answer, holds, begun_as) = row;
+    called(sink, call) == answer && sink.holds() == holds && sink.begun_as() == begun_as
+}
+
 #[test]
 fn sink_takes_whole_pieces_up_to_its_room(rt: HostRuntime) -> Result<(), Fail> {
     let mut sink = MemSink::new(rt.alloc(), 8, &[3])?;
-    for (call, answer, holds, begun_as) in CALLS {
-        assert_eq!(rt; called(&mut sink, call), answer);
-        assert_eq!(rt; sink.holds(), holds);
-        assert_eq!(rt; sink.begun_as(), begun_as);
+    for (at, row) in CALLS.iter().enumerate() {
+        assert!(rt; is_so(&mut sink, row), "call {at}");
     }
-    assert_eq!(rt; (sink.calls(), sink.faults()), (5, 2));
+    assert!(rt; sink.calls() == 5 && sink.faults() == 2);
     Ok(())
 }
 
@@ -92,31 +96,47 @@ fn a_piece_is_put_whole_or_in_part(rt: HostRuntime) {
         held: ArrayVec::new(),
         faults: 0,
     };
-    assert_eq!(rt; put_all(&mut sink, b"abcd"), Ok(()));
-    assert_eq!(rt; sink.held.as_slice(), b"abcd".as_slice());
-    assert_eq!(rt; sink.begin("again"), Ok(()));
-    assert_eq!(rt; put_all(&mut sink, b"abcdefgh"), Err(Failed));
-    assert_eq!(rt; sink.held.as_slice(), b"abcdef".as_slice());
+    assert!(rt; put_all(&mut sink, b"abcd") == Ok(()));
+    assert!(rt; sink.held.as_slice() == b"abcd".as_slice());
+    assert!(rt; sink.begin("again") == Ok(()));
+    assert!(rt; put_all(&mut sink, b"abcdefgh") == Err(Failed));
+    assert!(rt; sink.held.as_slice() == b"abcdef".as_slice());
+}
+
+/// A number, and its text in base ten and in base sixteen.
+type Digits = (u64, &'static str, &'static str);
+
+const DIGITS: [Digits; 7] = [
+    (0, "0", "0"),
+    (9, "9", "9"),
+    (10, "10", "a"),
+    (255, "255", "ff"),
+    (4_096, "4096", "1000"),
+    (305_441_741, "305441741", "1234abcd"),
+    (u64::MAX, "18446744073709551615", "ffffffffffffffff"),
+];
+
+/// Whether the number is put so behind a text in base ten.
+fn is_decimal(row: &Digits) -> bool {
+    let &(number, decimal, _) = row;
+    let mut line = Line::new();
+    put_text(&mut line, "n=");
+    put_decimal(&mut line, number);
+    line.as_slice().strip_prefix(b"n=".as_slice()) == Some(decimal.as_bytes())
+}
+
+/// Whether the number is put so in base sixteen.
+fn is_hexadecimal(row: &Digits) -> bool {
+    let &(number, _, hexadecimal) = row;
+    let mut line = Line::new();
+    put_hex(&mut line, number);
+    line.as_slice() == hexadecimal.as_bytes()
 }
 
 #[test]
 fn numbers_are_put_without_leading_zeros(rt: HostRuntime) {
-    let cases = [
-        (0, "0", "0"),
-        (9, "9", "9"),
-        (10, "10", "a"),
-        (255, "255", "ff"),
-        (4_096, "4096", "1000"),
-        (305_441_741, "305441741", "1234abcd"),
-        (u64::MAX, "18446744073709551615", "ffffffffffffffff"),
-    ];
-    for (number, decimal, hexadecimal) in cases {
-        let mut line = Line::new();
-        put_text(&mut line, "n=");
-        put_decimal(&mut line, number);
-        assert_eq!(rt; &line.as_slice()[2..], decimal.as_bytes());
-        let mut line = Line::new();
-        put_hex(&mut line, number);
-        assert_eq!(rt; line.as_slice(), hexadecimal.as_bytes());
+    for (at, row) in DIGITS.iter().enumerate() {
+        assert!(rt; is_decimal(row), "row {at}");
+        assert!(rt; is_hexadecimal(row), "row {at}");
     }
 }

@@ -1,6 +1,7 @@
 //! Sources in memory, and reading to the end.
 
-use fsb_io::{Failed, MemSource, ReadStop, Source, read_all};
+use fsb_io::{Failed, MemSource, Memory, ReadStop, Source, read_all};
+use std::alloc::Global;
 use std::test::Fail;
 
 /// The name of a `begin`, or None for a read of at most four bytes; the bytes that come; what is then left, and the name that
@@ -36,48 +37,65 @@ fn called(source: &mut MemSource, name: Option<&str>, buf: &mut [u8]) -> Result<
     }
 }
 
+/// Whether the call gives what the row says, and leaves it.
+fn is_so(source: &mut MemSource, row: &Call) -> bool {
+    let &(name, bytes, left, begun_as) = row;
+    let mut buf = [0; 4];
+    let is_answered = match (called(source, name, &mut buf), bytes) {
+        (Ok(count), Ok(bytes)) => count == bytes.len() && buf.starts_with(bytes),
+        (Err(_), Err(_)) => true,
+        (Ok(_), Err(_)) | (Err(_), Ok(_)) => false,
+    };
+    is_answered && source.left() == left && source.begun_as() == begun_as
+}
+
 #[test]
 fn source_fails_at_the_listed_calls_and_loses_nothing(rt: HostRuntime) -> Result<(), Fail> {
     let mut source = MemSource::new(rt.alloc(), b"abcdef", &[1, 3])?;
-    for (name, bytes, left, begun_as) in CALLS {
-        let mut buf = [0; 4];
-        let count = called(&mut source, name, &mut buf);
-        match bytes {
-            Ok(bytes) => assert!(rt; count == Ok(bytes.len()) && buf.starts_with(bytes)),
-            Err(failed) => assert_eq!(rt; count, Err(failed)),
-        }
-        assert_eq!(rt; source.left(), left);
-        assert_eq!(rt; source.begun_as(), begun_as);
+    for (at, row) in CALLS.iter().enumerate() {
+        assert!(rt; is_so(&mut source, row), "call {at}");
     }
-    assert_eq!(rt; (source.calls(), source.faults()), (7, 2));
+    assert!(rt; source.calls() == 7 && source.faults() == 2);
     Ok(())
+}
+
+/// At most so many bytes, and how many are left where there are more.
+type Limit = (usize, Option<usize>);
+
+const LIMITS: [Limit; 3] = [(150_000, None), (149_999, Some(0)), (99_999, Some(50_000))];
+
+/// Whether so many of the bytes are read as the row says.
+fn is_read(alloc: Global, long: &[u8], row: &Limit) -> Result<bool, Memory> {
+    let &(limit, left) = row;
+    let mut source = MemSource::new(alloc, long, &[])?;
+    let is_begun = source.begin("long") == Ok(());
+    Ok(match (read_all(alloc, &mut source, limit), left) {
+        (Ok(bytes), None) => is_begun && bytes.as_slice() == long,
+        (Err(ReadStop::TooLong), Some(left)) => is_begun && source.left().len() == left,
+        _ => false,
+    })
 }
 
 #[test]
 fn reads_to_the_end_or_one_byte_past_the_limit(rt: HostRuntime) -> Result<(), Fail> {
     let long = vec![in rt.alloc(); 7u8; 150_000]?;
-    for (limit, left) in [(150_000, None), (149_999, Some(0)), (99_999, Some(50_000))] {
-        let mut source = MemSource::new(rt.alloc(), &long, &[])?;
-        assert_eq!(rt; source.begin("long"), Ok(()));
-        match (read_all(rt.alloc(), &mut source, limit), left) {
-            (Ok(bytes), None) => assert!(rt; bytes == long),
-            (Err(ReadStop::TooLong), Some(left)) => assert_eq!(rt; source.left().len(), left),
-            _ => panic!(rt; "at {limit}"),
-        }
+    for (at, row) in LIMITS.iter().enumerate() {
+        assert!(rt; is_read(rt.alloc(), &long, row)?, "row {at}");
     }
     Ok(())
 }
 
+/// Whether reading stops at a call that fails, and one fault is counted.
+fn stops_at(alloc: Global, call: u32) -> Result<bool, Memory> {
+    let mut source = MemSource::new(alloc, b"text", &[call])?;
+    let is_begun = source.begin("text") == Ok(());
+    let stops = matches!(read_all(alloc, &mut source, 100), Err(ReadStop::ReadFault));
+    Ok(is_begun && stops && source.faults() == 1)
+}
+
 #[test]
 fn reading_stops_where_the_source_fails(rt: HostRuntime) -> Result<(), Fail> {
-    for call in [1, 2] {
-        let mut source = MemSource::new(rt.alloc(), b"text", &[call])?;
-        assert_eq!(rt; source.begin("text"), Ok(()));
-        match read_all(rt.alloc(), &mut source, 100) {
-            Err(stop) => assert_eq!(rt; stop, ReadStop::ReadFault),
-            Ok(_) => panic!(rt; "call {call}"),
-        }
-        assert_eq!(rt; source.faults(), 1);
-    }
+    assert!(rt; stops_at(rt.alloc(), 1)?, "call 1");
+    assert!(rt; stops_at(rt.alloc(), 2)?, "call 2");
     Ok(())
 }

@@ -3,7 +3,9 @@
 use fsb_line::{Answer, Mesi, Purpose};
 
 /// What was asked for, whether another agent has a copy, and the state that is granted.
-const GRANTS: [(Purpose, bool, Mesi); 5] = [
+type Grant = (Purpose, bool, Mesi);
+
+const GRANTS: [Grant; 5] = [
     (Purpose::Read, false, Mesi::Exclusive),
     (Purpose::Read, true, Mesi::Shared),
     (Purpose::Own, true, Mesi::Modified),
@@ -11,25 +13,39 @@ const GRANTS: [(Purpose, bool, Mesi); 5] = [
     (Purpose::WriteBack, false, Mesi::Invalid),
 ];
 
+/// Whether that state is granted.
+fn is_granted(row: &Grant) -> bool {
+    let &(kind, shared, want) = row;
+    Mesi::granted(kind, shared) == want
+}
+
 #[test]
 fn states_of_a_grant(rt: HostRuntime) {
-    for (kind, shared, want) in GRANTS {
-        assert_eq!(rt; Mesi::granted(kind, shared), want, "{kind:?} {shared}");
+    for (at, row) in GRANTS.iter().enumerate() {
+        assert!(rt; is_granted(row), "row {at}");
     }
     assert!(rt; Purpose::Upgrade.owns() && !Purpose::Read.owns());
 }
 
 /// The state of a copy, what another agent asks for, and the state after the snoop.
-const SNOOPS: [(Mesi, Purpose, Mesi); 3] = [
+type Snoop = (Mesi, Purpose, Mesi);
+
+const SNOOPS: [Snoop; 3] = [
     (Mesi::Shared, Purpose::Own, Mesi::Invalid),
     (Mesi::Exclusive, Purpose::Read, Mesi::Shared),
     (Mesi::Invalid, Purpose::Read, Mesi::Invalid),
 ];
 
+/// Whether the copy is left in that state.
+fn is_left(row: &Snoop) -> bool {
+    let &(state, kind, want) = row;
+    state.after_snoop(kind) == want
+}
+
 #[test]
 fn states_after_a_snoop(rt: HostRuntime) {
-    for (state, kind, want) in SNOOPS {
-        assert_eq!(rt; state.after_snoop(kind), want, "{state:?} {kind:?}");
+    for (at, row) in SNOOPS.iter().enumerate() {
+        assert!(rt; is_left(row), "row {at}");
     }
     assert!(rt; !Mesi::Invalid.is_held() && Mesi::Shared.is_held());
     assert!(rt; !Mesi::Shared.is_sole() && Mesi::Exclusive.is_sole());
@@ -43,9 +59,15 @@ const ANSWERS: [(Mesi, Answer); 4] = [
     (Mesi::Invalid, Answer::Clean),
 ];
 
+/// Whether the copy is answered so.
+fn is_answered(row: &(Mesi, Answer)) -> bool {
+    let &(state, answer) = row;
+    state.answer() == answer
+}
+
 #[test]
 fn answers_to_a_snoop(rt: HostRuntime) {
-    for (state, answer) in ANSWERS {
-        assert_eq!(rt; state.answer(), answer);
+    for (at, row) in ANSWERS.iter().enumerate() {
+        assert!(rt; is_answered(row), "row {at}");
     }
 }

@@ -18,7 +18,7 @@ mod table;
 mod texts;
 
 /// What stands before the text of a row.
-#[derive(Clone, Copy, Debug)]
+#[derive(Clone, Copy)]
 pub(crate) enum Start {
     /// Nothing.
     Whole,
@@ -46,7 +46,7 @@ impl Start {
 }
 
 /// What the needed lines have that the marks of a row do not name; a line that is not needed is known and not asserted.
-#[derive(Clone, Copy, Debug)]
+#[derive(Clone, Copy)]
 pub(crate) enum Rest {
     /// They are not asserted.
     Idle,
@@ -55,7 +55,7 @@ pub(crate) enum Rest {
 }
 
 /// What a row says of some lines.
-#[derive(Clone, Copy, Debug)]
+#[derive(Clone, Copy)]
 pub(crate) enum Mark {
     /// The control line is asserted.
     Asserts(Lines),
@@ -72,8 +72,14 @@ pub(crate) enum Mark {
 /// A sample as a row says it.
 pub(crate) type Sees = (Rest, &'static [Mark]);
 
+/// What stands before, the text, how far into the text the place of its first fault is, and its cause.
+pub(crate) type Bad = (Start, &'static str, u64, VcdCause);
+
+/// What stands before, the text, and its samples.
+pub(crate) type Good = (Start, &'static str, &'static [Sees]);
+
 /// The asserted and the unknown control lines of a sample, and of each word its asserted and its unknown bits.
-#[derive(Clone, Copy, Debug, PartialEq, Eq)]
+#[derive(Clone, Copy, PartialEq, Eq)]
 struct Seen {
     lines: Lines,
     unknown: Lines,
@@ -133,11 +139,22 @@ impl Seen {
     }
 }
 
+/// Whether the sample is that of a row.
+fn is_as_said(sample: &Sample, sees: &Sees) -> bool {
+    Seen::of_sample(sample) == Seen::of_row(*sees)
+}
+
 /// Whether the samples are those of a row.
 fn are_as_said(samples: &[Sample], expected: &[Sees]) -> bool {
-    samples.len() == expected.len()
-        && samples.iter().zip(expected.iter()).all(|(sample, sees)| Seen::of_sample(sample)
-            == Seen::of_row(*sees))
+    if samples.len() != expected.len() {
+        return false;
+    }
+    for (sample, sees) in samples.iter().zip(expected.iter()) {
+        if !is_as_said(sample, sees) {
+            return false;
+        }
+    }
+    true
 }
 
 /// The texts one behind the other.
@@ -162,7 +179,7 @@ fn start_len(alloc: Global, start: Start) -> Result<u64, AllocError> {
 }
 
 /// How a text is handed to the reader.
-#[derive(Clone, Copy, Debug)]
+#[derive(Clone, Copy)]
 enum Way {
     /// At once.
     Whole,
@@ -211,87 +228,111 @@ fn read(alloc: Global, bytes: &[u8], way: Way) -> Result<Said, VcdStop> {
     }
 }
 
-/// The refusal of a text, if it is refused.
-fn stop_of(alloc: Global, bytes: &[u8], way: Way) -> Option<VcdStop> {
-    match read(alloc, bytes, way) {
-        Ok(_) => None,
-        Err(stop) => Some(stop),
+/// The refusal that names this fault.
+fn bad(place: u64, cause: VcdCause) -> VcdStop {
+    VcdStop::Bad(VcdFault { place, cause })
+}
+
+/// What is wanted of a text.
+#[derive(Clone, Copy)]
+enum Wanted<'a> {
+    /// This refusal.
+    Stop(VcdStop),
+    /// The samples of a row.
+    Sees(&'a [Sees]),
+    /// Exactly these samples.
+    Samples(&'a [Sample]),
+    /// These marks.
+    Marked(Marks),
+}
+
+/// Whether what is said is what is wanted.
+fn is_wanted(said: &Result<Said, VcdStop>, wanted: Wanted<'_>) -> bool {
+    match (said, wanted) {
+        (Err(stop), Wanted::Stop(wanted)) => *stop == wanted,
+        (Ok((_, samples)), Wanted::Sees(expected)) => are_as_said(samples, expected),
+        (Ok((_, samples)), Wanted::Samples(expected)) => samples.as_slice() == expected,
+        (Ok((told, _)), Wanted::Marked(marks)) => *told == Some(marks),
+        _ => false,
     }
 }
 
-/// The refusal that names this fault.
-fn bad(place: u64, cause: VcdCause) -> Option<VcdStop> {
-    Some(VcdStop::Bad(VcdFault { place, cause }))
+/// Whether a text says what is wanted, in whatever pieces it comes.
+fn says(alloc: Global, bytes: &[u8], wanted: Wanted<'_>) -> bool {
+    for way in WAYS.iter() {
+        if !is_wanted(&read(alloc, bytes, *way), wanted) {
+            return false;
+        }
+    }
+    true
 }
 
 /// Whether a text has this first fault, in whatever pieces it comes.
 fn fails(alloc: Global, bytes: &[u8], place: u64, cause: VcdCause) -> bool {
-    WAYS.iter()
-        .all(|way| stop_of(alloc, bytes, *way) == bad(place, cause))
+    says(alloc, bytes, Wanted::Stop(bad(place, cause)))
 }
 
 /// Whether a text is read, and gives these samples, in whatever pieces it comes.
 fn reads(alloc: Global, bytes: &[u8], expected: &[Sees]) -> bool {
-    WAYS.iter().all(|way| match read(alloc, bytes, *way) {
-        Ok((_, samples)) => are_as_said(&samples, expected),
-        Err(_) => false,
-    })
+    says(alloc, bytes, Wanted::Sees(expected))
 }
 
 /// Whether a text is read, and gives exactly these samples, in whatever pieces it comes.
 fn gives(alloc: Global, bytes: &[u8], samples: &[Sample]) -> bool {
-    WAYS.iter().all(|way| match read(alloc, bytes, *way) {
-        Ok((_, given)) => given.as_slice() == samples,
-        Err(_) => false,
-    })
+    says(alloc, bytes, Wanted::Samples(samples))
 }
 
 /// Whether a text is read, and has these marks, in whatever pieces it comes.
 fn is_marked(alloc: Global, bytes: &[u8], marks: Marks) -> bool {
-    WAYS.iter().all(|way| match read(alloc, bytes, *way) {
-        Ok((told, _)) => told == Some(marks),
-        Err(_) => false,
-    })
+    says(alloc, bytes, Wanted::Marked(marks))
+}
+
+/// Whether the text of the row has its fault.
+fn has_fault(alloc: Global, row: &Bad) -> Result<bool, AllocError> {
+    let &(start, text, place, cause) = row;
+    let bytes = text_of(alloc, start, text)?;
+    let place = start_len(alloc, start)?.wrapping_add(place);
+    Ok(fails(alloc, &bytes, place, cause))
+}
+
+/// Whether the text of the row gives its samples.
+fn has_samples(alloc: Global, row: &Good) -> Result<bool, AllocError> {
+    let &(start, text, expected) = row;
+    let bytes = text_of(alloc, start, text)?;
+    Ok(reads(alloc, &bytes, expected))
 }
 
 #[test]
 fn each_fault(rt: HostRuntime) -> Result<(), Fail> {
-    for (start, text, place, cause) in BAD.iter() {
-        let bytes = text_of(rt.alloc(), *start, text)?;
-        let place = start_len(rt.alloc(), *start)?.wrapping_add(*place);
-        assert!(rt;
-            fails(rt.alloc(), &bytes, place, *cause),
-            "{start:?} {text:?}"
-        );
+    for (at, row) in BAD.iter().enumerate() {
+        assert!(rt; has_fault(rt.alloc(), row)?, "row {at}");
     }
     Ok(())
 }
 
 #[test]
 fn each_text_that_is_read(rt: HostRuntime) -> Result<(), Fail> {
-    for (start, text, expected) in GOOD.iter() {
-        let bytes = text_of(rt.alloc(), *start, text)?;
-        assert!(rt; reads(rt.alloc(), &bytes, expected), "{start:?} {text:?}");
+    for (at, row) in GOOD.iter().enumerate() {
+        assert!(rt; has_samples(rt.alloc(), row)?, "row {at}");
     }
     Ok(())
 }
 
 #[test]
 fn each_text_with_parity_lines(rt: HostRuntime) -> Result<(), Fail> {
-    for (start, text, place, cause) in BAD_PARITY.iter() {
-        let bytes = text_of(rt.alloc(), *start, text)?;
-        let place = start_len(rt.alloc(), *start)?.wrapping_add(*place);
-        assert!(rt; fails(rt.alloc(), &bytes, place, *cause), "{text:?}");
+    for (at, row) in BAD_PARITY.iter().enumerate() {
+        assert!(rt; has_fault(rt.alloc(), row)?, "row {at} of the faults");
     }
-    for (start, text, expected) in GOOD_PARITY.iter() {
-        let bytes = text_of(rt.alloc(), *start, text)?;
-        assert!(rt; reads(rt.alloc(), &bytes, expected), "{text:?}");
+    for (at, row) in GOOD_PARITY.iter().enumerate() {
+        assert!(rt; has_samples(rt.alloc(), row)?, "row {at}");
     }
     Ok(())
 }
 
 /// Texts behind a whole written dump, and how far into them the fault is.
-const FIRST_FAULTS: [(&str, u64, VcdCause); 7] = [
+type Behind = (&'static str, u64, VcdCause);
+
+const FIRST_FAULTS: [Behind; 7] = [
     ("2!\n", 0, VcdCause::Token),
     ("0~\n", 0, VcdCause::Code),
     ("b01 !\n", 0, VcdCause::Width),
@@ -306,12 +347,18 @@ fn written_dump_of_no_samples(rt: HostRuntime) {
     assert!(rt; reads(rt.alloc(), NO_SAMPLES.as_bytes(), &[]));
 }
 
+/// Whether the text behind the dump has its fault.
+fn fails_behind(alloc: Global, row: &Behind) -> Result<bool, AllocError> {
+    let &(text, place, cause) = row;
+    let bytes = joined(alloc, &[NO_SAMPLES, text])?;
+    let place = (NO_SAMPLES.len() as u64).wrapping_add(place);
+    Ok(fails(alloc, &bytes, place, cause))
+}
+
 #[test]
 fn first_faults_behind_a_written_dump(rt: HostRuntime) -> Result<(), Fail> {
-    for (text, place, cause) in FIRST_FAULTS.iter() {
-        let bytes = joined(rt.alloc(), &[NO_SAMPLES, text])?;
-        let place = (NO_SAMPLES.len() as u64).wrapping_add(*place);
-        assert!(rt; fails(rt.alloc(), &bytes, place, *cause), "{text:?}");
+    for (at, row) in FIRST_FAULTS.iter().enumerate() {
+        assert!(rt; fails_behind(rt.alloc(), row)?, "row {at}");
     }
     Ok(())
 }
@@ -322,8 +369,10 @@ fn declarations_cut_or_missing(rt: HostRuntime) {
     assert!(rt; fails(rt.alloc(), b"$enddefinitions $end", 0, VcdCause::Missing(0)));
 }
 
-/// The ends of the simulator's dump, and the samples that it then has.
-const SIMULATOR_ENDS: [(&str, [Sees; 2]); 3] = [
+/// An end of the simulator's dump, and the samples that it then has.
+type SimulatorEnd = (&'static str, [Sees; 2]);
+
+const SIMULATOR_ENDS: [SimulatorEnd; 3] = [
     (
         SIMULATOR_RISES,
         [
@@ -354,11 +403,22 @@ const SIMULATOR_ENDS: [(&str, [Sees; 2]); 3] = [
     ),
 ];
 
+/// The simulator's dump with this end.
+fn simulated(alloc: Global, rises: &str) -> Result<Vec<u8>, AllocError> {
+    joined(alloc, &[SIMULATOR_HEAD, SIMULATOR_START, rises])
+}
+
+/// Whether the simulator's dump has those samples.
+fn is_simulated(alloc: Global, row: &SimulatorEnd) -> Result<bool, AllocError> {
+    let (rises, expected) = row;
+    let bytes = simulated(alloc, rises)?;
+    Ok(reads(alloc, &bytes, expected))
+}
+
 #[test]
 fn simulator_dump(rt: HostRuntime) -> Result<(), Fail> {
-    for (rises, expected) in SIMULATOR_ENDS.iter() {
-        let bytes = joined(rt.alloc(), &[SIMULATOR_HEAD, SIMULATOR_START, rises])?;
-        assert!(rt; reads(rt.alloc(), &bytes, expected), "{rises:?}");
+    for (at, row) in SIMULATOR_ENDS.iter().enumerate() {
+        assert!(rt; is_simulated(rt.alloc(), row)?, "row {at}");
     }
     Ok(())
 }
@@ -395,7 +455,9 @@ fn parity_of_a_load(rt: HostRuntime) -> Result<(), Fail> {
 }
 
 /// Declarations behind those of the needed lines, and whether they are of the parity of the address and of the request.
-const MARKED: [(&str, bool, bool); 7] = [
+type Declared = (&'static str, bool, bool);
+
+const MARKED: [Declared; 7] = [
     ("", false, false),
     ("$var wire 2 5 AP_n [1:0] $end ", true, false),
     ("$var wire 1 6 RP_n $end ", false, true),
@@ -413,18 +475,27 @@ const MARKED: [(&str, bool, bool); 7] = [
     ("$comment $var wire 2 5 AP_n $end ", false, false),
 ];
 
+/// Whether the declarations have those marks.
+fn is_declared(alloc: Global, row: &Declared) -> Result<bool, AllocError> {
+    let &(lines, ap, rp) = row;
+    let bytes = joined(alloc, &[LINES, lines, VALUES])?;
+    Ok(is_marked(alloc, &bytes, Marks { ap, rp }))
+}
+
 #[test]
 fn marks_of_each_dump(rt: HostRuntime) -> Result<(), Fail> {
-    for (lines, ap, rp) in MARKED.iter() {
-        let bytes = joined(rt.alloc(), &[LINES, lines, VALUES])?;
-        let marks = Marks { ap: *ap, rp: *rp };
-        assert!(rt; is_marked(rt.alloc(), &bytes, marks), "{lines:?}");
+    for (at, row) in MARKED.iter().enumerate() {
+        assert!(rt; is_declared(rt.alloc(), row)?, "row {at}");
     }
+    Ok(())
+}
+
+#[test]
+fn marks_of_each_dump_that_is_whole(rt: HostRuntime) {
     assert!(rt; is_marked(rt.alloc(), NO_SAMPLES.as_bytes(), UNMARKED));
     assert!(rt; is_marked(rt.alloc(), FALLING_VERILATOR.as_bytes(), UNMARKED));
     let both = Marks { ap: true, rp: true };
     assert!(rt; is_marked(rt.alloc(), PARITY_OF_A_LOAD.as_bytes(), both));
-    Ok(())
 }
 
 /// The marks that are told behind the first so many bytes of a text, and behind the rest, whether or not that is refused.
@@ -442,23 +513,33 @@ fn told_twice(
     Ok((told, reader.marks()))
 }
 
+/// The marks of both parities.
+const BOTH: Option<Marks> = Some(Marks { ap: true, rp: true });
+
+/// What stands behind the end of the declarations, how many bytes behind that end are fed first, and the marks that are told
+/// behind them and behind the rest.
+type Twice = (&'static str, usize, (Option<Marks>, Option<Marks>));
+
+const TWICE: [Twice; 4] = [
+    ("\n#0 ", 0, (None, BOTH)),
+    ("\n#0 ", 1, (BOTH, BOTH)),
+    ("\n0~ ", 0, (None, BOTH)),
+    ("\n0~ ", 1, (BOTH, BOTH)),
+];
+
+/// Whether the marks are told so.
+fn is_told_twice(alloc: Global, row: &Twice) -> Result<bool, AllocError> {
+    let &(rest, first, told) = row;
+    let len = joined(alloc, &[LINES, PARITY_LINES, "$enddefinitions $end"])?.len();
+    let bytes = joined(alloc, &[LINES, PARITY_LINES, "$enddefinitions $end", rest])?;
+    Ok(told_twice(alloc, &bytes, len.wrapping_add(first)) == Ok(told))
+}
+
 /// The marks are told once the end of the declarations counts, also where the piece that has it is refused.
 #[test]
 fn marks_come_with_the_end_of_the_declarations(rt: HostRuntime) -> Result<(), Fail> {
-    let both = Some(Marks { ap: true, rp: true });
-    let len = joined(rt.alloc(), &[LINES, PARITY_LINES, "$enddefinitions $end"])?.len();
-    let rows = [
-        ("\n#0 ", len, (None, both)),
-        ("\n#0 ", len.wrapping_add(1), (both, both)),
-        ("\n0~ ", len, (None, both)),
-        ("\n0~ ", len.wrapping_add(1), (both, both)),
-    ];
-    for (rest, first, told) in rows.iter() {
-        let bytes = joined(
-            rt.alloc(),
-            &[LINES, PARITY_LINES, "$enddefinitions $end", rest],
-        )?;
-        assert_eq!(rt; told_twice(rt.alloc(), &bytes, *first), Ok(*told));
+    for (at, row) in TWICE.iter().enumerate() {
+        assert!(rt; is_told_twice(rt.alloc(), row)?, "row {at}");
     }
     Ok(())
 }
@@ -481,58 +562,73 @@ fn told_in_pieces(alloc: Global, bytes: &[u8], limit: u32, size: usize) -> Resul
     Ok((refusal, reader.marks()))
 }
 
+/// What stands before, the text, at most how many samples, what it is refused with, and the marks that are told; the place of a
+/// fault is so far behind the end of what stands before.
+type Refused = (
+    Start,
+    &'static str,
+    u32,
+    Option<(u64, VcdCause)>,
+    Option<Marks>,
+);
+
+const REFUSED: [Refused; 6] = [
+    (
+        Start::Values,
+        " #0 hello ",
+        u32::MAX,
+        Some((4, VcdCause::Token)),
+        Some(UNMARKED),
+    ),
+    (
+        Start::Parity,
+        "#1 0~ 1! #2 ",
+        u32::MAX,
+        Some((3, VcdCause::Code)),
+        BOTH,
+    ),
+    (Start::Parity, "#1 1! #2 hello ", 0, None, BOTH),
+    (
+        Start::Lines,
+        "hello $enddefinitions ",
+        u32::MAX,
+        Some((0, VcdCause::Header)),
+        None,
+    ),
+    (
+        Start::Lines,
+        "hello $enddefinitions $end ",
+        u32::MAX,
+        Some((0, VcdCause::Header)),
+        Some(UNMARKED),
+    ),
+    (
+        Start::Whole,
+        "$enddefinitions $end #0 ",
+        u32::MAX,
+        Some((0, VcdCause::Missing(0))),
+        Some(UNMARKED),
+    ),
+];
+
+/// Whether the text in pieces of so many bytes is refused so, too long where no fault is named, and its marks are told.
+fn is_refused(alloc: Global, row: &Refused, size: usize) -> Result<bool, Fail> {
+    let &(start, text, limit, fault, marks) = row;
+    let bytes = text_of(alloc, start, text)?;
+    let before = start_len(alloc, start)?;
+    let stop = match fault {
+        Some((place, cause)) => bad(before.wrapping_add(place), cause),
+        None => VcdStop::TooLong,
+    };
+    Ok(told_in_pieces(alloc, &bytes, limit, size)? == (Some(stop), marks))
+}
+
 /// A text that is refused has its marks too, from the `$end` of its `$enddefinitions` on, in whatever pieces it comes.
 #[test]
 fn marks_of_refused_texts(rt: HostRuntime) -> Result<(), Fail> {
-    let neither = Some(UNMARKED);
-    let both = Some(Marks { ap: true, rp: true });
-    let too_long = Some(VcdStop::TooLong);
-    let lines = start_len(rt.alloc(), Start::Lines)?;
-    let token = start_len(rt.alloc(), Start::Values)?.wrapping_add(4);
-    let code = start_len(rt.alloc(), Start::Parity)?.wrapping_add(3);
-    let header = bad(lines, VcdCause::Header);
-    let missing = bad(0, VcdCause::Missing(0));
-    let rows = [
-        (
-            Start::Values,
-            " #0 hello ",
-            u32::MAX,
-            (bad(token, VcdCause::Token), neither),
-        ),
-        (
-            Start::Parity,
-            "#1 0~ 1! #2 ",
-            u32::MAX,
-            (bad(code, VcdCause::Code), both),
-        ),
-        (Start::Parity, "#1 1! #2 hello ", 0, (too_long, both)),
-        (
-            Start::Lines,
-            "hello $enddefinitions ",
-            u32::MAX,
-            (header, None),
-        ),
-        (
-            Start::Lines,
-            "hello $enddefinitions $end ",
-            u32::MAX,
-            (header, neither),
-        ),
-        (
-            Start::Whole,
-            "$enddefinitions $end #0 ",
-            u32::MAX,
-            (missing, neither),
-        ),
-    ];
-    for (start, text, limit, told) in rows.iter() {
-        let bytes = text_of(rt.alloc(), *start, text)?;
+    for (at, row) in REFUSED.iter().enumerate() {
         for size in [1, 7, usize::MAX].iter() {
-            assert_eq!(rt;
-                told_in_pieces(rt.alloc(), &bytes, *limit, *size)?,
-                *told,
-                "{text:?}"
-            );
+            assert!(rt; is_refused(rt.alloc(), row, *size)?, "row {at}");
         }
     }
     Ok(())
@@ -541,38 +637,34 @@ fn marks_of_refused_texts(rt: HostRuntime) -> Result<(), Fail> {
 /// Of two samples a reader of at most one gives the first, and then refuses for good.
 #[test]
 fn reader_of_one_sample_refuses_a_second(rt: HostRuntime) -> Result<(), Fail> {
-    let bytes = joined(
-        rt.alloc(),
-        &[SIMULATOR_HEAD, SIMULATOR_START, SIMULATOR_RISES],
-    )?;
+    let bytes = simulated(rt.alloc(), SIMULATOR_RISES)?;
     let mut reader = Reader::up_to(rt.alloc(), 1)?;
     let mut samples = Vec::new(rt.alloc());
-    assert_eq!(rt; reader.feed(&bytes, &mut samples), Ok(()));
-    assert_eq!(rt; samples.len(), 1);
+    assert!(rt; reader.feed(&bytes, &mut samples) == Ok(()));
+    assert!(rt; samples.len() == 1);
     let Err(stop) = reader.finish(&mut samples) else {
         panic!(rt; "a second sample was let through");
     };
-    assert_eq!(rt; stop, VcdStop::TooLong);
-    assert_eq!(rt; reader.feed(b"0~ ", &mut samples), Err(VcdStop::TooLong));
-    assert_eq!(rt; samples.len(), 1);
+    assert!(rt; stop == VcdStop::TooLong);
+    assert!(rt; reader.feed(b"0~ ", &mut samples) == Err(VcdStop::TooLong));
+    assert!(rt; samples.len() == 1);
     Ok(())
 }
 
 /// A sample comes once a greater time stamp counts, and that is with the white space behind it; so does a fault.
 #[test]
 fn samples_come_with_the_next_time(rt: HostRuntime) -> Result<(), Fail> {
-    let start = [SIMULATOR_HEAD, SIMULATOR_START, "#500 1a 0b #500 #1000"];
-    let bytes = joined(rt.alloc(), &start)?;
+    let bytes = simulated(rt.alloc(), "#500 1a 0b #500 #1000")?;
     let mut reader = Reader::new(rt.alloc())?;
     let mut samples = Vec::new(rt.alloc());
-    assert_eq!(rt; reader.feed(&bytes, &mut samples), Ok(()));
-    assert_eq!(rt; samples.len(), 0);
-    assert_eq!(rt; reader.feed(b" 0a #1500 1a 0~", &mut samples), Ok(()));
-    assert_eq!(rt; samples.len(), 1);
+    assert!(rt; reader.feed(&bytes, &mut samples) == Ok(()));
+    assert!(rt; samples.len() == 0);
+    assert!(rt; reader.feed(b" 0a #1500 1a 0~", &mut samples) == Ok(()));
+    assert!(rt; samples.len() == 1);
     let stop = reader.finish(&mut samples);
     let place = (bytes.len() as u64).wrapping_add(13);
-    assert_eq!(rt; stop.err(), bad(place, VcdCause::Code));
-    assert_eq!(rt; samples.len(), 1);
+    assert!(rt; stop == Err(bad(place, VcdCause::Code)));
+    assert!(rt; samples.len() == 1);
     Ok(())
 }
 
@@ -587,16 +679,24 @@ fn in_two(alloc: Global, bytes: &[u8], first: usize) -> Result<Vec<Sample>, VcdS
     Ok(samples)
 }
 
+/// Whether a dump that is cut in two behind the first so many bytes has these samples.
+fn is_same_in_two(alloc: Global, bytes: &[u8], first: usize, expected: &[Sees]) -> bool {
+    match in_two(alloc, bytes, first) {
+        Ok(samples) => are_as_said(&samples, expected),
+        Err(_) => false,
+    }
+}
+
 /// Wherever a dump is cut in two, it is the same trace.
 #[test]
 fn cut_in_two_at_every_byte(rt: HostRuntime) -> Result<(), Fail> {
     for (rises, expected) in SIMULATOR_ENDS.iter() {
-        let bytes = joined(rt.alloc(), &[SIMULATOR_HEAD, SIMULATOR_START, rises])?;
+        let bytes = simulated(rt.alloc(), rises)?;
         for first in 0..bytes.len() {
-            match in_two(rt.alloc(), &bytes, first) {
-                Ok(samples) => assert!(rt; are_as_said(&samples, expected), "{first}"),
-                Err(_) => assert!(rt; false, "{first}"),
-            }
+            assert!(rt;
+                is_same_in_two(rt.alloc(), &bytes, first, expected),
+                "{first} of {rises}"
+            );
         }
     }
     Ok(())
@@ -607,7 +707,10 @@ fn cut_in_two_at_every_byte(rt: HostRuntime) -> Result<(), Fail> {
 fn declarations_cut_at_every_byte(rt: HostRuntime) {
     let head = SIMULATOR_HEAD.as_bytes();
     for len in 0..head.len().saturating_sub(1) {
-        assert!(rt; fails(rt.alloc(), &head[..len], len as u64, VcdCause::Cut));
+        assert!(rt;
+            fails(rt.alloc(), &head[..len], len as u64, VcdCause::Cut),
+            "{len}"
+        );
     }
     assert!(rt; reads(rt.alloc(), head, &[]));
 }
@@ -631,7 +734,9 @@ fn with_token(
 
 /// What stands before a token and how it begins, what stands behind it, and how far behind the declarations its place is;
 /// of 70,000 bytes it is read, and of one more it is a fault.
-const LONG_TOKENS: [(&str, &str, &str, u64); 5] = [
+type LongToken = (&'static str, &'static str, &'static str, u64);
+
+const LONG_TOKENS: [LongToken; 5] = [
     ("$var wire 1 q ", "a", " $end $enddefinitions $end\n", 14),
     ("$var wire 1 ", "q", " a $end $enddefinitions $end\n", 12),
     ("$var wire 1 q a ", "[", " $end $enddefinitions $end\n", 16),
@@ -639,34 +744,40 @@ const LONG_TOKENS: [(&str, &str, &str, u64); 5] = [
     ("$var wire 9 q q $end $enddefinitions $end\n", "b", " q", 42),
 ];
 
+/// Whether the longest token is read, and one that is a byte longer is refused.
+fn is_longest(alloc: Global, row: &LongToken) -> Result<bool, AllocError> {
+    let &(before, first, after, place) = row;
+    let longest = with_token(alloc, &[LINES, before], first, 70_000, after)?;
+    let too_long = with_token(alloc, &[LINES, before], first, 70_001, after)?;
+    let place = (LINES.len() as u64).wrapping_add(place);
+    Ok(reads(alloc, &longest, &[]) && fails(alloc, &too_long, place, VcdCause::Token))
+}
+
 #[test]
 fn long_tokens(rt: HostRuntime) -> Result<(), Fail> {
-    let head = LINES.len() as u64;
-    for (before, first, after, place) in LONG_TOKENS.iter() {
-        let longest = with_token(rt.alloc(), &[LINES, before], first, 70_000, after)?;
-        assert!(rt; reads(rt.alloc(), &longest, &[]), "{before:?} {first:?}");
-        let too_long = with_token(rt.alloc(), &[LINES, before], first, 70_001, after)?;
-        let place = head.wrapping_add(*place);
-        let is_refused = fails(rt.alloc(), &too_long, place, VcdCause::Token);
-        assert!(rt; is_refused, "{before:?} {first:?}");
+    for (at, row) in LONG_TOKENS.iter().enumerate() {
+        assert!(rt; is_longest(rt.alloc(), row)?, "row {at}");
     }
     Ok(())
+}
+
+/// Whether a token of any length is read past in the section.
+fn is_read_past(alloc: Global, section: &str) -> Result<bool, AllocError> {
+    let after = " $end $enddefinitions $end\n";
+    let bytes = with_token(alloc, &[LINES, section], "x", 70_001, after)?;
+    Ok(reads(alloc, &bytes, &[]))
 }
 
 /// A token of any length is read past in a section that is read past.
 #[test]
 fn long_tokens_in_sections(rt: HostRuntime) -> Result<(), Fail> {
-    let sections = ["$comment ", "$enddefinitions "];
-    for section in sections.iter() {
-        let after = " $end $enddefinitions $end\n";
-        let bytes = with_token(rt.alloc(), &[LINES, section], "x", 70_001, after)?;
-        assert!(rt; reads(rt.alloc(), &bytes, &[]), "{section:?}");
-    }
+    assert!(rt; is_read_past(rt.alloc(), "$comment ")?);
+    assert!(rt; is_read_past(rt.alloc(), "$enddefinitions ")?);
     Ok(())
 }
 
 /// Tokens of 70,001 bytes: what stands before the token and how it begins, what stands behind, and the token's place.
-const FIRST_OF_ALL: [(&str, &str, &str, u64); 5] = [
+const FIRST_OF_ALL: [LongToken; 5] = [
     ("", "x", "", 0),
     ("$var ", "x", "", 5),
     ("$var ", "x", " $end", 5),
@@ -674,14 +785,24 @@ const FIRST_OF_ALL: [(&str, &str, &str, u64); 5] = [
     ("$var wire 2 ! BCLK ", "x", " $end", 19),
 ];
 
+/// Whether the token is refused.
+fn comes_first(alloc: Global, row: &LongToken) -> Result<bool, AllocError> {
+    let &(before, first, after, place) = row;
+    let bytes = with_token(alloc, &[before], first, 70_001, after)?;
+    Ok(fails(alloc, &bytes, place, VcdCause::Token))
+}
+
 /// A token that is too long is that before it is anything else, and where it ends does not matter.
 #[test]
 fn long_tokens_come_first(rt: HostRuntime) -> Result<(), Fail> {
-    for (before, first, after, place) in FIRST_OF_ALL.iter() {
-        let bytes = with_token(rt.alloc(), &[before], first, 70_001, after)?;
-        let is_refused = fails(rt.alloc(), &bytes, *place, VcdCause::Token);
-        assert!(rt; is_refused, "{before:?} {after:?}");
+    for (at, row) in FIRST_OF_ALL.iter().enumerate() {
+        assert!(rt; comes_first(rt.alloc(), row)?, "row {at}");
     }
+    Ok(())
+}
+
+#[test]
+fn long_tokens_come_first_as_codes(rt: HostRuntime) -> Result<(), Fail> {
     let values = [LINES, VALUES, "b1 "];
     let place = joined(rt.alloc(), &values)?.len() as u64;
     let code = with_token(rt.alloc(), &values, "!", 70_001, "")?;

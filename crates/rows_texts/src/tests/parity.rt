@@ -1,10 +1,10 @@
-use super::{Mark, Rest, Sees, Start};
+use super::{Bad, Good, Mark, Rest, Start};
 use fsb_signal::Lines;
 use vcd_read::VcdCause;
 
 /// Texts with parity lines that have a first fault: what stands before, the text, how far into the text the fault's place is,
 /// and its cause.
-pub(crate) static BAD_PARITY: [(Start, &'static str, u64, VcdCause); 4] = [
+pub(crate) static BAD_PARITY: [Bad; 4] = [
     (
         Start::Lines,
         "$var wire 1 5 AP_n $end $enddefinitions $end",
@@ -22,7 +22,7 @@ pub(crate) static BAD_PARITY: [(Start, &'static str, u64, VcdCause); 4] = [
 ];
 
 /// Texts with parity lines that are read: what stands before, the text, and its samples.
-pub(crate) static GOOD_PARITY: [(Start, &'static str, &'static [Sees]); 8] = [
+pub(crate) static GOOD_PARITY: [Good; 8] = [
     (
         Start::Lines,
         "$var wire 2 5 AP_n $end $var wire 1 6 RP_n $end $enddefinitions $end 0! #5 1!",

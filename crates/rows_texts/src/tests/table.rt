@@ -1,9 +1,9 @@
-use super::{Mark, Rest, Sees, Start};
+use super::{Bad, Good, Mark, Rest, Start};
 use fsb_signal::Lines;
 use vcd_read::VcdCause;
 
 /// Texts with a first fault: what stands before, the text, how far into the text the fault's place is, and its cause.
-pub(crate) static BAD: [(Start, &'static str, u64, VcdCause); 143] = [
+pub(crate) static BAD: [Bad; 143] = [
     // before the end of the declarations: nothing, white space alone, and words outside a section
     (Start::Whole, "", 0, VcdCause::Cut),
     (Start::Whole, " \t\r\n\x0b\x0c", 6, VcdCause::Cut),
@@ -299,7 +299,7 @@ pub(crate) static BAD: [(Start, &'static str, u64, VcdCause); 143] = [
 ];
 
 /// Texts that are read: what stands before, the text, and its samples.
-pub(crate) static GOOD: [(Start, &'static str, &'static [Sees]); 114] = [
+pub(crate) static GOOD: [Good; 114] = [
     // sections that are read past
     (Start::Lines, "$enddefinitions $end", &[]),
     (
