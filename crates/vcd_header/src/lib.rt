@@ -1,0 +1,22 @@
+//! The header of a dump: its declarations, each with the scopes that it stands in, and the sections
+//! beside them, read in pieces of any size.
+//!
+//! A `HeaderReader` reads up to the end of the header and tells what it has gathered, or the first
+//! fault. What that is, is said by the definitions of `vcd_way` for the way that only gathers
+//! (`specs/Gathering.antt`). The values after the header are read on with the cutter that it leaves.
+#![tactic(auto)]
+
+pub use declared::{Declared, Section};
+pub use reader::HeaderReader;
+pub use rules::HeaderRules;
+pub use stop::HeaderStop;
+pub use vcd_grammar::{VcdCause, VcdFault};
+
+mod copies;
+mod declared;
+mod gathered;
+mod number;
+mod reader;
+mod rules;
+mod stop;
+mod words;
