@@ -35,7 +35,7 @@ $enddefinitions of all $end ";
 
 /// What a tool put before the first `$`.
 pub(crate) const PREFACE: &str = "vsim: loading design
-Info: 3 scopes $var
+Info: 3 scopes, 0 errors
 $var wire 1 ! clk $end $enddefinitions $end\n";
 
 /// What a strict reader lets pass, and what p6scope does.
@@ -43,6 +43,7 @@ pub(crate) const STRICT: HeaderRules = HeaderRules {
     widest: 1_000_000,
     skips_preface: false,
 };
+
 pub(crate) const WIDE: HeaderRules = HeaderRules {
     widest: 4_294_967_295,
     skips_preface: true,

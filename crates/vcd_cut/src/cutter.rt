@@ -153,7 +153,7 @@ impl Cutter {
         }
         Some(CutToken {
             place: self.at,
-            line: 1 + self.breaks,
+            line: self.line(),
             source: Source::Given(bytes.len()),
         })
     }
@@ -193,9 +193,17 @@ impl Cutter {
     {
         CutToken {
             place: self.at - self.run.len() as u64,
-            line: 1 + self.breaks,
+            line: self.line(),
             source: Source::Kept,
         }
+    }
+
+    /// The number of the text line that stands open.
+    fn line(&self) -> u64
+        requires { self.now.breaks + 1 < 2 ^ 64 }
+        ensures { result ≡ 1 + self.now.breaks }
+    {
+        1 + self.breaks
     }
 
     /// Appends bytes to the run, up to one more than a token may have.

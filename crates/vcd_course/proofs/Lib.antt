@@ -1,0 +1,6 @@
+mod Bits
+mod DigitFacts
+mod TappedFacts
+mod SettleFacts
+mod RowFacts
+mod Opening
