@@ -60,7 +60,7 @@ over_told m c stamp now block (Gets change ∷ hs) h =
 over_told m c stamp now block (Switches switch lines ∷ hs) h =
     let ps = pieces_from stamp [] hs in
     let rest = pieces_some stamp [] hs in
-    let later = record (course_after c now) { values = unknown_in now lines } in
+    let later : Course = record (course_after c now) { values = unknown_in now lines } in
     ap (events_from m c) (over-first (Changes stamp block) (Switched switch stamp lines ∷ ps) (omega (arith, rest))
     ∙ ap (λ x. Changes stamp block ∷ x) (over-first (Switched switch stamp lines) ps rest))
     ∙ (λ i. sample_in_block m c stamp (sym h i) ++ switch_event switch stamp
@@ -79,7 +79,7 @@ pub all_told : (m : ValueRules) (c : Course) (stamp : Option Stamp) (now : Value
 all_told m c stamp now block [] h =
     (λ i. sample_in_block m c stamp (sym h i) ++ []) ∙ append-nil (sample_in_block m c stamp now)
 all_told m c stamp now block (Comes next ∷ hs) h =
-    let o = record { course = course_after c now; stamp = Some next; now = now } in
+    let o : OpenPiece = record { course = course_after c now; stamp = Some next; now = now } in
     let ps = pieces_from (Some next) [] hs in
     (λ i. sample_in_block m c stamp (sym h i) ++ events_from m (course_after c (sym h i)) ps)
     ∙ ap (λ es. sample_in_block m c stamp now ++ es) (all_told m (course_after c now) (Some next) now [] hs refl)
@@ -88,8 +88,8 @@ all_told m c stamp now block (Gets change ∷ hs) h =
     all_told m c stamp (set_taps now change.taps change.digits) (block ++ change ∷ []) hs
     (ap (λ v. set_taps v change.taps change.digits) h ∙ sym (values_after-push c.values block change))
 all_told m c stamp now block (Switches switch lines ∷ hs) h =
-    let later = record (course_after c now) { values = unknown_in now lines } in
-    let o = record { course = later; stamp = stamp; now = unknown_in now lines } in
+    let later : Course = record (course_after c now) { values = unknown_in now lines } in
+    let o : OpenPiece = record { course = later; stamp = stamp; now = unknown_in now lines } in
     let ps = pieces_from stamp [] hs in
     let here = sample_in_block m c stamp now in
     (λ i. sample_in_block m c stamp (sym h i) ++ switch_event switch stamp

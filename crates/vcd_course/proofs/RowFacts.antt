@@ -65,3 +65,9 @@ clock_at (row ∷ rows) h = clock_digit row
 pub first_rows : values_in table (replicate 22 (replicate 64 49)) ≡ at_first
 unfolding values_in
 first_rows = refl
+
+-- the digits of a line, by its place
+pub digits_get : (values : Values) (n : ℕ) → digits_at values n ≡ get_or values n []
+digits_get [] n = refl
+digits_get (v ∷ values) zero = refl
+digits_get (v ∷ values) (suc n) = digits_get values n

@@ -9,7 +9,7 @@ use Rattle.vcd_course.specs.declared.event.Stamp.{Stamp}
 use Rattle.vcd_course.specs.declared.event.Told.{Told}
 use Rattle.vcd_course.specs.declared.event.Told.TheVariants as told
 use Rattle.vcd_course.specs.declared.event.CourseEvent.{CourseEvent}
-use Rattle.vcd_course.specs.declared.rows.Rows.{Rows}
+use Rattle.vcd_course.specs.declared.lines.Rows.{Rows}
 use Rattle.vcd_course.specs.declared.course.Course.{Course}
 use Rattle.vcd_course.specs.Opening.{OpenPiece}
 

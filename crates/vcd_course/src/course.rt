@@ -10,7 +10,7 @@ ghost use Rattle.vcd_course.specs.Told.{event_list, event_told, stamp_told, last
 ghost use Rattle.vcd_course.specs.Opening.{first_open, next_open, after_happening, ended_in, told_at, sample_by};
 
 use crate::event::{CourseEvent, Stamp, Told};
-use crate::rows::Rows;
+use crate::lines::Rows;
 use vcd_way::{Edge, Tap};
 
 /// When there is a sample.

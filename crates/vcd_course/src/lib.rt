@@ -12,6 +12,7 @@ mod course;
 mod digits;
 mod event;
 mod level;
+mod lines;
 mod rows;
 mod sample;
 mod settle;

@@ -1,28 +1,21 @@
-ghost use Rattle.std.specs.Prelude.{◌≡◌, ◌<◌, ◌≤◌, length, map, slice_set, true, false};
+ghost use Rattle.std.specs.Prelude.{◌≡◌, ◌<◌, ◌≤◌, length, take, map, slice_set, true, false};
 ghost use Rattle.std.specs.List.{list_all};
 ghost use Rattle.fsb_signal.specs.DumpText.{width_of};
 ghost use Rattle.vcd_grammar.specs.Levels.{level_of};
 ghost use Rattle.vcd_grammar.specs.Values.{at_first, clock_of, sample_of};
 ghost use Rattle.vcd_way.specs.Lawful.{is_line, is_lawful_tap};
 ghost use Rattle.vcd_way.specs.Steps.{is_too_wide_for};
-ghost use Rattle.vcd_way.specs.Events.{set_tap, set_taps, unknown_in, sampled, settled, digits_at};
+ghost use Rattle.vcd_way.specs.Events.{set_tap, set_taps, unknown_in, sampled, settled, settled_digits, digits_at};
 ghost use Rattle.vcd_course.specs.Told.{rows_told};
 
 use crate::level::level_of;
+use crate::lines::Rows;
 use crate::sample::sample_at;
 use crate::settle::settle_row;
 use crate::tapped::tapped;
 use fsb_signal::{Sample, signal_at};
 use vcd_grammar::Level;
 use vcd_way::{Part, Tap};
-
-/// The digits of each line of the table, from its highest bit to its lowest, in as many first bytes
-/// of its row.
-#[derive(Clone, Copy, Debug)]
-pub(crate) struct Rows {
-    pub(crate) rows: [[u8; 64]; 22],
-    ghost long: { length rows ≡ 22 },
-}
 
 /// How many bits the line has.
 fn width_at(line: u8) -> usize
@@ -32,6 +25,14 @@ fn width_at(line: u8) -> usize
     ensures some { 0 < result }
 {
     signal_at(line).width as usize
+}
+
+/// What as many first digits of a row say.
+fn level_of_row(row: &[u8; 64], width: usize) -> Level
+    requires { width ≤ 64 }
+    ensures { result ≡ level_of (take width row.now) }
+{
+    level_of(&row[..width])
 }
 
 impl Rows {
@@ -116,10 +117,21 @@ impl Rows {
         ensures { rows_told result ≡ settled (rows_told self.now) (rows_told after.now) }
     {
         let mut rows = *self;
-        for i in 0..22 {
-            rows.rows[i] = settle_row(&self.rows[i], &after.rows[i]);
+        for line in 0..22 {
+            rows.settle_line(line, self, after);
         }
         rows
+    }
+
+    /// A line gets its digits at the first edge.
+    fn settle_line(&mut self, line: u8, before: &Rows, after: &Rows)
+        requires { line < 22 }
+        ensures { rows_told self.new
+            ≡ slice_set (rows_told self.old) line
+            (settled_digits (digits_at (rows_told before.now) line) (digits_at (rows_told after.now) line)) }
+    {
+        let line = line as usize;
+        self.rows[line] = settle_row(&before.rows[line], &after.rows[line]);
     }
 
     /// What each line has.
@@ -141,8 +153,7 @@ impl Rows {
         requires { line < 22 }
         ensures { result ≡ level_of (digits_at (rows_told self.now) line) }
     {
-        let row = self.rows[line as usize];
-        level_of(&row[..width_at(line)])
+        level_of_row(&self.rows[line as usize], width_at(line))
     }
 
     /// The sample of the digits.

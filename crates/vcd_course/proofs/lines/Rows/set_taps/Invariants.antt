@@ -5,7 +5,7 @@ use Rattle.vcd_way.specs.Lawful.{is_lawful_tap}
 use Rattle.vcd_way.specs.Steps.{is_too_wide_for}
 use Rattle.vcd_way.specs.Events.{set_taps}
 use Rattle.vcd_course.specs.Told.{rows_told}
-use Rattle.vcd_course.proofs.rows.Rows.set_taps.Given as goal
+use Rattle.vcd_course.proofs.lines.Rows.set_taps.Given as goal
 
 abbrev pub invariant-loop-tap : goal.invariant-loop-tap
 invariant-loop-tap l = record {

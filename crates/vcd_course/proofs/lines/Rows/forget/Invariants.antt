@@ -4,7 +4,7 @@ use Rattle.std.specs.List.{list_all}
 use Rattle.vcd_way.specs.Lawful.{is_line}
 use Rattle.vcd_way.specs.Events.{unknown_in}
 use Rattle.vcd_course.specs.Told.{rows_told}
-use Rattle.vcd_course.proofs.rows.Rows.forget.Given as goal
+use Rattle.vcd_course.proofs.lines.Rows.forget.Given as goal
 
 abbrev pub invariant-loop-line : goal.invariant-loop-line
 invariant-loop-line l = record {

@@ -4,7 +4,7 @@ use Rattle.fsb_signal.specs.Table.{table}
 use Rattle.vcd_way.specs.Events.{digits_at}
 use Rattle.vcd_course.specs.Told.{rows_told}
 use Rattle.vcd_course.proofs.RowFacts.{set_values, values_at, length_values}
-use Rattle.vcd_course.proofs.rows.Rows.copy_line.Goals as goal
+use Rattle.vcd_course.proofs.lines.Rows.copy_line.Goals as goal
 
 pub returns-then-line-lt22 : goal.returns-then-line-lt22
 returns-then-line-lt22 c =

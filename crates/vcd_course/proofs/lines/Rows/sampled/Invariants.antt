@@ -2,7 +2,7 @@
 use Rattle.std.proofs.Common.{◌≡◌, ◌≤◌, length, drop}
 use Rattle.vcd_way.specs.Events.{sampled}
 use Rattle.vcd_course.specs.Told.{rows_told}
-use Rattle.vcd_course.proofs.rows.Rows.sampled.Given as goal
+use Rattle.vcd_course.proofs.lines.Rows.sampled.Given as goal
 
 abbrev pub invariant-loop-left : goal.invariant-loop-left
 invariant-loop-left l = record {

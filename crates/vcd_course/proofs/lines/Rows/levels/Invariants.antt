@@ -2,7 +2,7 @@
 use Rattle.std.proofs.Common.{◌≡◌, length, take, map}
 use Rattle.vcd_grammar.specs.Levels.{level_of}
 use Rattle.vcd_course.specs.Told.{rows_told}
-use Rattle.vcd_course.proofs.rows.Rows.levels.Given as goal
+use Rattle.vcd_course.proofs.lines.Rows.levels.Given as goal
 
 abbrev pub invariant-loop-i : goal.invariant-loop-i
 invariant-loop-i l = record {
