@@ -4,3 +4,4 @@ mod TappedFacts
 mod SettleFacts
 mod RowFacts
 mod Opening
+pub mod Interface

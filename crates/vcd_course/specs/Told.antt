@@ -11,6 +11,7 @@ use Rattle.vcd_course.specs.declared.event.Told.TheVariants as told
 use Rattle.vcd_course.specs.declared.event.CourseEvent.{CourseEvent}
 use Rattle.vcd_course.specs.declared.lines.Rows.{Rows}
 use Rattle.vcd_course.specs.declared.course.Course.{Course}
+use Rattle.vcd_course.specs.declared.course.CourseRules.{CourseRules}
 use Rattle.vcd_course.specs.Opening.{OpenPiece}
 
 -- rows of bytes as the digits of lines: of each row as many as the line has bits
@@ -59,8 +60,16 @@ open_told c = record {
   now = rows_told c.inside;
 }
 
+-- when there is a sample
+abbrev pub rules_of : Course → CourseRules
+rules_of c = c.rules
+
+-- the lines that are sampled after the changes of the edge's own time
+abbrev pub late_of : Course → List ℕ
+late_of c = c.late.items
+
 -- the rules say when there is a sample as the course does
 pub record FitsCourse (m : ValueRules) (c : Course) : Type 0 where
-  pub edge : m.edge ≡ c.rules.edge
-  pub takes_first : m.takes_first ≡ c.rules.takes_first
-  pub late : m.late ≡ c.late.items
+  pub edge : m.edge ≡ (rules_of c).edge
+  pub takes_first : m.takes_first ≡ (rules_of c).takes_first
+  pub late : m.late ≡ late_of c

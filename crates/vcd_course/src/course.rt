@@ -6,7 +6,7 @@ ghost use Rattle.vcd_way.specs.Lawful.{is_line, is_lawful_tap};
 ghost use Rattle.vcd_way.specs.Steps.{is_too_wide_for};
 ghost use Rattle.vcd_way.specs.Events.{Sampled, sampled, is_edge, digit_after, is_known_digit};
 ghost use Rattle.vcd_grammar.specs.Values.{sample_of};
-ghost use Rattle.vcd_course.specs.Told.{event_list, event_told, stamp_told, last_told, switch_told, rows_told, open_told, FitsCourse};
+ghost use Rattle.vcd_course.specs.Told.{event_list, event_told, stamp_told, last_told, switch_told, rows_told, open_told, rules_of, late_of, FitsCourse};
 ghost use Rattle.vcd_course.specs.Opening.{first_open, next_open, after_happening, ended_in, told_at, sample_by};
 
 use crate::event::{CourseEvent, Stamp, Told};
@@ -40,8 +40,8 @@ impl Course {
     /// Before anything happens.
     pub fn new(rules: CourseRules, late: Vec<u8>) -> Self
         ensures open { open_told result ≡ first_open }
-        ensures rules { (m : ValueRules) → m.edge ≡ rules.edge → m.takes_first ≡ rules.takes_first →
-            m.late ≡ late.items → FitsCourse m result }
+        ensures rules { rules_of result ≡ rules }
+        ensures late { late_of result ≡ late.items }
     {
         Course {
             rules,
@@ -59,7 +59,8 @@ impl Course {
         requires fits { is_too_wide_for taps.now digits.now ≡ false }
         ensures open { open_told self.new ≡ after_happening (open_told self.old)
             (Gets (record { taps = taps.now; digits = digits.now })) }
-        ensures rules { (m : ValueRules) → FitsCourse m self.old → FitsCourse m self.new }
+        ensures rules { rules_of self.new ≡ rules_of self.old }
+        ensures late { late_of self.new ≡ late_of self.old }
     {
         self.inside.set_taps(taps, digits);
     }
@@ -69,7 +70,8 @@ impl Course {
         ensures open { open_told self.new ≡ after_happening (open_told self.old) (Comes (stamp_told stamp)) }
         ensures told { (m : ValueRules) → FitsCourse m self.old →
             event_list result ≡ told_at m (open_told self.old) (Comes (stamp_told stamp)) }
-        ensures rules { (m : ValueRules) → FitsCourse m self.old → FitsCourse m self.new }
+        ensures rules { rules_of self.new ≡ rules_of self.old }
+        ensures late { late_of self.new ≡ late_of self.old }
     {
         let event = self.ended();
         self.close();
@@ -86,7 +88,8 @@ impl Course {
         ensures told { (m : ValueRules) → FitsCourse m self.old →
             event_list result.0 ++ event_told result.1 ∷ []
             ≡ told_at m (open_told self.old) (Switches (switch_told is_off) lines.now) }
-        ensures rules { (m : ValueRules) → FitsCourse m self.old → FitsCourse m self.new }
+        ensures rules { rules_of self.new ≡ rules_of self.old }
+        ensures late { late_of self.new ≡ late_of self.old }
     {
         let event = self.ended();
         self.close();

@@ -7,10 +7,12 @@
 
 pub use course::{Course, CourseRules};
 pub use event::{CourseEvent, Stamp, Told};
+pub use laws::told_step_by_step;
 
 mod course;
 mod digits;
 mod event;
+mod laws;
 mod level;
 mod lines;
 mod rows;
