@@ -4,7 +4,7 @@ ghost use Rattle.vcd_header.specs.Told.{words_told};
 use std::alloc::{AllocError, Global};
 
 /// The same bytes.
-pub(crate) fn copy_of(alloc: Global, bytes: &[u8]) -> Result<Vec<u8>, AllocError>
+pub fn copy_of(alloc: Global, bytes: &[u8]) -> Result<Vec<u8>, AllocError>
     ensures { IfOk result (λ copy. copy.items ≡ bytes.now) }
 {
     let mut copy = Vec::new(alloc);

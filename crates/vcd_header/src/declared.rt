@@ -36,7 +36,9 @@ pub struct Section {
 
 impl Section {
     /// A section without a word.
-    pub(crate) fn new(alloc: Global) -> Self {
+    pub fn new(alloc: Global) -> Self
+        ensures { section_told result ≡ record { place = 0; keyword = []; words = [] } }
+    {
         Section {
             place: 0,
             keyword: Vec::new(alloc),
@@ -55,7 +57,7 @@ impl Section {
     }
 
     /// One more word.
-    pub(crate) fn add(&mut self, alloc: Global, word: &[u8]) -> Result<(), AllocError>
+    pub fn add(&mut self, alloc: Global, word: &[u8]) -> Result<(), AllocError>
         ensures place { self.new.place ≡ self.old.place }
         ensures keyword { self.new.keyword.items ≡ self.old.keyword.items }
         ensures words { OnOk result

@@ -6,11 +6,14 @@
 //! (`specs/Gathering.antt`). The values after the header are read on with the cutter that it leaves.
 #![tactic(auto)]
 
+pub use copies::copy_of;
 pub use declared::{Declared, Section};
+pub use number::number_up_to;
 pub use reader::HeaderReader;
 pub use rules::HeaderRules;
 pub use stop::HeaderStop;
 pub use vcd_grammar::{VcdCause, VcdFault};
+pub use words::{is_dollar, is_end, is_long};
 
 mod copies;
 mod declared;

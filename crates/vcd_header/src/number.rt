@@ -20,7 +20,7 @@ fn next_number(number: u64, byte: u8) -> Option<u64>
 }
 
 /// The decimal number that a word is, where it is one and not above the limit.
-pub(crate) fn number_up_to(limit: u64, word: &[u8]) -> Option<u64>
+pub fn number_up_to(limit: u64, word: &[u8]) -> Option<u64>
     ensures { result ≡ number_up_to limit word.now }
 {
     if word.is_empty() {

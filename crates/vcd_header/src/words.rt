@@ -8,21 +8,21 @@ ghost use Rattle.vcd_grammar.specs.Words.{is_end, is_dollar, is_code_word};
 const LONGEST: usize = 70_000;
 
 /// Whether a word is too long for a token.
-pub(crate) fn is_long(word: &[u8]) -> bool
+pub fn is_long(word: &[u8]) -> bool
     ensures { result ≡ is_long word.now }
 {
     LONGEST < word.len()
 }
 
 /// Whether the token ends a section.
-pub(crate) fn is_end(word: &[u8]) -> bool
+pub fn is_end(word: &[u8]) -> bool
     ensures { result ≡ is_end word.now }
 {
     b"$end".as_slice() == word
 }
 
 /// Whether the token begins with `$`.
-pub(crate) fn is_dollar(word: &[u8]) -> bool
+pub fn is_dollar(word: &[u8]) -> bool
     ensures { result ≡ is_dollar word.now }
 {
     match word {
