@@ -3,12 +3,13 @@
 use fsb_signal::Lines;
 use std::alloc::Global;
 use vcd_course::{Course, CourseEvent, CourseRules, Told};
+use vcd_grammar::VcdCause;
 use vcd_header::{HeaderReader, HeaderRules};
 use vcd_scan::{ScanRules, ScanStop, ValueReader, Wires};
-use vcd_grammar::VcdCause;
 use vcd_way::{BitRun, Edge, Part, Tap};
 
-const TEXT: &str = "$var wire 1 ! clk $end $var wire 1 a ads $end $var wire 36 b addr $end $var real 64 r t $end\n\
+const TEXT: &str =
+    "$var wire 1 ! clk $end $var wire 1 a ads $end $var wire 36 b addr $end $var real 64 r t $end\n\
 $enddefinitions $end\n\
 #0\n\
 $dumpvars\n\
@@ -97,9 +98,15 @@ fn address() -> Tap {
 fn wires(alloc: Global) -> Option<Wires> {
     let lines = Vec::from_slice(alloc, &[0, 8, 10]).ok()?;
     let mut wires = Wires::new(alloc, lines);
-    wires.add(alloc, b"!", Vec::from_slice(alloc, &[single(0)]).ok()?).ok()?;
-    wires.add(alloc, b"a", Vec::from_slice(alloc, &[single(8)]).ok()?).ok()?;
-    wires.add(alloc, b"b", Vec::from_slice(alloc, &[address()]).ok()?).ok()?;
+    wires
+        .add(alloc, b"!", Vec::from_slice(alloc, &[single(0)]).ok()?)
+        .ok()?;
+    wires
+        .add(alloc, b"a", Vec::from_slice(alloc, &[single(8)]).ok()?)
+        .ok()?;
+    wires
+        .add(alloc, b"b", Vec::from_slice(alloc, &[address()]).ok()?)
+        .ok()?;
     wires.add(alloc, b"r", Vec::new(alloc)).ok()?;
     Some(wires)
 }
@@ -123,7 +130,7 @@ fn after_header(alloc: Global, text: &str, rules: ScanRules) -> Option<(ValueRea
     Some((reader, used))
 }
 
-fn kind(event: &CourseEvent) -> Kind {
+fn kind_of(event: &CourseEvent) -> Kind {
     match event.told {
         Told::Sampled(_) => Kind::Sample,
         Told::Hole => Kind::Hole,
@@ -143,7 +150,7 @@ fn events_of_a_dump(rt: HostRuntime) {
         assert!(rt; events.len() == EVENTS.len());
         for (i, event) in events.iter().enumerate() {
             let (what, time, place, line, ads, bits, unknown) = EVENTS[i];
-            assert!(rt; kind(event) == what);
+            assert!(rt; kind_of(event) == what);
             let stamp = event.stamp.expect(&rt, "a stamp");
             assert!(rt; stamp.time == time);
             assert!(rt; stamp.place == place);

@@ -1,5 +1,6 @@
 -- What is told, one event after another.
-use Rattle.std.proofs.Common.{◌≡◌, List, [], ◌∷◌, ◌++◌, map, Option, Some, None, refl, sym, ap, ◌∙◌, append-nil}
+use Rattle.std.proofs.Common.{◌≡◌, List, [], ◌∷◌, ◌++◌, map, Option, Some, None, Result, Ok, Err, refl, sym, ap, ◌∙◌, append-nil}
+use Rattle.std.specs.Result.{OnOk}
 use Rattle.std.proofs.lemmas.List.{map-append}
 use Rattle.vcd_way.specs.Events.{DumpEvent}
 use Rattle.vcd_course.specs.declared.event.CourseEvent.{CourseEvent}
@@ -19,3 +20,8 @@ pub told_some : (es new : List CourseEvent) (e : CourseEvent) (r : Option Course
 told_some es new e r x h k is =
     let one : event_told e ∷ [] ≡ x ++ [] = ap event_list (sym h) ∙ k ∙ sym (append-nil x) in
     ap events_told is ∙ map-append event_told es (e ∷ []) ∙ ap (λ y. events_told es ++ y) one
+
+-- what holds of an Ok by two facts
+pub on_ok_both : {T E P Q S : Type 0} (r : Result T E) → (P → Q → S) → OnOk r P → OnOk r Q → OnOk r S
+on_ok_both (Ok x) f p q = f p q
+on_ok_both (Err e) f p q = tt

@@ -3,7 +3,7 @@ use Rattle.std.proofs.Common.{◌≡◌, ℕ, ◌+◌, ◌-◌, ◌≤◌, Bool,
 use Rattle.std.proofs.Common.{Option, Some, None, refl, sym, ap, subst, ◌∙◌, arith, append_assoc, append-nil}
 use Rattle.std.proofs.lemmas.List.{append_cancel_left, take-append-drop, take-take, drop-take, take_rest}
 use Rattle.vcd_grammar.specs.declared.fault.VcdFault.{VcdFault}
-use Rattle.vcd_grammar.specs.Tokens.{Token, tokens_so_far, tokens_from, open_run, open_run_from}
+use Rattle.vcd_grammar.specs.Tokens.{Token, tokens_so_far, tokens_of, tokens_from, open_run, open_run_from, ended_at}
 use Rattle.vcd_grammar.proofs.Interface.{tokens-append, open-append}
 use Rattle.vcd_way.specs.Ways.{ValueRules, Way}
 use Rattle.vcd_way.specs.Pieces.{Happening}
@@ -14,7 +14,7 @@ use Rattle.vcd_course.specs.Opening.{OpenPiece, first_open, after_happenings, to
 use Rattle.vcd_course.proofs.Interface.{after-append, told-append}
 use Rattle.vcd_scan.specs.Wired.{Wiring, wired}
 use Rattle.vcd_scan.specs.Begun.{begun}
-use Rattle.vcd_scan.specs.Standing.{tokens_after, known_after, open_after, told_after, Appends}
+use Rattle.vcd_scan.specs.Standing.{tokens_after, last_tokens_after, known_after, open_after, told_after, Appends}
 
 -- ---- tokens
 
@@ -123,3 +123,11 @@ appends_more first middle last old between new p q = record {
   appended = q.appended ∙ ap (λ x. x ++ q.added) p.appended ∙ append_assoc old p.added q.added;
   complete = q.complete ∙ ap (λ x. x ++ q.added) p.complete ∙ append_assoc first p.added q.added;
 }
+
+-- ---- the last token
+
+pub last_tokens : (head fed : List ℕ) (ts : List Token) → tokens_of (head ++ fed) ≡ tokens_so_far (head ++ fed) ++ ts
+    → last_tokens_after head fed ≡ tokens_after head fed ++ ts
+last_tokens head fed ts h =
+    ap (λ us. tokens_after head fed ++ us) (append_cancel_left (tokens_so_far (head ++ fed))
+    (ended_at (length (head ++ fed)) (open_run (head ++ fed))) ts h)

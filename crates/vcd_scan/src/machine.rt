@@ -1,4 +1,4 @@
-ghost use Rattle.std.specs.Prelude.{◌≡◌, ◌++◌, [], ◌∷◌, None, Some, IfOk, OnOk, ◌&&◌, if◌then◌else◌};
+ghost use Rattle.std.specs.Prelude.{◌≡◌, ℕ, ◌++◌, [], ◌∷◌, None, Some, IfOk, OnOk, ◌&&◌, if◌then◌else◌};
 ghost use Rattle.vcd_grammar.specs.Digits.{time_in};
 ghost use Rattle.vcd_grammar.specs.Words.{stamp_word, scalar_word, is_read_past, Foreign, Mark, Section as opens_section};
 ghost use Rattle.vcd_way.specs.Steps.{breaks, moves_to, comes, stamp_step, scalar_step, word_step, vector_by, value_word_by, step, stops, resumes, mark_step, vector_step, other_step, if_short, remark_step, is_too_wide_for, AtCode};
@@ -6,7 +6,8 @@ ghost use Rattle.vcd_way.specs.Ways.{ValueRules};
 ghost use Rattle.vcd_way.specs.Steps.{vector_digits, is_unreadable};
 ghost use Rattle.vcd_scan.specs.Digits.{digit_by};
 ghost use Rattle.vcd_header.specs.Told.{section_told};
-ghost use Rattle.vcd_course.specs.Opening.{after_happenings, told_in};
+ghost use Rattle.vcd_course.specs.Opening.{after_happenings, ended_in, told_in};
+ghost use Rattle.vcd_way.specs.Answers.{fault_at_end};
 ghost use Rattle.vcd_course.specs.Told.{event_list, event_told, open_told};
 ghost use Rattle.vcd_scan.specs.Wired.{wired, taps_in, wires_told};
 ghost use Rattle.vcd_scan.specs.Told.{values_by, rules_in, state_told, open_in, events_told};
@@ -531,6 +532,37 @@ impl Machine {
                 Ok(())
             }
             Place::Remark => self.remark(place, word),
+        }
+    }
+}
+
+impl Machine {
+    /// The block that stands open, ended here.
+    pub(crate) fn close(&mut self) -> Result<(), AllocError>
+        ensures told { OnOk result (events_told self.new.told.items
+            ≡ events_told self.old.told.items ++ ended_in (rules_in self.old) (open_in self.old)) }
+        ensures rules { rules_in self.new ≡ rules_in self.old }
+        ensures wires { wires_told self.new.wires ≡ wires_told self.old.wires }
+    {
+        let event = self.course.ends();
+        match event {
+            None => Ok(()),
+            Some(event) => {
+                self.told.push(event)?;
+                Ok(())
+            }
+        }
+    }
+
+    /// Whether a text may end here.
+    pub(crate) fn is_between_values(&self) -> bool
+        ensures { (place : ℕ) → self.now.fault ≡ None →
+            fault_at_end (state_told self.now).fault (state_told self.now).spot place
+            ≡ (if result then None else Some (record { place = place; cause = VcdCause.Cut })) }
+    {
+        match self.spot {
+            Place::Values => true,
+            Place::Code(_) | Place::OtherCode(_) | Place::Remark => false,
         }
     }
 }

@@ -131,6 +131,85 @@ impl ValueReader {
         }
     }
 
+    /// The end of the text. Tells the samples of the last block too, where the text may end there.
+    /// A text that ends early is refused here.
+    pub fn finish(&mut self) -> Result<(), ScanStop>
+        // No `finish` has answered Ok.
+        requires { (head fed : List ℕ) × Stands self.old head fed × (length (head ++ fed) + 1 < 2 ^ 64) }
+        ensures refusal { refusal_of self.new ≡ refusal_in result }
+        ensures keeps { Keeps self.old self.new }
+        ensures answer { (head fed : List ℕ) → Stands self.old head fed → refusal_of self.old ≡ None →
+            Answers result (fault_behind (rules_of self.old) (wiring_of self.old)
+            (last_tokens_after head fed) (length (head ++ fed))) }
+        ensures told { (head fed : List ℕ) → Stands self.old head fed →
+            OnOk result (Appends
+            (told_after (rules_of self.old) (wiring_of self.old) (tokens_after head fed))
+            (all_told_after (rules_of self.old) (wiring_of self.old) (last_tokens_after head fed))
+            (events_of self.old) (events_of self.new)) }
+        ensures again { (stop : ScanStop) → refusal_of self.old ≡ Some stop → result ≡ Err stop }
+    {
+        if let Some(stop) = self.refused {
+            return Err(stop);
+        }
+        let answer = self.end();
+        if let Err(stop) = answer {
+            self.refused = Some(stop);
+        }
+        answer
+    }
+
+    /// The end of the text, where nothing was refused.
+    fn end(&mut self) -> Result<(), ScanStop>
+        requires { (head fed : List ℕ) × Works self.old head fed × (length (head ++ fed) + 1 < 2 ^ 64) }
+        ensures refusal { refusal_of self.new ≡ refusal_of self.old }
+        ensures keeps { Keeps self.old self.new }
+        ensures answer { (head fed : List ℕ) → Works self.old head fed →
+            Answers result (fault_behind (rules_of self.old) (wiring_of self.old)
+            (last_tokens_after head fed) (length (head ++ fed))) }
+        ensures told { (head fed : List ℕ) → Works self.old head fed →
+            OnOk result (Appends
+            (told_after (rules_of self.old) (wiring_of self.old) (tokens_after head fed))
+            (all_told_after (rules_of self.old) (wiring_of self.old) (last_tokens_after head fed))
+            (events_of self.old) (events_of self.new)) }
+    {
+        let place = self.cutter.place();
+        self.last()?;
+        match self.machine.fault {
+            Some(fault) => return Err(ScanStop::Bad(fault)),
+            None => {}
+        }
+        if !self.machine.is_between_values() {
+            return Err(ScanStop::Bad(VcdFault {
+                place,
+                cause: VcdCause::Cut,
+            }));
+        }
+        self.machine.close()?;
+        Ok(())
+    }
+
+    /// The last token.
+    fn last(&mut self) -> Result<(), AllocError>
+        requires { (head fed : List ℕ) × Works self.old head fed × (length (head ++ fed) + 1 < 2 ^ 64) }
+        ensures refusal { refusal_of self.new ≡ refusal_of self.old }
+        ensures keeps { Keeps self.old self.new }
+        ensures took { (head fed : List ℕ) → Works self.old head fed →
+            OnOk result (Took self.new (last_tokens_after head fed)) }
+        ensures told { (head fed : List ℕ) → Works self.old head fed →
+            OnOk result (Appends
+            (told_after (rules_of self.old) (wiring_of self.old) (tokens_after head fed))
+            (told_after (rules_of self.old) (wiring_of self.old) (last_tokens_after head fed))
+            (events_of self.old) (events_of self.new)) }
+    {
+        match self.cutter.finish() {
+            None => Ok(()),
+            Some(token) => {
+                let word = self.cutter.word(token, &[]);
+                self.machine.take(token.place, token.line, word)
+            }
+        }
+    }
+
     /// What was told and nobody took, in its order.
     pub fn events(&self) -> &[CourseEvent]
         ensures { map event_told result.now ≡ events_of self.now }
