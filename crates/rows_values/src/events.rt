@@ -164,6 +164,24 @@ fn events_of_a_dump(rt: HostRuntime) {
     }
 }
 
+#[test]
+fn lines_are_unknown_before_their_first_value(rt: HostRuntime) {
+    let alloc = rt.alloc();
+    let (mut reader, used) = after_header(alloc, HEADER, WIDE).expect(&rt, "header");
+    assert!(rt; used == HEADER.len());
+    assert!(rt; reader.feed(b"#0 0! #5 1!").is_ok());
+    assert!(rt; reader.events().len() == 0);
+    assert!(rt; reader.finish().is_ok());
+    let event = reader.events().get(0).expect(&rt, "a sample");
+    match event.told {
+        Told::Sampled(sample) => {
+            assert!(rt; sample.unknown == Lines::ADS);
+            assert!(rt; sample.addr.unknown == ALL);
+        }
+        Told::Hole | Told::Resumed => assert!(rt; false),
+    }
+}
+
 const HEADER: &str = "$var wire 1 ! clk $end $enddefinitions $end ";
 
 /// Values, the place behind the header and the cause of their first fault.

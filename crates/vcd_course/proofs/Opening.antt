@@ -5,6 +5,7 @@ use Rattle.vcd_way.specs.Ways.{ValueRules}
 use Rattle.vcd_way.specs.Pieces.{Stamp, TapChange, Happening, Comes, Gets, Switches, Piece, Changes, Switched, pieces_from, pieces_of, over}
 use Rattle.vcd_way.specs.Events.{Course, course_at_first, course_after, values_after, set_taps, unknown_in, DumpEvent}
 use Rattle.vcd_way.specs.Events.{events_from, sample_in_block, switch_event}
+use Rattle.vcd_way.specs.Steps.{unknown_from_here}
 use Rattle.vcd_grammar.specs.Values.{Values}
 use Rattle.vcd_course.specs.Opening.{OpenPiece, first_open, next_open, forgotten, after_happening, ended_in, told_at, after_happenings, told_in}
 
@@ -97,3 +98,9 @@ all_told m c stamp now block (Switches switch lines ∷ hs) h =
     ∙ ap (λ es. here ++ switch_event switch stamp ∷ es) (all_told m later stamp (unknown_in now lines) [] hs refl)
     ∙ sym (append_assoc here (switch_event switch stamp ∷ []) (told_in m o hs ++ ended_in m (after_happenings o hs)))
     ∙ sym (append_assoc (here ++ switch_event switch stamp ∷ []) (told_in m o hs) (ended_in m (after_happenings o hs)))
+
+-- lines that are unknown until they get a value
+pub forgotten_from_here : (o : OpenPiece) (lines : List ℕ)
+    → record o { now = unknown_in o.now lines } ≡ after_happenings o (unknown_from_here lines)
+forgotten_from_here o [] = refl
+forgotten_from_here o (number ∷ lines) = refl

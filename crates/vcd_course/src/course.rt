@@ -3,11 +3,11 @@ ghost use Rattle.std.specs.List.{list_all};
 ghost use Rattle.vcd_way.specs.Ways.{ValueRules};
 ghost use Rattle.vcd_way.specs.Pieces.{Happening, Comes, Gets, Switches};
 ghost use Rattle.vcd_way.specs.Lawful.{is_line, is_lawful_tap};
-ghost use Rattle.vcd_way.specs.Steps.{is_too_wide_for};
+ghost use Rattle.vcd_way.specs.Steps.{is_too_wide_for, unknown_from_here};
 ghost use Rattle.vcd_way.specs.Events.{Sampled, sampled, is_edge, digit_after, is_known_digit};
 ghost use Rattle.vcd_grammar.specs.Values.{sample_of};
 ghost use Rattle.vcd_course.specs.Told.{event_list, event_told, stamp_told, last_told, switch_told, rows_told, open_told, rules_of, late_of, FitsCourse};
-ghost use Rattle.vcd_course.specs.Opening.{first_open, next_open, after_happening, ended_in, told_at, sample_by};
+ghost use Rattle.vcd_course.specs.Opening.{first_open, next_open, after_happening, after_happenings, ended_in, told_at, sample_by};
 
 use crate::event::{CourseEvent, Stamp, Told};
 use crate::lines::Rows;
@@ -63,6 +63,17 @@ impl Course {
         ensures late { late_of self.new ≡ late_of self.old }
     {
         self.inside.set_taps(taps, digits);
+    }
+
+    /// These lines become unknown until they get a value.
+    pub fn forget(&mut self, unset: &[u8])
+        requires { list_all is_line unset.now ≡ true }
+        ensures open { open_told self.new
+            ≡ after_happenings (open_told self.old) (unknown_from_here unset.now) }
+        ensures rules { rules_of self.new ≡ rules_of self.old }
+        ensures late { late_of self.new ≡ late_of self.old }
+    {
+        self.inside.forget(unset);
     }
 
     /// A greater time comes. Tells the sample of the block that it ends, if there is one.

@@ -1,5 +1,5 @@
 -- What bytes make of a cutter, and the tokens that count in them.
-use Rattle.std.proofs.Common.{◌≡◌, ℕ, ◌+◌, ◌-◌, ◌<◌, ◌≤◌, Bool, true, false, ◌||◌, ◌==◌, nat_lt, cond, min, List, [], ◌∷◌}
+use Rattle.std.proofs.Common.{◌≡◌, ℕ, ◌+◌, ◌-◌, ◌<◌, ◌≤◌, Bool, true, false, ◌||◌, ◌==◌, nat_lt, cond, List, [], ◌∷◌}
 use Rattle.std.proofs.Common.{◌++◌, length, take, Option, Some, None, refl, sym, ap, subst, ◌∙◌, arith, length-append}
 use Rattle.std.specs.List.{list_all, count_by}
 use Rattle.std.specs.Prelude.{IfSome}
@@ -11,7 +11,7 @@ use Rattle.vcd_grammar.proofs.Interface.{tokens-append, open-append}
 use Rattle.vcd_cut.specs.declared.cut.CutToken.{CutToken}
 use Rattle.vcd_cut.specs.declared.cut.Source.{Source}
 use Rattle.vcd_cut.specs.declared.cut.Source.TheVariants as sources
-use Rattle.vcd_cut.specs.Cutting.{is_dark, is_break, Cutting, after_cut, tokens_cut, ended_cut, counted_cut, taken_by}
+use Rattle.vcd_cut.specs.Cutting.{is_dark, is_break, Cutting, after_cut, tokens_cut, counted_cut, taken_by}
 use Rattle.vcd_cut.specs.Cutting.{word_at, tokens_told, FitsIn, Begins}
 use Rattle.vcd_cut.proofs.TokenRuns.{dark_first, dark_rest, long_tokens, long_open, short_tokens, short_open}
 use Rattle.vcd_cut.proofs.TokenRuns.{over_tokens, over_open}

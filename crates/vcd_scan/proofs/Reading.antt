@@ -10,11 +10,11 @@ use Rattle.vcd_way.specs.Pieces.{Happening}
 use Rattle.vcd_way.specs.Steps.{DumpState, step, reads_past, step_at, state_after, happenings_in}
 use Rattle.vcd_way.specs.Events.{DumpEvent}
 use Rattle.vcd_way.proofs.Interface.{state-append, tokens_longer, fault-behind}
-use Rattle.vcd_course.specs.Opening.{OpenPiece, first_open, after_happenings, told_in}
+use Rattle.vcd_course.specs.Opening.{OpenPiece, after_happenings, told_in}
 use Rattle.vcd_course.proofs.Interface.{after-append, told-append}
 use Rattle.vcd_scan.specs.Wired.{Wiring, wired}
 use Rattle.vcd_scan.specs.Begun.{begun}
-use Rattle.vcd_scan.specs.Standing.{tokens_after, last_tokens_after, known_after, open_after, told_after, Appends}
+use Rattle.vcd_scan.specs.Standing.{first_open_of, tokens_after, last_tokens_after, known_after, open_after, told_after, Appends}
 
 -- ---- tokens
 
@@ -69,15 +69,15 @@ pub open-tokens : (m : ValueRules) (w : Wiring) (ts us : List Token)
     → open_after m w (ts ++ us)
     ≡ after_happenings (open_after m w ts) (happenings_in (wired m) (known_after m w ts) us)
 open-tokens m w ts us =
-    ap (after_happenings first_open) (happenings-append (wired m) (begun w) ts us)
-    ∙ after-append first_open (happenings_in (wired m) (begun w) ts) (happenings_in (wired m) (known_after m w ts) us)
+    ap (after_happenings (first_open_of w)) (happenings-append (wired m) (begun w) ts us)
+    ∙ after-append (first_open_of w) (happenings_in (wired m) (begun w) ts) (happenings_in (wired m) (known_after m w ts) us)
 
 pub told-tokens : (m : ValueRules) (w : Wiring) (ts us : List Token)
     → told_after m w (ts ++ us)
     ≡ told_after m w ts ++ told_in m (open_after m w ts) (happenings_in (wired m) (known_after m w ts) us)
 told-tokens m w ts us =
-    ap (told_in m first_open) (happenings-append (wired m) (begun w) ts us)
-    ∙ told-append m first_open (happenings_in (wired m) (begun w) ts) (happenings_in (wired m) (known_after m w ts) us)
+    ap (told_in m (first_open_of w)) (happenings-append (wired m) (begun w) ts us)
+    ∙ told-append m (first_open_of w) (happenings_in (wired m) (begun w) ts) (happenings_in (wired m) (known_after m w ts) us)
 
 -- after a fault they make nothing
 pub known-faulty : (m : ValueRules) (w : Wiring) (ts us : List Token) → is_some (known_after m w ts).fault ≡ true

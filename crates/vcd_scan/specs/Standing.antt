@@ -3,7 +3,7 @@ use Rattle.std.specs.Prelude.{◌≡◌, ℕ, List, [], ◌++◌, length, Option
 use Rattle.vcd_grammar.specs.declared.fault.VcdFault.{VcdFault}
 use Rattle.vcd_grammar.specs.Tokens.{Token, tokens_from, open_run, ended_at}
 use Rattle.vcd_way.specs.Ways.{ValueRules}
-use Rattle.vcd_way.specs.Steps.{DumpState, state_after, happenings_in}
+use Rattle.vcd_way.specs.Steps.{unknown_from_here, DumpState, state_after, happenings_in}
 use Rattle.vcd_way.specs.Events.{DumpEvent}
 use Rattle.vcd_way.specs.Answers.{fault_at_end}
 use Rattle.vcd_cut.specs.Standing.{Stands as CutterStands}
@@ -29,13 +29,17 @@ last_tokens_after head text = tokens_after head text ++ ended_at (length (head +
 abbrev pub known_after : ValueRules → Wiring → List Token → DumpState Wiring
 known_after m w ts = state_after (wired m) (begun w) ts
 
+-- the block that stands open at the end of the header: the lines are unknown
+abbrev pub first_open_of : Wiring → OpenPiece
+first_open_of w = after_happenings first_open (unknown_from_here w.lines)
+
 -- the block that stands open after tokens
 abbrev pub open_after : ValueRules → Wiring → List Token → OpenPiece
-open_after m w ts = after_happenings first_open (happenings_in (wired m) (begun w) ts)
+open_after m w ts = after_happenings (first_open_of w) (happenings_in (wired m) (begun w) ts)
 
 -- what is told in tokens, of the pieces that are over
 abbrev pub told_after : ValueRules → Wiring → List Token → List DumpEvent
-told_after m w ts = told_in m first_open (happenings_in (wired m) (begun w) ts)
+told_after m w ts = told_in m (first_open_of w) (happenings_in (wired m) (begun w) ts)
 
 -- the first fault of a text that ends behind these tokens
 abbrev pub fault_behind : ValueRules → Wiring → List Token → ℕ → Option VcdFault

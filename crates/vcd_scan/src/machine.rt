@@ -6,11 +6,11 @@ ghost use Rattle.vcd_way.specs.Ways.{ValueRules};
 ghost use Rattle.vcd_way.specs.Steps.{vector_digits, is_unreadable};
 ghost use Rattle.vcd_scan.specs.Digits.{digit_by};
 ghost use Rattle.vcd_header.specs.Told.{section_told};
-ghost use Rattle.vcd_course.specs.Opening.{after_happenings, ended_in, told_in};
+ghost use Rattle.vcd_course.specs.Opening.{ended_in};
 ghost use Rattle.vcd_way.specs.Answers.{fault_at_end};
 ghost use Rattle.vcd_course.specs.Told.{event_list, event_told, open_told};
-ghost use Rattle.vcd_scan.specs.Wired.{wired, taps_in, wires_told};
-ghost use Rattle.vcd_scan.specs.Told.{values_by, rules_in, state_told, open_in, events_told};
+ghost use Rattle.vcd_scan.specs.Wired.{taps_in, wires_told};
+ghost use Rattle.vcd_scan.specs.Told.{values_by, rules_in, state_told, open_in, events_told, way_in, token_at, Becomes, Opens, Tells};
 ghost use Rattle.vcd_scan.specs.Begun.{begun};
 
 use crate::digits::{are_digits, digit_of, read_digits};
@@ -101,9 +101,9 @@ impl Machine {
 
     /// A fault.
     fn fail(&mut self, place: u64, cause: VcdCause)
-        ensures state { state_told self.new ≡ (breaks (state_told self.old) place cause).state }
-        ensures opened { open_in self.new ≡ after_happenings (open_in self.old) (breaks (state_told self.old) place cause).happenings }
-        ensures told { events_told self.new.told.items ≡ events_told self.old.told.items ++ told_in (rules_in self.old) (open_in self.old) (breaks (state_told self.old) place cause).happenings }
+        ensures state { Becomes self.old self.new (breaks (state_told self.old) place cause) }
+        ensures opened { Opens self.old self.new (breaks (state_told self.old) place cause) }
+        ensures told { Tells self.old self.new (breaks (state_told self.old) place cause) }
         ensures rules { rules_in self.new ≡ rules_in self.old }
         ensures wires { wires_told self.new.wires ≡ wires_told self.old.wires }
     {
@@ -114,9 +114,15 @@ impl Machine {
     #[tactic(auto, unfolding(vcd_way::specs::Steps::value_word_by))]
     fn value(&mut self, place: u64, line: u64, word: &[u8]) -> Result<(), AllocError>
         requires values { self.old.spot ≡ Place.Values }
-        ensures state { OnOk result (state_told self.new ≡ (word_step (wired (rules_in self.old)) (state_told self.old) (record { place = place; word = word.now }) (value_word_by (rules_in self.old) word.now)).state) }
-        ensures opened { OnOk result (open_in self.new ≡ after_happenings (open_in self.old) (word_step (wired (rules_in self.old)) (state_told self.old) (record { place = place; word = word.now }) (value_word_by (rules_in self.old) word.now)).happenings) }
-        ensures told { OnOk result (events_told self.new.told.items ≡ events_told self.old.told.items ++ told_in (rules_in self.old) (open_in self.old) (word_step (wired (rules_in self.old)) (state_told self.old) (record { place = place; word = word.now }) (value_word_by (rules_in self.old) word.now)).happenings) }
+        ensures state { OnOk result (Becomes self.old self.new (word_step (way_in self.old)
+            (state_told self.old) (token_at place word.now) (value_word_by (rules_in self.old)
+            word.now))) }
+        ensures opened { OnOk result (Opens self.old self.new (word_step (way_in self.old)
+            (state_told self.old) (token_at place word.now) (value_word_by (rules_in self.old)
+            word.now))) }
+        ensures told { OnOk result (Tells self.old self.new (word_step (way_in self.old)
+            (state_told self.old) (token_at place word.now) (value_word_by (rules_in self.old)
+            word.now))) }
         ensures rules { rules_in self.new ≡ rules_in self.old }
         ensures wires { wires_told self.new.wires ≡ wires_told self.old.wires }
     {
@@ -141,9 +147,15 @@ impl Machine {
     ) -> Result<(), AllocError>
         requires values { self.old.spot ≡ Place.Values }
         requires word { word.now ≡ first ∷ rest.now }
-        ensures state { OnOk result (state_told self.new ≡ (word_step (wired (rules_in self.old)) (state_told self.old) (record { place = place; word = word.now }) (value_word_by (rules_in self.old) word.now)).state) }
-        ensures opened { OnOk result (open_in self.new ≡ after_happenings (open_in self.old) (word_step (wired (rules_in self.old)) (state_told self.old) (record { place = place; word = word.now }) (value_word_by (rules_in self.old) word.now)).happenings) }
-        ensures told { OnOk result (events_told self.new.told.items ≡ events_told self.old.told.items ++ told_in (rules_in self.old) (open_in self.old) (word_step (wired (rules_in self.old)) (state_told self.old) (record { place = place; word = word.now }) (value_word_by (rules_in self.old) word.now)).happenings) }
+        ensures state { OnOk result (Becomes self.old self.new (word_step (way_in self.old)
+            (state_told self.old) (token_at place word.now) (value_word_by (rules_in self.old)
+            word.now))) }
+        ensures opened { OnOk result (Opens self.old self.new (word_step (way_in self.old)
+            (state_told self.old) (token_at place word.now) (value_word_by (rules_in self.old)
+            word.now))) }
+        ensures told { OnOk result (Tells self.old self.new (word_step (way_in self.old)
+            (state_told self.old) (token_at place word.now) (value_word_by (rules_in self.old)
+            word.now))) }
         ensures rules { rules_in self.new ≡ rules_in self.old }
         ensures wires { wires_told self.new.wires ≡ wires_told self.old.wires }
     {
@@ -174,9 +186,12 @@ impl Machine {
 
     /// A time stamp, of which `digits` stand after the number sign.
     fn stamp(&mut self, place: u64, line: u64, word: &[u8], digits: &[u8]) -> Result<(), AllocError>
-        ensures state { OnOk result (state_told self.new ≡ (word_step (wired (rules_in self.old)) (state_told self.old) (record { place = place; word = word.now }) (stamp_word (time_in digits.now))).state) }
-        ensures opened { OnOk result (open_in self.new ≡ after_happenings (open_in self.old) (word_step (wired (rules_in self.old)) (state_told self.old) (record { place = place; word = word.now }) (stamp_word (time_in digits.now))).happenings) }
-        ensures told { OnOk result (events_told self.new.told.items ≡ events_told self.old.told.items ++ told_in (rules_in self.old) (open_in self.old) (word_step (wired (rules_in self.old)) (state_told self.old) (record { place = place; word = word.now }) (stamp_word (time_in digits.now))).happenings) }
+        ensures state { OnOk result (Becomes self.old self.new (word_step (way_in self.old)
+            (state_told self.old) (token_at place word.now) (stamp_word (time_in digits.now)))) }
+        ensures opened { OnOk result (Opens self.old self.new (word_step (way_in self.old)
+            (state_told self.old) (token_at place word.now) (stamp_word (time_in digits.now)))) }
+        ensures told { OnOk result (Tells self.old self.new (word_step (way_in self.old)
+            (state_told self.old) (token_at place word.now) (stamp_word (time_in digits.now)))) }
         ensures rules { rules_in self.new ≡ rules_in self.old }
         ensures wires { wires_told self.new.wires ≡ wires_told self.old.wires }
     {
@@ -195,9 +210,12 @@ impl Machine {
 
     /// A time stamp of this time.
     fn stamped(&mut self, place: u64, line: u64, time: u64) -> Result<(), AllocError>
-        ensures state { OnOk result (state_told self.new ≡ (stamp_step (state_told self.old) place time self.old.time).state) }
-        ensures opened { OnOk result (open_in self.new ≡ after_happenings (open_in self.old) (stamp_step (state_told self.old) place time self.old.time).happenings) }
-        ensures told { OnOk result (events_told self.new.told.items ≡ events_told self.old.told.items ++ told_in (rules_in self.old) (open_in self.old) (stamp_step (state_told self.old) place time self.old.time).happenings) }
+        ensures state { OnOk result (Becomes self.old self.new (stamp_step (state_told self.old)
+            place time self.old.time)) }
+        ensures opened { OnOk result (Opens self.old self.new (stamp_step (state_told self.old)
+            place time self.old.time)) }
+        ensures told { OnOk result (Tells self.old self.new (stamp_step (state_told self.old)
+            place time self.old.time)) }
         ensures rules { rules_in self.new ≡ rules_in self.old }
         ensures wires { wires_told self.new.wires ≡ wires_told self.old.wires }
     {
@@ -218,9 +236,12 @@ impl Machine {
 
     /// A greater time, which ends the block.
     fn comes(&mut self, place: u64, line: u64, time: u64) -> Result<(), AllocError>
-        ensures state { OnOk result (state_told self.new ≡ (comes (state_told self.old) place time).state) }
-        ensures opened { OnOk result (open_in self.new ≡ after_happenings (open_in self.old) (comes (state_told self.old) place time).happenings) }
-        ensures told { OnOk result (events_told self.new.told.items ≡ events_told self.old.told.items ++ told_in (rules_in self.old) (open_in self.old) (comes (state_told self.old) place time).happenings) }
+        ensures state { OnOk result (Becomes self.old self.new (comes (state_told self.old) place
+            time)) }
+        ensures opened { OnOk result (Opens self.old self.new (comes (state_told self.old) place
+            time)) }
+        ensures told { OnOk result (Tells self.old self.new (comes (state_told self.old) place
+            time)) }
         ensures rules { rules_in self.new ≡ rules_in self.old }
         ensures wires { wires_told self.new.wires ≡ wires_told self.old.wires }
     {
@@ -238,9 +259,12 @@ impl Machine {
     /// A scalar change.
     fn scalar(&mut self, place: u64, word: &[u8], digit: u8, code: &[u8])
         requires values { self.old.spot ≡ Place.Values }
-        ensures state { state_told self.new ≡ (word_step (wired (rules_in self.old)) (state_told self.old) (record { place = place; word = word.now }) (scalar_word digit code.now)).state }
-        ensures opened { open_in self.new ≡ after_happenings (open_in self.old) (word_step (wired (rules_in self.old)) (state_told self.old) (record { place = place; word = word.now }) (scalar_word digit code.now)).happenings }
-        ensures told { events_told self.new.told.items ≡ events_told self.old.told.items ++ told_in (rules_in self.old) (open_in self.old) (word_step (wired (rules_in self.old)) (state_told self.old) (record { place = place; word = word.now }) (scalar_word digit code.now)).happenings }
+        ensures state { Becomes self.old self.new (word_step (way_in self.old) (state_told
+            self.old) (token_at place word.now) (scalar_word digit code.now)) }
+        ensures opened { Opens self.old self.new (word_step (way_in self.old) (state_told
+            self.old) (token_at place word.now) (scalar_word digit code.now)) }
+        ensures told { Tells self.old self.new (word_step (way_in self.old) (state_told self.old)
+            (token_at place word.now) (scalar_word digit code.now)) }
         ensures rules { rules_in self.new ≡ rules_in self.old }
         ensures wires { wires_told self.new.wires ≡ wires_told self.old.wires }
     {
@@ -257,9 +281,12 @@ impl Machine {
     /// A digit for what a code stands for.
     fn scalar_code(&mut self, place: u64, digit: u8, code: &[u8])
         requires values { self.old.spot ≡ Place.Values }
-        ensures state { state_told self.new ≡ (scalar_step (wired (rules_in self.old)) (state_told self.old) place digit (taps_in (wires_told self.old.wires).codes code.now)).state }
-        ensures opened { open_in self.new ≡ after_happenings (open_in self.old) (scalar_step (wired (rules_in self.old)) (state_told self.old) place digit (taps_in (wires_told self.old.wires).codes code.now)).happenings }
-        ensures told { events_told self.new.told.items ≡ events_told self.old.told.items ++ told_in (rules_in self.old) (open_in self.old) (scalar_step (wired (rules_in self.old)) (state_told self.old) place digit (taps_in (wires_told self.old.wires).codes code.now)).happenings }
+        ensures state { Becomes self.old self.new (scalar_step (way_in self.old) (state_told
+            self.old) place digit (taps_in (wires_told self.old.wires).codes code.now)) }
+        ensures opened { Opens self.old self.new (scalar_step (way_in self.old) (state_told
+            self.old) place digit (taps_in (wires_told self.old.wires).codes code.now)) }
+        ensures told { Tells self.old self.new (scalar_step (way_in self.old) (state_told
+            self.old) place digit (taps_in (wires_told self.old.wires).codes code.now)) }
         ensures rules { rules_in self.new ≡ rules_in self.old }
         ensures wires { wires_told self.new.wires ≡ wires_told self.old.wires }
     {
@@ -286,9 +313,15 @@ impl Machine {
 
     /// A vector, of which `digits` stand after the `b`.
     fn vector(&mut self, place: u64, word: &[u8], digits: &[u8]) -> Result<(), AllocError>
-        ensures state { OnOk result (state_told self.new ≡ (word_step (wired (rules_in self.old)) (state_told self.old) (record { place = place; word = word.now }) (vector_by (rules_in self.old) digits.now)).state) }
-        ensures opened { OnOk result (open_in self.new ≡ after_happenings (open_in self.old) (word_step (wired (rules_in self.old)) (state_told self.old) (record { place = place; word = word.now }) (vector_by (rules_in self.old) digits.now)).happenings) }
-        ensures told { OnOk result (events_told self.new.told.items ≡ events_told self.old.told.items ++ told_in (rules_in self.old) (open_in self.old) (word_step (wired (rules_in self.old)) (state_told self.old) (record { place = place; word = word.now }) (vector_by (rules_in self.old) digits.now)).happenings) }
+        ensures state { OnOk result (Becomes self.old self.new (word_step (way_in self.old)
+            (state_told self.old) (token_at place word.now) (vector_by (rules_in self.old)
+            digits.now))) }
+        ensures opened { OnOk result (Opens self.old self.new (word_step (way_in self.old)
+            (state_told self.old) (token_at place word.now) (vector_by (rules_in self.old)
+            digits.now))) }
+        ensures told { OnOk result (Tells self.old self.new (word_step (way_in self.old)
+            (state_told self.old) (token_at place word.now) (vector_by (rules_in self.old)
+            digits.now))) }
         ensures rules { rules_in self.new ≡ rules_in self.old }
         ensures wires { wires_told self.new.wires ≡ wires_told self.old.wires }
     {
@@ -312,9 +345,12 @@ impl Machine {
 
     /// A vector whose code is next.
     fn keep_vector(&mut self, place: u64, digits: &[u8]) -> Result<(), AllocError>
-        ensures state { OnOk result (state_told self.new ≡ (moves_to (state_told self.old) (AtCode place digits.now)).state) }
-        ensures opened { OnOk result (open_in self.new ≡ after_happenings (open_in self.old) (moves_to (state_told self.old) (AtCode place digits.now)).happenings) }
-        ensures told { OnOk result (events_told self.new.told.items ≡ events_told self.old.told.items ++ told_in (rules_in self.old) (open_in self.old) (moves_to (state_told self.old) (AtCode place digits.now)).happenings) }
+        ensures state { OnOk result (Becomes self.old self.new (moves_to (state_told self.old)
+            (AtCode place digits.now))) }
+        ensures opened { OnOk result (Opens self.old self.new (moves_to (state_told self.old)
+            (AtCode place digits.now))) }
+        ensures told { OnOk result (Tells self.old self.new (moves_to (state_told self.old)
+            (AtCode place digits.now))) }
         ensures rules { rules_in self.new ≡ rules_in self.old }
         ensures wires { wires_told self.new.wires ≡ wires_told self.old.wires }
     {
@@ -326,9 +362,12 @@ impl Machine {
 
     /// A real number or a string.
     fn foreign(&mut self, place: u64, word: &[u8])
-        ensures state { state_told self.new ≡ (word_step (wired (rules_in self.old)) (state_told self.old) (record { place = place; word = word.now }) Foreign).state }
-        ensures opened { open_in self.new ≡ after_happenings (open_in self.old) (word_step (wired (rules_in self.old)) (state_told self.old) (record { place = place; word = word.now }) Foreign).happenings }
-        ensures told { events_told self.new.told.items ≡ events_told self.old.told.items ++ told_in (rules_in self.old) (open_in self.old) (word_step (wired (rules_in self.old)) (state_told self.old) (record { place = place; word = word.now }) Foreign).happenings }
+        ensures state { Becomes self.old self.new (word_step (way_in self.old) (state_told
+            self.old) (token_at place word.now) Foreign) }
+        ensures opened { Opens self.old self.new (word_step (way_in self.old) (state_told
+            self.old) (token_at place word.now) Foreign) }
+        ensures told { Tells self.old self.new (word_step (way_in self.old) (state_told self.old)
+            (token_at place word.now) Foreign) }
         ensures rules { rules_in self.new ≡ rules_in self.old }
         ensures wires { wires_told self.new.wires ≡ wires_told self.old.wires }
     {
@@ -341,9 +380,15 @@ impl Machine {
 
     /// A word that begins with `$`.
     fn dollar(&mut self, place: u64, word: &[u8]) -> Result<(), AllocError>
-        ensures state { OnOk result (state_told self.new ≡ (word_step (wired (rules_in self.old)) (state_told self.old) (record { place = place; word = word.now }) (if is_read_past word.now then Mark else opens_section)).state) }
-        ensures opened { OnOk result (open_in self.new ≡ after_happenings (open_in self.old) (word_step (wired (rules_in self.old)) (state_told self.old) (record { place = place; word = word.now }) (if is_read_past word.now then Mark else opens_section)).happenings) }
-        ensures told { OnOk result (events_told self.new.told.items ≡ events_told self.old.told.items ++ told_in (rules_in self.old) (open_in self.old) (word_step (wired (rules_in self.old)) (state_told self.old) (record { place = place; word = word.now }) (if is_read_past word.now then Mark else opens_section)).happenings) }
+        ensures state { OnOk result (Becomes self.old self.new (word_step (way_in self.old)
+            (state_told self.old) (token_at place word.now) (if is_read_past word.now then Mark
+            else opens_section))) }
+        ensures opened { OnOk result (Opens self.old self.new (word_step (way_in self.old)
+            (state_told self.old) (token_at place word.now) (if is_read_past word.now then Mark
+            else opens_section))) }
+        ensures told { OnOk result (Tells self.old self.new (word_step (way_in self.old)
+            (state_told self.old) (token_at place word.now) (if is_read_past word.now then Mark
+            else opens_section))) }
         ensures rules { rules_in self.new ≡ rules_in self.old }
         ensures wires { wires_told self.new.wires ≡ wires_told self.old.wires }
     {
@@ -366,9 +411,12 @@ impl Machine {
 
     /// A word after which changes stand, or the end of them.
     fn mark(&mut self, word: &[u8]) -> Result<(), AllocError>
-        ensures state { OnOk result (state_told self.new ≡ (mark_step (wired (rules_in self.old)) (state_told self.old) word.now).state) }
-        ensures opened { OnOk result (open_in self.new ≡ after_happenings (open_in self.old) (mark_step (wired (rules_in self.old)) (state_told self.old) word.now).happenings) }
-        ensures told { OnOk result (events_told self.new.told.items ≡ events_told self.old.told.items ++ told_in (rules_in self.old) (open_in self.old) (mark_step (wired (rules_in self.old)) (state_told self.old) word.now).happenings) }
+        ensures state { OnOk result (Becomes self.old self.new (mark_step (way_in self.old)
+            (state_told self.old) word.now)) }
+        ensures opened { OnOk result (Opens self.old self.new (mark_step (way_in self.old)
+            (state_told self.old) word.now)) }
+        ensures told { OnOk result (Tells self.old self.new (mark_step (way_in self.old)
+            (state_told self.old) word.now)) }
         ensures rules { rules_in self.new ≡ rules_in self.old }
         ensures wires { wires_told self.new.wires ≡ wires_told self.old.wires }
     {
@@ -386,9 +434,12 @@ impl Machine {
 
     /// The dump stops for a time.
     fn stops(&mut self) -> Result<(), AllocError>
-        ensures state { OnOk result (state_told self.new ≡ (stops (wired (rules_in self.old)) (state_told self.old)).state) }
-        ensures opened { OnOk result (open_in self.new ≡ after_happenings (open_in self.old) (stops (wired (rules_in self.old)) (state_told self.old)).happenings) }
-        ensures told { OnOk result (events_told self.new.told.items ≡ events_told self.old.told.items ++ told_in (rules_in self.old) (open_in self.old) (stops (wired (rules_in self.old)) (state_told self.old)).happenings) }
+        ensures state { OnOk result (Becomes self.old self.new (stops (way_in self.old)
+            (state_told self.old))) }
+        ensures opened { OnOk result (Opens self.old self.new (stops (way_in self.old) (state_told
+            self.old))) }
+        ensures told { OnOk result (Tells self.old self.new (stops (way_in self.old) (state_told
+            self.old))) }
         ensures rules { rules_in self.new ≡ rules_in self.old }
         ensures wires { wires_told self.new.wires ≡ wires_told self.old.wires }
     {
@@ -399,9 +450,12 @@ impl Machine {
 
     /// It goes on.
     fn resumes(&mut self) -> Result<(), AllocError>
-        ensures state { OnOk result (state_told self.new ≡ (resumes (wired (rules_in self.old)) (state_told self.old)).state) }
-        ensures opened { OnOk result (open_in self.new ≡ after_happenings (open_in self.old) (resumes (wired (rules_in self.old)) (state_told self.old)).happenings) }
-        ensures told { OnOk result (events_told self.new.told.items ≡ events_told self.old.told.items ++ told_in (rules_in self.old) (open_in self.old) (resumes (wired (rules_in self.old)) (state_told self.old)).happenings) }
+        ensures state { OnOk result (Becomes self.old self.new (resumes (way_in self.old)
+            (state_told self.old))) }
+        ensures opened { OnOk result (Opens self.old self.new (resumes (way_in self.old)
+            (state_told self.old))) }
+        ensures told { OnOk result (Tells self.old self.new (resumes (way_in self.old) (state_told
+            self.old))) }
         ensures rules { rules_in self.new ≡ rules_in self.old }
         ensures wires { wires_told self.new.wires ≡ wires_told self.old.wires }
     {
@@ -428,9 +482,15 @@ impl Machine {
 
     /// The code of a vector.
     fn vector_code(&mut self, from: u64, place: u64, word: &[u8]) -> Result<(), AllocError>
-        ensures state { OnOk result (state_told self.new ≡ (if_short (state_told self.old) (record { place = place; word = word.now }) (vector_step (wired (rules_in self.old)) (state_told self.old) place from self.old.digits.items (taps_in (wires_told self.old.wires).codes word.now))).state) }
-        ensures opened { OnOk result (open_in self.new ≡ after_happenings (open_in self.old) (if_short (state_told self.old) (record { place = place; word = word.now }) (vector_step (wired (rules_in self.old)) (state_told self.old) place from self.old.digits.items (taps_in (wires_told self.old.wires).codes word.now))).happenings) }
-        ensures told { OnOk result (events_told self.new.told.items ≡ events_told self.old.told.items ++ told_in (rules_in self.old) (open_in self.old) (if_short (state_told self.old) (record { place = place; word = word.now }) (vector_step (wired (rules_in self.old)) (state_told self.old) place from self.old.digits.items (taps_in (wires_told self.old.wires).codes word.now))).happenings) }
+        ensures state { OnOk result (Becomes self.old self.new (if_short (state_told self.old)
+            (token_at place word.now) (vector_step (way_in self.old) (state_told self.old) place
+            from self.old.digits.items (taps_in (wires_told self.old.wires).codes word.now)))) }
+        ensures opened { OnOk result (Opens self.old self.new (if_short (state_told self.old)
+            (token_at place word.now) (vector_step (way_in self.old) (state_told self.old) place
+            from self.old.digits.items (taps_in (wires_told self.old.wires).codes word.now)))) }
+        ensures told { OnOk result (Tells self.old self.new (if_short (state_told self.old)
+            (token_at place word.now) (vector_step (way_in self.old) (state_told self.old) place
+            from self.old.digits.items (taps_in (wires_told self.old.wires).codes word.now)))) }
         ensures rules { rules_in self.new ≡ rules_in self.old }
         ensures wires { wires_told self.new.wires ≡ wires_told self.old.wires }
     {
@@ -458,11 +518,7 @@ impl Machine {
                 Ok(())
             }
             [_, ..] => {
-                let is_read = read_vector(
-                    self.rules,
-                    self.digits.as_slice(),
-                    &mut self.meant,
-                )?;
+                let is_read = read_vector(self.rules, self.digits.as_slice(), &mut self.meant)?;
                 if !is_read {
                     self.fault = Some(VcdFault {
                         place: from,
@@ -479,9 +535,15 @@ impl Machine {
 
     /// The code of a real number or a string.
     fn other_code(&mut self, place: u64, word: &[u8])
-        ensures state { state_told self.new ≡ (if_short (state_told self.old) (record { place = place; word = word.now }) (other_step (state_told self.old) place (taps_in (wires_told self.old.wires).codes word.now))).state }
-        ensures opened { open_in self.new ≡ after_happenings (open_in self.old) (if_short (state_told self.old) (record { place = place; word = word.now }) (other_step (state_told self.old) place (taps_in (wires_told self.old.wires).codes word.now))).happenings }
-        ensures told { events_told self.new.told.items ≡ events_told self.old.told.items ++ told_in (rules_in self.old) (open_in self.old) (if_short (state_told self.old) (record { place = place; word = word.now }) (other_step (state_told self.old) place (taps_in (wires_told self.old.wires).codes word.now))).happenings }
+        ensures state { Becomes self.old self.new (if_short (state_told self.old) (token_at place
+            word.now) (other_step (state_told self.old) place (taps_in (wires_told
+            self.old.wires).codes word.now))) }
+        ensures opened { Opens self.old self.new (if_short (state_told self.old) (token_at place
+            word.now) (other_step (state_told self.old) place (taps_in (wires_told
+            self.old.wires).codes word.now))) }
+        ensures told { Tells self.old self.new (if_short (state_told self.old) (token_at place
+            word.now) (other_step (state_told self.old) place (taps_in (wires_told
+            self.old.wires).codes word.now))) }
         ensures rules { rules_in self.new ≡ rules_in self.old }
         ensures wires { wires_told self.new.wires ≡ wires_told self.old.wires }
     {
@@ -499,9 +561,12 @@ impl Machine {
     /// A token in a section.
     fn remark(&mut self, place: u64, word: &[u8]) -> Result<(), AllocError>
         requires inside { self.old.spot ≡ Place.Remark }
-        ensures state { OnOk result (state_told self.new ≡ (remark_step (state_told self.old) (section_told self.old.section) (record { place = place; word = word.now })).state) }
-        ensures opened { OnOk result (open_in self.new ≡ after_happenings (open_in self.old) (remark_step (state_told self.old) (section_told self.old.section) (record { place = place; word = word.now })).happenings) }
-        ensures told { OnOk result (events_told self.new.told.items ≡ events_told self.old.told.items ++ told_in (rules_in self.old) (open_in self.old) (remark_step (state_told self.old) (section_told self.old.section) (record { place = place; word = word.now })).happenings) }
+        ensures state { OnOk result (Becomes self.old self.new (remark_step (state_told self.old)
+            (section_told self.old.section) (token_at place word.now))) }
+        ensures opened { OnOk result (Opens self.old self.new (remark_step (state_told self.old)
+            (section_told self.old.section) (token_at place word.now))) }
+        ensures told { OnOk result (Tells self.old self.new (remark_step (state_told self.old)
+            (section_told self.old.section) (token_at place word.now))) }
         ensures rules { rules_in self.new ≡ rules_in self.old }
         ensures wires { wires_told self.new.wires ≡ wires_told self.old.wires }
     {
@@ -518,9 +583,12 @@ impl Machine {
     /// A token at a place, where there was no fault before it.
     pub(crate) fn take(&mut self, place: u64, line: u64, word: &[u8]) -> Result<(), AllocError>
         requires fault { self.old.fault ≡ None }
-        ensures state { OnOk result (state_told self.new ≡ (step (wired (rules_in self.old)) (state_told self.old) (record { place = place; word = word.now })).state) }
-        ensures opened { OnOk result (open_in self.new ≡ after_happenings (open_in self.old) (step (wired (rules_in self.old)) (state_told self.old) (record { place = place; word = word.now })).happenings) }
-        ensures told { OnOk result (events_told self.new.told.items ≡ events_told self.old.told.items ++ told_in (rules_in self.old) (open_in self.old) (step (wired (rules_in self.old)) (state_told self.old) (record { place = place; word = word.now })).happenings) }
+        ensures state { OnOk result (Becomes self.old self.new (step (way_in self.old) (state_told
+            self.old) (token_at place word.now))) }
+        ensures opened { OnOk result (Opens self.old self.new (step (way_in self.old) (state_told
+            self.old) (token_at place word.now))) }
+        ensures told { OnOk result (Tells self.old self.new (step (way_in self.old) (state_told
+            self.old) (token_at place word.now))) }
         ensures rules { rules_in self.new ≡ rules_in self.old }
         ensures wires { wires_told self.new.wires ≡ wires_told self.old.wires }
     {

@@ -24,7 +24,7 @@ pub struct ValueReader {
 
 impl ValueReader {
     /// A reader that goes on after a header, which the cutter has read, with a course before
-    /// anything happens.
+    /// anything happens. The lines are unknown until they get a value.
     pub fn new(
         alloc: Global,
         rules: ScanRules,
@@ -39,6 +39,8 @@ impl ValueReader {
         ensures rules { rules_of result ≡ values_by rules course }
         ensures events { events_of result ≡ [] }
     {
+        let mut course = course;
+        course.forget(wires.lines.as_slice());
         ValueReader {
             cutter,
             machine: Machine::new(alloc, rules, wires, course),
@@ -50,12 +52,14 @@ impl ValueReader {
     /// the same way for good.
     pub fn feed(&mut self, piece: &[u8]) -> Result<(), ScanStop>
         // No `finish` has answered Ok, and the bytes fed are few enough to be counted.
-        requires { (head fed : List ℕ) × Stands self.old head fed × (length (head ++ fed) + length piece.now + 1 < 2 ^ 64) }
+        requires { (head fed : List ℕ) × Stands self.old head fed × (length (head ++ fed) + length
+            piece.now + 1 < 2 ^ 64) }
         ensures stands { (head fed : List ℕ) → Stands self.old head fed →
             Stands self.new head (fed ++ piece.now) }
         ensures refusal { refusal_of self.new ≡ refusal_in result }
         ensures keeps { Keeps self.old self.new }
-        ensures answer { (head fed : List ℕ) → Stands self.old head fed → refusal_of self.old ≡ None →
+        ensures answer { (head fed : List ℕ) → Stands self.old head fed → refusal_of self.old ≡
+            None →
             Answers result (known_after (rules_of self.old) (wiring_of self.old)
             (tokens_after head (fed ++ piece.now))).fault }
         ensures told { (head fed : List ℕ) → Stands self.old head fed → refusal_of self.old ≡ None →
@@ -77,7 +81,8 @@ impl ValueReader {
 
     /// The next piece, where nothing was refused.
     fn absorb(&mut self, piece: &[u8]) -> Result<(), ScanStop>
-        requires { (head fed : List ℕ) × Works self.old head fed × (length (head ++ fed) + length piece.now + 1 < 2 ^ 64) }
+        requires { (head fed : List ℕ) × Works self.old head fed × (length (head ++ fed) + length
+            piece.now + 1 < 2 ^ 64) }
         ensures works { (head fed : List ℕ) → Works self.old head fed →
             OnOk result (Works self.new head (fed ++ piece.now)) }
         ensures refusal { refusal_of self.new ≡ refusal_of self.old }
@@ -107,7 +112,8 @@ impl ValueReader {
     /// Tells how many.
     fn step(&mut self, bytes: &[u8]) -> Result<usize, AllocError>
         requires some { 0 < length bytes.now }
-        requires room { (head fed : List ℕ) × Works self.old head fed × (length (head ++ fed) + length bytes.now + 1 < 2 ^ 64) }
+        requires room { (head fed : List ℕ) × Works self.old head fed × (length (head ++ fed) +
+            length bytes.now + 1 < 2 ^ 64) }
         ensures some { IfOk result (λ len. 0 < len) }
         ensures within { IfOk result (λ len. len ≤ length bytes.now) }
         ensures reads { (head fed : List ℕ) → Works self.old head fed →
@@ -135,10 +141,12 @@ impl ValueReader {
     /// A text that ends early is refused here.
     pub fn finish(&mut self) -> Result<(), ScanStop>
         // No `finish` has answered Ok.
-        requires { (head fed : List ℕ) × Stands self.old head fed × (length (head ++ fed) + 1 < 2 ^ 64) }
+        requires { (head fed : List ℕ) × Stands self.old head fed × (length (head ++ fed) + 1 < 2
+            ^ 64) }
         ensures refusal { refusal_of self.new ≡ refusal_in result }
         ensures keeps { Keeps self.old self.new }
-        ensures answer { (head fed : List ℕ) → Stands self.old head fed → refusal_of self.old ≡ None →
+        ensures answer { (head fed : List ℕ) → Stands self.old head fed → refusal_of self.old ≡
+            None →
             Answers result (fault_behind (rules_of self.old) (wiring_of self.old)
             (last_tokens_after head fed) (length (head ++ fed))) }
         ensures told { (head fed : List ℕ) → Stands self.old head fed →
@@ -160,7 +168,8 @@ impl ValueReader {
 
     /// The end of the text, where nothing was refused.
     fn end(&mut self) -> Result<(), ScanStop>
-        requires { (head fed : List ℕ) × Works self.old head fed × (length (head ++ fed) + 1 < 2 ^ 64) }
+        requires { (head fed : List ℕ) × Works self.old head fed × (length (head ++ fed) + 1 < 2 ^
+            64) }
         ensures refusal { refusal_of self.new ≡ refusal_of self.old }
         ensures keeps { Keeps self.old self.new }
         ensures answer { (head fed : List ℕ) → Works self.old head fed →
@@ -190,7 +199,8 @@ impl ValueReader {
 
     /// The last token.
     fn last(&mut self) -> Result<(), AllocError>
-        requires { (head fed : List ℕ) × Works self.old head fed × (length (head ++ fed) + 1 < 2 ^ 64) }
+        requires { (head fed : List ℕ) × Works self.old head fed × (length (head ++ fed) + 1 < 2 ^
+            64) }
         ensures refusal { refusal_of self.new ≡ refusal_of self.old }
         ensures keeps { Keeps self.old self.new }
         ensures took { (head fed : List ℕ) → Works self.old head fed →

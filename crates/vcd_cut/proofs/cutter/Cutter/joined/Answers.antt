@@ -1,4 +1,4 @@
-use Rattle.std.proofs.Common.{◌≡◌, ◌<◌, ◌≤◌, length, sym, ap, ◌∙◌, arith}
+use Rattle.std.proofs.Common.{◌≤◌, length, ap, ◌∙◌, arith}
 use Rattle.vcd_cut.specs.declared.run.Run.{Run}
 use Rattle.vcd_cut.specs.Cutting.{cutting}
 use Rattle.vcd_cut.proofs.Cutting.{long_counted, joined_counted, kept_told}

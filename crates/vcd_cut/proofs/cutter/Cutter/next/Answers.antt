@@ -1,6 +1,6 @@
-use Rattle.std.proofs.Common.{◌≡◌, ◌+◌, [], ◌∷◌, ◌++◌, length, take, get_or, sym, ap, subst, ◌∙◌, arith}
+use Rattle.std.proofs.Common.{◌+◌, take, sym, ap, ◌∙◌, arith}
 use Rattle.std.proofs.lemmas.List.{take_more, take_all}
-use Rattle.vcd_cut.specs.Cutting.{cutting, after_cut, tokens_cut, tokens_in}
+use Rattle.vcd_cut.specs.Cutting.{cutting, after_cut, tokens_cut}
 use Rattle.vcd_cut.proofs.Cutting.{told_more}
 use Rattle.vcd_cut.proofs.Standings.{sound_stands, cut_stands, tokens_stand, line_stands_if}
 use Rattle.vcd_cut.proofs.cutter.Cutter.next.Goals as goal

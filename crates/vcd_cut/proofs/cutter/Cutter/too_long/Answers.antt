@@ -1,5 +1,5 @@
-use Rattle.std.proofs.Common.{◌≡◌, ◌+◌, ◌-◌, ◌≤◌, ◌++◌, [], ◌∷◌, length, sym, ap, ◌∙◌, arith}
-use Rattle.vcd_cut.specs.Cutting.{cutting, after_cut, Cutting}
+use Rattle.std.proofs.Common.{◌≡◌, ◌+◌, ◌≤◌, ◌++◌, length, ◌∙◌, arith}
+use Rattle.vcd_cut.specs.Cutting.{cutting}
 use Rattle.vcd_cut.proofs.TokenRuns.{over_tokens}
 use Rattle.vcd_cut.proofs.Cutting.{over_cut, kept_told}
 use Rattle.vcd_cut.proofs.cutter.Cutter.too_long.Goals as goal

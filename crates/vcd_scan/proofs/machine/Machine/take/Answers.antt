@@ -116,4 +116,3 @@ returns-in-OtherCode-clause-told c =
     ∙ sym (ap (λ (y : Step Wiring). events_told old.told.items ++ told_in (rules_in old) (open_in old) y.happenings)
     (step_is (rules_in old) (state_told old) t (AtOtherCode c.in-OtherCode.field-0) c.requires.fault
     (ap (λ p. spot_told p old.digits.items old.section) c.in-OtherCode.is)))
-
