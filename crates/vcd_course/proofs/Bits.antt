@@ -1,10 +1,8 @@
 -- The bits of a value, read from the left.
-use Rattle.std.proofs.Common.{◌≡◌, ℕ, ◌+◌, ◌-◌, ◌*◌, ◌^◌, ◌<◌, ◌≤◌, Bool, true, false, List, ◌++◌, length, get_or, drop}
-use Rattle.std.proofs.Common.{replicate, slice_index, cond, refl, sym, ap, ◌∙◌, arith, suc, zero}
+use Rattle.std.proofs.Common.{◌≡◌, ℕ, ◌+◌, ◌*◌, ◌^◌, ◌<◌, ◌≤◌, Bool, true, false, List, length, get_or, drop}
+use Rattle.std.proofs.Common.{cond, sym, ap, ◌∙◌, arith, suc}
 use Rattle.std.proofs.Math.Nat.{pow-succ'}
-use Rattle.std.proofs.lemmas.Nat.{pow_pos}
 use Rattle.std.proofs.lemmas.List.{drop_more, drop_all}
-use Rattle.vcd_grammar.specs.Digits.{extended, pad_of}
 use Rattle.vcd_grammar.specs.Levels.{bits_from}
 
 -- one more digit

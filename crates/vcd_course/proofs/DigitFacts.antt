@@ -1,6 +1,6 @@
 -- Single digits of a value that is extended, inverted and turned.
-use Rattle.std.proofs.Common.{◌≡◌, ℕ, ◌+◌, ◌-◌, ◌<◌, ◌≤◌, Bool, true, false, if◌then◌else◌, List, ◌++◌, length, take, drop, min}
-use Rattle.std.proofs.Common.{map, replicate, reverse, slice_index, get_or, refl, sym, ap, ◌∙◌, arith, length-append}
+use Rattle.std.proofs.Common.{◌≡◌, ℕ, ◌+◌, ◌-◌, ◌<◌, ◌≤◌, Bool, true, false, if◌then◌else◌, List, length, take, drop}
+use Rattle.std.proofs.Common.{replicate, reverse, slice_index, get_or, refl, ap, ◌∙◌, arith, length-append}
 use Rattle.std.proofs.lemmas.List.{get_or_append_left, get_or-append_right, get_or-replicate, get_or-map, get_or-take}
 use Rattle.std.proofs.lemmas.List.{get_or-drop, get_or-reverse, length-replicate, length-map, length-take, length-drop}
 use Rattle.std.proofs.lemmas.List.{length-reverse}
@@ -29,8 +29,12 @@ pub length_extended : (width : ℕ) (digits : List ℕ) → length digits ≤ wi
 unfolding extended
 length_extended width digits h =
     let pad = pad_of (slice_index digits 0) in
-    omega (arith, h, length-append (replicate (width - length digits) pad) digits,
-    length-replicate (width - length digits) pad)
+    omega (
+      arith,
+      h,
+      length-append (replicate (width - length digits) pad) digits,
+      length-replicate (width - length digits) pad,
+    )
 
 pub length_inverted : (b : Bool) (xs : List ℕ) → length (inverted_if b xs) ≡ length xs
 length_inverted true xs = length-map xs inverted_digit

@@ -1,13 +1,13 @@
 -- What is told step by step is what the pieces tell.
-use Rattle.std.proofs.Common.{◌≡◌, ℕ, ◌-◌, ◌<◌, List, [], ◌∷◌, ◌++◌, length, take, Option, Some, None, refl, sym, ap, ◌∙◌, arith}
+use Rattle.std.proofs.Common.{◌≡◌, ℕ, ◌-◌, ◌<◌, List, [], ◌∷◌, ◌++◌, length, take, Option, Some, refl, sym, ap, ◌∙◌, arith}
 use Rattle.std.proofs.Common.{append_assoc, append-nil, suc}
 use Rattle.vcd_way.specs.Ways.{ValueRules}
-use Rattle.vcd_way.specs.Pieces.{Stamp, TapChange, Happening, Comes, Gets, Switches, Piece, Changes, Switched, pieces_from, pieces_of, over}
-use Rattle.vcd_way.specs.Events.{Course, course_at_first, course_after, values_after, set_taps, unknown_in, DumpEvent}
+use Rattle.vcd_way.specs.Pieces.{Stamp, TapChange, Happening, Comes, Gets, Switches, Piece, Changes, Switched, pieces_from, over}
+use Rattle.vcd_way.specs.Events.{Course, course_after, values_after, set_taps, unknown_in}
 use Rattle.vcd_way.specs.Events.{events_from, sample_in_block, switch_event}
 use Rattle.vcd_way.specs.Steps.{unknown_from_here}
 use Rattle.vcd_grammar.specs.Values.{Values}
-use Rattle.vcd_course.specs.Opening.{OpenPiece, first_open, next_open, forgotten, after_happening, ended_in, told_at, after_happenings, told_in}
+use Rattle.vcd_course.specs.Opening.{OpenPiece, after_happening, ended_in, told_at, after_happenings, told_in}
 
 -- one thing more
 pub after-push : (o : OpenPiece) (hs : List Happening) (h : Happening)

@@ -1,9 +1,8 @@
 -- Rows of bytes as the digits of lines.
-use Rattle.std.proofs.Common.{◌≡◌, ℕ, ◌+◌, ◌-◌, ◌<◌, ◌≤◌, List, [], ◌∷◌, ◌++◌, length, take, drop, set, get_or, slice_get, slice_set}
-use Rattle.std.proofs.Common.{slice_index, replicate, zero, suc, Option, Some, None, refl, sym, ap, ◌∙◌, arith, map}
+use Rattle.std.proofs.Common.{◌≡◌, ℕ, List, [], ◌∷◌, length, take, set, get_or, slice_get}
+use Rattle.std.proofs.Common.{slice_index, replicate, zero, suc, refl, ap, arith}
 use Rattle.std.specs.Option.{option_map_or}
 use Rattle.fsb_signal.specs.Table.{TableEntry, table}
-use Rattle.fsb_signal.specs.DumpText.{width_of}
 use Rattle.vcd_grammar.specs.Values.{Values, clock_of, at_first}
 use Rattle.vcd_way.specs.Events.{digits_at}
 use Rattle.vcd_course.specs.Told.{values_in}

@@ -1,5 +1,5 @@
 -- The digits at the first edge.
-use Rattle.std.proofs.Common.{◌≡◌, ℕ, ◌<◌, Bool, if◌then◌else◌, List, [], ◌∷◌, length, take, get_or, zero, suc, refl, sym, ap, ◌∙◌}
+use Rattle.std.proofs.Common.{◌≡◌, ℕ, ◌<◌, if◌then◌else◌, List, [], ◌∷◌, length, take, get_or, zero, suc, refl, ap}
 use Rattle.std.proofs.Common.{arith, slice_index}
 use Rattle.vcd_grammar.specs.Digits.{is_unknown}
 use Rattle.vcd_grammar.specs.Values.{Values}

@@ -1,7 +1,7 @@
 -- A row of which some digits are written, one after another.
-use Rattle.std.proofs.Common.{◌≡◌, ℕ, ◌+◌, ◌-◌, ◌<◌, ◌≤◌, List, [], ◌∷◌, ◌++◌, length, take, drop, min, set, get_or, refl, sym}
-use Rattle.std.proofs.Common.{ap, ◌∙◌, arith, length-append, append_assoc, subst}
-use Rattle.std.proofs.lemmas.List.{take_more, take_more_set, drop_more, set_at, length-take, length-drop, take-take}
+use Rattle.std.proofs.Common.{◌≡◌, ℕ, ◌+◌, ◌-◌, ◌<◌, ◌≤◌, List, [], ◌∷◌, ◌++◌, length, take, drop, set, get_or, sym}
+use Rattle.std.proofs.Common.{ap, ◌∙◌, arith, length-append, append_assoc}
+use Rattle.std.proofs.lemmas.List.{take_more, take_more_set, drop_more, set_at, length-take, take-take}
 use Rattle.std.proofs.lemmas.List.{drop-take, take_all, take-append-drop, append-nil}
 use Rattle.std.proofs.Math.Seq.{take-append-add}
 use Rattle.vcd_way.specs.declared.tap.BitRun.{BitRun}

@@ -51,7 +51,12 @@ impl Rows {
         requires fits { length digits.now ≤ tap.now.width }
         ensures { rows_told self.new ≡ set_tap (rows_told self.old) tap.now digits.now }
     {
-        let row = tapped(self.rows[tap.line as usize], width_at(tap.line), tap, digits);
+        let row = tapped(
+            self.rows[tap.line as usize],
+            width_at(tap.line),
+            tap,
+            digits,
+        );
         self.rows[tap.line as usize] = row;
     }
 

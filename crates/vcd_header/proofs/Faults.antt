@@ -10,7 +10,7 @@ use Rattle.vcd_way.specs.Declarations.{DumpSection, Declaration, declaration_of,
 use Rattle.vcd_way.specs.Ways.{ValueRules}
 use Rattle.vcd_way.specs.Steps.{Spot, AtPreface, AtHeader, InSection, AtValues, AtCode, AtOtherCode, InRemark, DumpState}
 use Rattle.vcd_way.specs.Steps.{Step, breaks, reads_past, moves_to, if_short, header_step, declared_step, section_end}
-use Rattle.vcd_way.specs.Steps.{section_step, is_declaring, step_at, step, is_past_header_at}
+use Rattle.vcd_way.specs.Steps.{is_declaring, step_at, step, is_past_header_at}
 use Rattle.vcd_way.proofs.Interface.{sound-step}
 use Rattle.vcd_header.specs.Gathering.{gathering}
 

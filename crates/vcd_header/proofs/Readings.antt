@@ -1,6 +1,6 @@
 -- What bytes make of what was gathered.
 use Rattle.std.proofs.Common.{◌≡◌, ℕ, ◌+◌, ◌-◌, ◌<◌, ◌≤◌, Bool, true, false, if◌then◌else◌, is_some, List, [], ◌∷◌, ◌++◌, length, take}
-use Rattle.std.proofs.Common.{drop, Option, Some, None, Result, Ok, Err, refl, sym, ap, subst, ◌∙◌, arith, append_assoc}
+use Rattle.std.proofs.Common.{drop, Some, None, refl, sym, ap, subst, ◌∙◌, arith, append_assoc}
 use Rattle.std.proofs.lemmas.Bool.{false≢true}
 use Rattle.std.proofs.lemmas.List.{take-append-drop, take-take, drop-take, take_rest, append-nil, length-drop}
 use Rattle.vcd_grammar.specs.declared.fault.VcdFault.{VcdFault}
@@ -8,7 +8,7 @@ use Rattle.vcd_grammar.specs.declared.fault.VcdCause.TheVariants as causes
 use Rattle.vcd_grammar.specs.Tokens.{Token, tokens_so_far, tokens_of, tokens_from, open_run}
 use Rattle.vcd_way.specs.Declarations.{Declaration}
 use Rattle.vcd_way.specs.Ways.{ValueRules}
-use Rattle.vcd_way.specs.Steps.{Spot, DumpState, first_state, step, state_after, is_past_header_at}
+use Rattle.vcd_way.specs.Steps.{DumpState, first_state, step, state_after, is_past_header_at}
 use Rattle.vcd_way.specs.Answers.{fault_at_end}
 use Rattle.vcd_way.proofs.Interface.{state-append, tokens_longer, past-behind, fault-behind}
 use Rattle.vcd_header.specs.declared.gathered.Stage.{Stage}

@@ -1,12 +1,12 @@
 -- The way that gathers declarations and takes no line: every variable is let pass, and what it keeps
 -- of a header are the declarations, in their order.
-use Rattle.std.specs.Prelude.{◌≡◌, ℕ, Bool, List, [], ◌∷◌, ◌++◌, length, Option, Some, None, if◌then◌else◌}
+use Rattle.std.specs.Prelude.{◌≡◌, ℕ, List, [], ◌∷◌, ◌++◌, length, Option, Some, None, if◌then◌else◌}
 use Rattle.vcd_grammar.specs.declared.fault.VcdFault.{VcdFault}
 use Rattle.vcd_grammar.specs.Words.{same}
 use Rattle.vcd_grammar.specs.Tokens.{tokens_so_far, tokens_of}
 use Rattle.vcd_way.specs.declared.tap.Tap.{Tap}
-use Rattle.vcd_way.specs.Declarations.{DumpSection, Declaration}
-use Rattle.vcd_way.specs.Ways.{Kept, Keeps, ValueRules, Way}
+use Rattle.vcd_way.specs.Declarations.{Declaration}
+use Rattle.vcd_way.specs.Ways.{Keeps, ValueRules, Way}
 use Rattle.vcd_way.specs.Steps.{DumpState, is_past_header_at}
 use Rattle.vcd_way.specs.Answers.{state_of, fault_at_end}
 use Rattle.vcd_header.specs.declared.rules.HeaderRules.{HeaderRules}

@@ -1,5 +1,5 @@
 -- What the values of a header reader say.
-use Rattle.std.specs.Prelude.{ℕ, Bool, false, true, List, map, Vec, Option, None}
+use Rattle.std.specs.Prelude.{ℕ, Bool, false, true, List, map, Vec, None}
 use Rattle.vcd_way.specs.Declarations.{DumpSection, Declaration}
 use Rattle.vcd_way.specs.Steps.{Spot, AtPreface, AtHeader, InSection, AtValues, DumpState}
 use Rattle.vcd_header.specs.declared.declared.Declared.{Declared}

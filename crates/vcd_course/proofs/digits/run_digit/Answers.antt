@@ -1,4 +1,4 @@
-use Rattle.std.proofs.Common.{◌≡◌, ◌+◌, ◌-◌, ◌≤◌, slice_index, length, sym, ap, ◌∙◌, arith}
+use Rattle.std.proofs.Common.{◌≡◌, ◌+◌, ◌-◌, slice_index, length, sym, ap, ◌∙◌, arith}
 use Rattle.vcd_grammar.specs.Digits.{extended}
 use Rattle.vcd_way.specs.Events.{inverted_if}
 use Rattle.vcd_course.proofs.DigitFacts.{length_extended, length_inverted, run_straight, run_turned}

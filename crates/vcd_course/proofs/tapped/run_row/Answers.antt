@@ -1,5 +1,4 @@
-use Rattle.std.proofs.Common.{◌≡◌, ◌+◌, ◌-◌, ◌++◌, [], length, take, drop, set, sym, ap, ◌∙◌, arith, length-set}
-use Rattle.std.proofs.lemmas.List.{take-append-drop, append-nil}
+use Rattle.std.proofs.Common.{◌≡◌, ◌+◌, ◌-◌, length, set, ap, ◌∙◌, arith, length-set}
 use Rattle.vcd_grammar.specs.Digits.{extended}
 use Rattle.vcd_way.specs.Events.{inverted_if, run_of}
 use Rattle.vcd_course.proofs.DigitFacts.{length_extended, length_inverted, length_run}

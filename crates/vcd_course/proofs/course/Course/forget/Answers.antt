@@ -1,4 +1,4 @@
-use Rattle.std.proofs.Common.{ap, ◌∙◌}
+use Rattle.std.proofs.Common.{◌∙◌}
 use Rattle.vcd_course.specs.Opening.{OpenPiece}
 use Rattle.vcd_course.specs.Told.{open_told}
 use Rattle.vcd_course.proofs.Opening.{forgotten_from_here}
