@@ -1,12 +1,11 @@
 -- A value reader that has read more bytes.
-use Rattle.std.proofs.Common.{◌≡◌, ℕ, ◌+◌, ◌-◌, List, [], ◌∷◌, ◌++◌, length, take, drop, true, is_some, Option, Some, None, refl, sym, ap, subst}
-use Rattle.std.proofs.Common.{◌∙◌, append-nil, append_assoc}
-use Rattle.vcd_grammar.specs.declared.fault.VcdFault.{VcdFault}
+use Rattle.std.proofs.Common.{◌≡◌, ℕ, ◌+◌, ◌-◌, List, ◌++◌, length, take, drop, true, is_some, sym, ap}
+use Rattle.std.proofs.Common.{◌∙◌, append_assoc}
 use Rattle.vcd_grammar.specs.Tokens.{Token, tokens_from, open_run, open_run_from}
 use Rattle.vcd_way.specs.Ways.{ValueRules}
 use Rattle.vcd_way.specs.Steps.{DumpState, state_after, happenings_in}
 use Rattle.vcd_way.specs.Events.{DumpEvent}
-use Rattle.vcd_course.specs.Opening.{OpenPiece, after_happenings, ended_in, told_in}
+use Rattle.vcd_course.specs.Opening.{after_happenings, ended_in, told_in}
 use Rattle.vcd_scan.specs.declared.reader.ValueReader.{ValueReader}
 use Rattle.vcd_scan.specs.Wired.{Wiring, wired}
 use Rattle.vcd_scan.specs.Told.{state_told, open_in}

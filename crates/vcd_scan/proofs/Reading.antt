@@ -1,25 +1,20 @@
 -- What further tokens make of a value reader.
-use Rattle.std.proofs.Common.{◌≡◌, ℕ, ◌+◌, ◌-◌, ◌≤◌, Bool, true, if◌then◌else◌, is_some, List, [], ◌∷◌, ◌++◌, length, take, drop}
-use Rattle.std.proofs.Common.{Option, Some, None, refl, sym, ap, subst, ◌∙◌, arith, append_assoc, append-nil}
+use Rattle.std.proofs.Common.{◌≡◌, ℕ, ◌+◌, ◌-◌, true, if◌then◌else◌, is_some, List, [], ◌∷◌, ◌++◌, length, take, drop}
+use Rattle.std.proofs.Common.{refl, sym, ap, ◌∙◌, arith, append_assoc, append-nil}
 use Rattle.std.proofs.lemmas.List.{append_cancel_left, take-append-drop, take-take, drop-take, take_rest}
-use Rattle.vcd_grammar.specs.declared.fault.VcdFault.{VcdFault}
 use Rattle.vcd_grammar.specs.Tokens.{Token, tokens_so_far, tokens_of, tokens_from, open_run, open_run_from, ended_at}
-use Rattle.vcd_grammar.proofs.Interface.{tokens-append, open-append}
+use Rattle.vcd_grammar.proofs.Interface.{tokens-append}
 use Rattle.vcd_way.specs.Ways.{ValueRules, Way}
-use Rattle.vcd_way.specs.Pieces.{Happening}
 use Rattle.vcd_way.specs.Steps.{DumpState, step, reads_past, step_at, state_after, happenings_in}
 use Rattle.vcd_way.specs.Events.{DumpEvent}
 use Rattle.vcd_way.proofs.Interface.{state-append, tokens_longer, fault-behind}
-use Rattle.vcd_course.specs.Opening.{OpenPiece, after_happenings, told_in}
+use Rattle.vcd_course.specs.Opening.{after_happenings, told_in}
 use Rattle.vcd_course.proofs.Interface.{after-append, told-append}
 use Rattle.vcd_scan.specs.Wired.{Wiring, wired}
 use Rattle.vcd_scan.specs.Begun.{begun}
 use Rattle.vcd_scan.specs.Standing.{first_open_of, tokens_after, last_tokens_after, known_after, open_after, told_after, Appends}
 
 -- ---- tokens
-
-abbrev same_rules : ValueRules → Way Wiring
-same_rules m = wired m
 
 pub happenings-append : {W : Type 0} (way : Way W) (s : DumpState W) (ts us : List Token)
     → happenings_in way s (ts ++ us) ≡ happenings_in way s ts ++ happenings_in way (state_after way s ts) us

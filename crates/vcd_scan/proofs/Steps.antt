@@ -1,5 +1,5 @@
 -- What a token does in its place, and a value for some taps.
-use Rattle.std.proofs.Common.{◌≡◌, ℕ, ◌<◌, ◌≤◌, Bool, true, false, ◌&&◌, ◌||◌, if◌then◌else◌, nat_lt, nat_le, List, [], ◌∷◌, length}
+use Rattle.std.proofs.Common.{◌≡◌, ℕ, ◌≤◌, Bool, true, false, ◌&&◌, ◌||◌, if◌then◌else◌, nat_lt, nat_le, List, [], ◌∷◌, length}
 use Rattle.std.proofs.Common.{Option, Some, None, option_map, suc, refl, sym, ap, ◌∙◌, arith}
 use Rattle.std.specs.List.{list_all, list_any}
 use Rattle.std.proofs.lemmas.Bool.{and_parts, leb-true, le-ltb}
@@ -10,7 +10,7 @@ use Rattle.vcd_way.specs.Ways.{ValueRules}
 use Rattle.vcd_way.specs.Pieces.{Gets}
 use Rattle.vcd_way.specs.Lawful.{is_line, is_lawful_tap, is_part_within}
 use Rattle.fsb_signal.specs.DumpText.{width_of}
-use Rattle.vcd_way.specs.Steps.{Spot, AtValues, DumpState, Step, step, step_at, breaks, given, if_short, vector_step, vector_digits}
+use Rattle.vcd_way.specs.Steps.{Spot, AtValues, DumpState, step, step_at, breaks, given, if_short, vector_step, vector_digits}
 use Rattle.vcd_way.specs.Steps.{is_too_wide_for, is_unreadable, digits_by, one_more}
 use Rattle.vcd_way.proofs.Interface.{sound-step}
 use Rattle.vcd_scan.specs.Digits.{digit_by, all_digits}

@@ -1,5 +1,5 @@
 -- The digits that bytes mean.
-use Rattle.std.specs.Prelude.{ℕ, Bool, List, [], ◌∷◌, Option, Some, None, if◌then◌else◌}
+use Rattle.std.specs.Prelude.{ℕ, Bool, List, [], ◌∷◌, Option, Some, if◌then◌else◌}
 use Rattle.vcd_way.specs.Wide.{wide_digit}
 use Rattle.vcd_way.specs.Strict.{strict_digit}
 use Rattle.vcd_way.specs.Steps.{one_more}

@@ -1,10 +1,10 @@
-use Rattle.std.proofs.Common.{◌≡◌, ◌++◌, sym, ap, ◌∙◌}
+use Rattle.std.proofs.Common.{◌++◌, sym, ap, ◌∙◌}
 use Rattle.std.proofs.lemmas.Result.{on_ok_weaker}
 use Rattle.vcd_grammar.specs.Tokens.{Token}
-use Rattle.vcd_way.specs.Steps.{Spot, AtValues, AtCode, AtOtherCode, InRemark, Step, step, step_at}
+use Rattle.vcd_way.specs.Steps.{AtValues, AtCode, AtOtherCode, InRemark, Step}
 use Rattle.vcd_header.specs.Told.{section_told}
 use Rattle.vcd_course.specs.Opening.{after_happenings, told_in}
-use Rattle.vcd_scan.specs.Wired.{Wiring, wired}
+use Rattle.vcd_scan.specs.Wired.{Wiring}
 use Rattle.vcd_scan.specs.Told.{rules_in, state_told, open_in, events_told, spot_told}
 use Rattle.vcd_scan.proofs.Steps.{step_is}
 use Rattle.vcd_scan.proofs.machine.Machine.take.Goals as goal

@@ -1,4 +1,4 @@
-use Rattle.std.proofs.Common.{◌≡◌, Bool, false, if◌then◌else◌, Some, None, sym, ap, ◌∙◌, refl, subst, arith}
+use Rattle.std.proofs.Common.{◌≡◌, false, if◌then◌else◌, Some, None, sym, ap, ◌∙◌, refl, arith}
 use Rattle.vcd_grammar.specs.Tokens.{Token, is_long}
 use Rattle.vcd_way.specs.Steps.{Step, vector_digits, is_too_wide_for}
 use Rattle.vcd_way.specs.Events.{set_taps}

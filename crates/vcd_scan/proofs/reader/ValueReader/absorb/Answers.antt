@@ -1,5 +1,4 @@
-use Rattle.std.proofs.Common.{◌≡◌, ◌+◌, ◌++◌, [], take, Some, is_some, refl, sym, ap, subst, ◌∙◌, arith, append-nil}
-use Rattle.std.proofs.lemmas.List.{take_all}
+use Rattle.std.proofs.Common.{◌≡◌, ◌+◌, ◌++◌, take, Some, is_some, refl, sym, ap, subst, ◌∙◌, arith, append-nil}
 use Rattle.vcd_way.specs.Steps.{DumpState}
 use Rattle.vcd_scan.specs.Wired.{Wiring}
 use Rattle.vcd_scan.specs.Standing.{Reads, Works, Keeps, Appends, rules_of, wiring_of, events_of, tokens_after, known_after, told_after}

@@ -1,4 +1,4 @@
-use Rattle.std.proofs.Common.{◌≡◌, ◌++◌, length, None, Some, if◌then◌else◌, sym, ap, ◌∙◌}
+use Rattle.std.proofs.Common.{◌++◌, length, None, Some, if◌then◌else◌, sym, ap, ◌∙◌}
 use Rattle.vcd_way.specs.Answers.{fault_at_end}
 use Rattle.vcd_grammar.specs.declared.fault.VcdCause.TheVariants as causes
 use Rattle.vcd_scan.specs.Told.{state_told}
