@@ -15,6 +15,7 @@ pub(crate) fn usage<'a>(alloc: Global) -> Result<Command<'a>, AllocError> {
         .about("Judges and explains the dump of a snooping bus, whatever tool wrote it")
         .version(VERSION)
         .propagate_version(true)
+        .bin_name("p6scope")?
         .no_binary_name(true)
         .disable_help_subcommand(true)
         .subcommand_required(true)
@@ -27,18 +28,21 @@ pub(crate) fn usage<'a>(alloc: Global) -> Result<Command<'a>, AllocError> {
 
 fn lines<'a>(alloc: Global) -> Result<Command<'a>, AllocError> {
     Command::new(alloc, "lines")
+        .display_name("p6scope")?
         .about("Lists the scopes and the lines of the bus that a dump declares, and what is missing")
         .arg(dump(alloc))
 }
 
 fn check<'a>(alloc: Global) -> Result<Command<'a>, AllocError> {
     let check = Command::new(alloc, "check")
+        .display_name("p6scope")?
         .about("Says whether the bus keeps its rules, and explains the first one that it breaks");
     with_part(alloc, with_wires(alloc, check.arg(dump(alloc))?)?)
 }
 
 fn pick<'a>(alloc: Global) -> Result<Command<'a>, AllocError> {
     let pick = Command::new(alloc, "pick")
+        .display_name("p6scope")?
         .about("Writes the lines of the bus as a dump of its own, for p6bench and any viewer");
     with_part(alloc, with_wires(alloc, pick.arg(dump(alloc))?)?)
 }
@@ -48,6 +52,7 @@ fn rule<'a>(alloc: Global) -> Result<Command<'a>, AllocError> {
         .value_name("N")
         .help("The number of a rule, 1 to 31; without it all titles are listed");
     Command::new(alloc, "rule")
+        .display_name("p6scope")?
         .about("Prints the text of a rule")
         .arg(number)
 }
