@@ -180,6 +180,7 @@ pub(crate) fn in_full(alloc: Global, row: &str) -> Result<String, AllocError> {
     let row = row.replace(alloc, "NOTHING", "without [] file - rise false after []")?;
     let row = row.replace(alloc, "WHOLE", "at - from - to - quiet 32")?;
     let row = row.replace(alloc, "LINES", crate::texts::LINES)?;
+    let row = row.replace(alloc, "CLOCK", crate::texts::CLOCK)?;
     row.replace(alloc, "JUDGED", crate::texts::JUDGED)
 }
 

@@ -19,7 +19,7 @@ pub(crate) fn read_number(most: usize, word: &[u8]) -> Option<u64>
 }
 
 /// A number of clocks, or the number of one: 1 to 10 decimal digits, below 2^32.
-#[tactic(auto, unfolding(crate::specs::Numbers::count_in))]
+#[tactic(auto, unfolding(crate::specs::Numbers::count_in, crate::specs::Numbers::small))]
 pub fn read_count(word: &[u8]) -> Option<u32>
     ensures { result ≡ count_in word.now }
 {
@@ -32,7 +32,7 @@ pub fn read_count(word: &[u8]) -> Option<u32>
 }
 
 /// The number of a rule: 1 to 31, with 1 or 2 decimal digits.
-#[tactic(auto, unfolding(crate::specs::Numbers::rule_in))]
+#[tactic(auto, unfolding(crate::specs::Numbers::rule_in, crate::specs::Numbers::as_rule))]
 pub fn read_rule(word: &[u8]) -> Option<u8>
     ensures rule { result ≡ rule_in word.now }
     ensures within { IfSome result (λ n. (1 ≤ n) × (n ≤ 31)) }
