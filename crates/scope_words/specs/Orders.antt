@@ -1,6 +1,6 @@
 -- What holds of an order, and of the texts that stand in place of one.
-use Rattle.std.specs.Prelude.{◌≡◌, ◌≤◌, ◌<◌, ℕ, Bool, true, false, nat_lt, ⊤, ⊎, List, length, Option, Some, None, IfSome}
-use Rattle.std.specs.List.{All}
+use Rattle.std.specs.Prelude.{◌≡◌, ◌≤◌, ℕ, Bool, true, false, nat_lt, ⊤, ◌⊎◌, List, length, Option, Some, None, IfSome}
+use Rattle.scope_words.specs.Names.{Lines}
 use Rattle.scope_words.specs.declared.moment.Moment.{Moment}
 use Rattle.scope_words.specs.declared.moment.Moment.TheVariants.{Clock, Time}
 use Rattle.scope_words.specs.declared.order.Order.{Order}
@@ -17,13 +17,13 @@ abbrev pub IsError : Stop → Type 0
 IsError (stops.Told told) = told.is_error ≡ true
 IsError stops.Memory = ⊤
 
+-- memory lacked
+abbrev pub LacksMemory : Stop → Type 0
+LacksMemory stop = stop ≡ stops.Memory
+
 -- a name: 1 to 4,096 bytes
 abbrev pub IsName : List ℕ → Type 0
 IsName word = (1 ≤ length word) × (length word ≤ 4096)
-
--- numbers of lines of the bus
-abbrev pub Lines : List ℕ → Type 0
-Lines lines = All (λ line. line < 22) lines
 
 -- what an order says of the wires
 abbrev pub KeepsWires : Wires → Type 0

@@ -1,7 +1,7 @@
 //! The part of a dump that an order names.
 
 ghost use Rattle.std.specs.Prelude.{◌≡◌, ◌≤◌, IfOk, IfErr};
-ghost use Rattle.scope_words.specs.Orders.{IsError, KeepsPart};
+ghost use Rattle.scope_words.specs.Orders.{IsError, KeepsPart, ends_before};
 
 use crate::moment::{Moment, read_moment};
 use crate::number::read_count;

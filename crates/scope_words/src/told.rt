@@ -31,18 +31,30 @@ pub(crate) enum Stop {
 }
 
 impl From<AllocError> for Stop {
+    ghost use Rattle.scope_words.specs.Orders.{LacksMemory};
+
+    ghost from_gives = { λ _ stop. LacksMemory stop };
+
     fn from(_error: AllocError) -> Stop {
         Stop::Memory
     }
 }
 
 impl<T: Drop> From<AllocFailed<T>> for Stop {
+    ghost use Rattle.scope_words.specs.Orders.{LacksMemory};
+
+    ghost from_gives = { λ _ stop. LacksMemory stop };
+
     fn from(_error: AllocFailed<T>) -> Stop {
         Stop::Memory
     }
 }
 
 impl From<Memory> for Stop {
+    ghost use Rattle.scope_words.specs.Orders.{LacksMemory};
+
+    ghost from_gives = { λ _ stop. LacksMemory stop };
+
     fn from(_error: Memory) -> Stop {
         Stop::Memory
     }

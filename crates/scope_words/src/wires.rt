@@ -1,7 +1,10 @@
 //! The wires that an order names.
 
-ghost use Rattle.std.specs.Prelude.{◌≡◌, ◌≤◌, ◌<◌, IfOk, IfErr, IfSome, length};
-ghost use Rattle.scope_words.specs.Orders.{IsError, IsName, KeepsWires, Lines};
+ghost use Rattle.std.specs.Prelude.{◌≡◌, IfOk, IfErr, IfSome, Some, map};
+ghost use Rattle.scope_wiring.specs.Settling.{said_by};
+ghost use Rattle.scope_wiring.specs.Texts.{said};
+ghost use Rattle.scope_words.specs.Names.{Lines};
+ghost use Rattle.scope_words.specs.Orders.{IsError, IsName, KeepsWires};
 
 use crate::names::read_line_names;
 use crate::order::{Edge, Wires};
@@ -92,6 +95,8 @@ fn edge_of(alloc: Global, found: &ArgMatches<'_>) -> Result<Edge, Stop>
 
 // What the words behind `--line` say, in their order.
 fn line_options(alloc: Global, words: &[&str]) -> Result<Vec<LineOption>, Stop>
+    ensures ok { IfOk result (λ v. map (λ o. Some (said_by o)) v.items
+        ≡ map (λ w. said w.now) words.now) }
     ensures err { IfErr result IsError }
 {
     let mut options = Vec::new(alloc);
