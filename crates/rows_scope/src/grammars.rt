@@ -33,10 +33,16 @@ const MOMENTS: [(&str, Option<Moment>); 22] = [
     ("4ps", Some(Moment::Time(4, Unit::Picosecond))),
     ("5fs", Some(Moment::Time(5, Unit::Femtosecond))),
     ("0fs", Some(Moment::Time(0, Unit::Femtosecond))),
-    ("9999999999999999999fs", Some(Moment::Time(9999999999999999999, Unit::Femtosecond))),
+    (
+        "9999999999999999999fs",
+        Some(Moment::Time(9999999999999999999, Unit::Femtosecond)),
+    ),
     ("10000000000000000000fs", None),
     ("00000000000000000001fs", None),
-    ("0000000000000000001fs", Some(Moment::Time(1, Unit::Femtosecond))),
+    (
+        "0000000000000000001fs",
+        Some(Moment::Time(1, Unit::Femtosecond)),
+    ),
     ("285NS", None),
     ("285 ns", None),
     ("285n", None),

@@ -49,7 +49,10 @@ fn told_wires(alloc: Global, wires: &Wires<'_>) -> Result<String, AllocError> {
         Edge::Fall => "fall",
     };
     let first = wires.is_first;
-    write!(text, "without {without:?} file {file} {edge} {first} after {after:?}")?;
+    write!(
+        text,
+        "without {without:?} file {file} {edge} {first} after {after:?}"
+    )?;
     Ok(text)
 }
 
@@ -93,12 +96,30 @@ const ORDERS: [(&str, &str); 41] = [
     ("rule|1", "rule Some(1)"),
     ("rule|07", "rule Some(7)"),
     ("rule|31", "rule Some(31)"),
-    ("check|a.vcd", "check a.vcd; NOTHING; at - from - to - quiet 32"),
-    ("pick|a.vcd", "pick a.vcd; NOTHING; at - from - to - quiet 32"),
-    ("check|check", "check check; NOTHING; at - from - to - quiet 32"),
-    ("check|--at|5|a.vcd", "check a.vcd; NOTHING; at 5 from - to - quiet 32"),
-    ("check|a.vcd|--at=5", "check a.vcd; NOTHING; at 5 from - to - quiet 32"),
-    ("check|--at=0|a.vcd", "check a.vcd; NOTHING; at 0 from - to - quiet 32"),
+    (
+        "check|a.vcd",
+        "check a.vcd; NOTHING; at - from - to - quiet 32",
+    ),
+    (
+        "pick|a.vcd",
+        "pick a.vcd; NOTHING; at - from - to - quiet 32",
+    ),
+    (
+        "check|check",
+        "check check; NOTHING; at - from - to - quiet 32",
+    ),
+    (
+        "check|--at|5|a.vcd",
+        "check a.vcd; NOTHING; at 5 from - to - quiet 32",
+    ),
+    (
+        "check|a.vcd|--at=5",
+        "check a.vcd; NOTHING; at 5 from - to - quiet 32",
+    ),
+    (
+        "check|--at=0|a.vcd",
+        "check a.vcd; NOTHING; at 0 from - to - quiet 32",
+    ),
     (
         "check|--from=4294967295|a.vcd",
         "check a.vcd; NOTHING; at - from 4294967295 to - quiet 32",
@@ -115,22 +136,58 @@ const ORDERS: [(&str, &str); 41] = [
         "check|--at|10|--to|5ns|a.vcd",
         "check a.vcd; NOTHING; at 10 from - to 5Nanosecond quiet 32",
     ),
-    ("check|--to|0s|a.vcd", "check a.vcd; NOTHING; at - from - to 0Second quiet 32"),
-    ("check|--quiet|1|a.vcd", "check a.vcd; NOTHING; at - from - to - quiet 1"),
+    (
+        "check|--to|0s|a.vcd",
+        "check a.vcd; NOTHING; at - from - to 0Second quiet 32",
+    ),
+    (
+        "check|--quiet|1|a.vcd",
+        "check a.vcd; NOTHING; at - from - to - quiet 1",
+    ),
     (
         "check|--quiet=4294967295|a.vcd",
         "check a.vcd; NOTHING; at - from - to - quiet 4294967295",
     ),
-    ("check|--scope|tb.dut.bus|a.vcd", "check a.vcd; scope tb.dut.bus NOTHING; WHOLE"),
-    ("check|--scope=.|a.vcd", "check a.vcd; scope . NOTHING; WHOLE"),
-    ("check|--line|ADS_n=tb.ads|a.vcd", "check a.vcd; line 8=tb.ads NOTHING; WHOLE"),
-    ("check|--line=ADS_n=tb.ads|a.vcd", "check a.vcd; line 8=tb.ads NOTHING; WHOLE"),
-    ("check|--line|ads#=tb.ads|a.vcd", "check a.vcd; line 8=tb.ads NOTHING; WHOLE"),
-    ("check|--line|ADS_L=tb.ads|a.vcd", "check a.vcd; line 8=tb.ads NOTHING; WHOLE"),
-    ("check|--line|BCLK=tb.clk|a.vcd", "check a.vcd; line 0=tb.clk NOTHING; WHOLE"),
-    ("check|--line|HIT_n=!tb.hit|a.vcd", "check a.vcd; line 12=!tb.hit NOTHING; WHOLE"),
-    ("check|--line|A_n=tb.a[3:35]|a.vcd", "check a.vcd; line 10=tb.a[3:35] NOTHING; WHOLE"),
-    ("check|--line|A_n=x=y|a.vcd", "check a.vcd; line 10=x=y NOTHING; WHOLE"),
+    (
+        "check|--scope|tb.dut.bus|a.vcd",
+        "check a.vcd; scope tb.dut.bus NOTHING; WHOLE",
+    ),
+    (
+        "check|--scope=.|a.vcd",
+        "check a.vcd; scope . NOTHING; WHOLE",
+    ),
+    (
+        "check|--line|ADS_n=tb.ads|a.vcd",
+        "check a.vcd; line 8=tb.ads NOTHING; WHOLE",
+    ),
+    (
+        "check|--line=ADS_n=tb.ads|a.vcd",
+        "check a.vcd; line 8=tb.ads NOTHING; WHOLE",
+    ),
+    (
+        "check|--line|ads#=tb.ads|a.vcd",
+        "check a.vcd; line 8=tb.ads NOTHING; WHOLE",
+    ),
+    (
+        "check|--line|ADS_L=tb.ads|a.vcd",
+        "check a.vcd; line 8=tb.ads NOTHING; WHOLE",
+    ),
+    (
+        "check|--line|BCLK=tb.clk|a.vcd",
+        "check a.vcd; line 0=tb.clk NOTHING; WHOLE",
+    ),
+    (
+        "check|--line|HIT_n=!tb.hit|a.vcd",
+        "check a.vcd; line 12=!tb.hit NOTHING; WHOLE",
+    ),
+    (
+        "check|--line|A_n=tb.a[3:35]|a.vcd",
+        "check a.vcd; line 10=tb.a[3:35] NOTHING; WHOLE",
+    ),
+    (
+        "check|--line|A_n=x=y|a.vcd",
+        "check a.vcd; line 10=x=y NOTHING; WHOLE",
+    ),
     (
         "check|--line|ADS_n=a|--line|BNR_n=b|--line|ADS_n=c|a.vcd",
         "check a.vcd; line 8=a line 7=b line 8=c NOTHING; WHOLE",
@@ -156,7 +213,10 @@ const ORDERS: [(&str, &str); 41] = [
         "check a.vcd; without [] file - fall false after []; WHOLE",
     ),
     ("check|--edge=rise|a.vcd", "check a.vcd; NOTHING; WHOLE"),
-    ("check|--first|a.vcd", "check a.vcd; without [] file - rise true after []; WHOLE"),
+    (
+        "check|--first|a.vcd",
+        "check a.vcd; without [] file - rise true after []; WHOLE",
+    ),
     (
         "check|--after|ADS_n|a.vcd",
         "check a.vcd; without [] file - rise false after [8]; WHOLE",

@@ -46,7 +46,11 @@ fn order_of<'a>(alloc: Global, words: &'a [String]) -> Result<Order<'a>, Stop>
 fn no_verb(alloc: Global) -> Stop
     ensures { IsError result }
 {
-    wrong(alloc, "no command is there", "the commands: lines, check, pick, rule; each has --help")
+    wrong(
+        alloc,
+        "no command is there",
+        "the commands: lines, check, pick, rule; each has --help",
+    )
 }
 
 fn first_word<'a>(words: &'a [String]) -> Option<&'a str> {
@@ -57,11 +61,7 @@ fn first_word<'a>(words: &'a [String]) -> Option<&'a str> {
 }
 
 // The order of a verb and of what was found behind it.
-fn order_behind<'a>(
-    alloc: Global,
-    verb: &str,
-    found: &ArgMatches<'a>,
-) -> Result<Order<'a>, Stop>
+fn order_behind<'a>(alloc: Global, verb: &str, found: &ArgMatches<'a>) -> Result<Order<'a>, Stop>
     ensures ok { IfOk result KeepsLimits }
     ensures err { IfErr result IsError }
 {
@@ -91,7 +91,11 @@ fn dump_of<'a>(alloc: Global, found: &ArgMatches<'a>) -> Result<&'a str, Stop>
     ensures err { IfErr result IsError }
 {
     match found.get_str("dump") {
-        None => Err(wrong(alloc, "no dump is named", "the name of a VCD file is wanted")),
+        None => Err(wrong(
+            alloc,
+            "no dump is named",
+            "the name of a VCD file is wanted",
+        )),
         Some(word) => named(alloc, "the name of the dump", word),
     }
 }
@@ -104,7 +108,8 @@ fn rule_of(alloc: Global, found: &ArgMatches<'_>) -> Result<Option<u8>, Stop>
         None => Ok(None),
         Some(word) => match read_rule(word.as_bytes()) {
             None => {
-                let wanted = "a number from 1 to 31 may stand there; without one all rules are listed";
+                let wanted =
+                    "a number from 1 to 31 may stand there; without one all rules are listed";
                 Err(wrong_value(alloc, "rule", word, "there is no such rule", wanted))
             }
             Some(rule) => Ok(Some(rule)),

@@ -10,7 +10,8 @@ use crate::told::{Stop, wrong, wrong_value};
 use clap::ArgMatches;
 use std::alloc::Global;
 
-const CLOCK: &str = "a clock number, as 1200, or a time with its unit, as 285ns (s, ms, us, ns, ps, fs), may stand there";
+const CLOCK: &str =
+    "a clock number, as 1200, or a time with its unit, as 285ns (s, ms, us, ns, ps, fs), may stand there";
 
 /// How many clocks without an asserted line make a quiet clock, where the user doesn't say.
 const QUIET: u32 = 32;
@@ -25,12 +26,17 @@ pub(crate) fn part_of(alloc: Global, found: &ArgMatches<'_>) -> Result<Part, Sto
     let to = moment_of(alloc, found, "to", "--to")?;
     let quiet = quiet_of(alloc, found)?;
     if at.is_some() && from.is_some() {
-        let wanted = "--at begins exactly at a clock, --from at the first quiet one: only one of them may stand";
+        let wanted =
+            "--at begins exactly at a clock, --from at the first quiet one: only one of them may stand";
         return Err(wrong(alloc, "both --at and --from are there", wanted));
     }
     if ends_before(at, to) || ends_before(from, to) {
         let wanted = "the clock of --to is the last one that is judged";
-        return Err(wrong(alloc, "--to lies before the clock at which the part begins", wanted));
+        return Err(wrong(
+            alloc,
+            "--to lies before the clock at which the part begins",
+            wanted,
+        ));
     }
     Ok(Part {
         at,
@@ -80,7 +86,13 @@ fn quiet_of(alloc: Global, found: &ArgMatches<'_>) -> Result<u32, Stop>
         Some(word) => match read_count(word.as_bytes()) {
             None | Some(0) => {
                 let wanted = "a number of clocks may stand there, 1 to 4294967295";
-                Err(wrong_value(alloc, "--quiet", word, "this is no number of clocks", wanted))
+                Err(wrong_value(
+                    alloc,
+                    "--quiet",
+                    word,
+                    "this is no number of clocks",
+                    wanted,
+                ))
             }
             Some(count) => Ok(count),
         },

@@ -157,4 +157,5 @@ fn may_stand(verb: Option<&str>) -> &'static str {
     }
 }
 
-const JUDGED: &str = "wanted: one DUMP, and of --scope --line --lines --without --edge --first --after --at --from --to --quiet";
+const JUDGED: &str =
+    "wanted: one DUMP, and of --scope --line --lines --without --edge --first --after --at --from --to --quiet";

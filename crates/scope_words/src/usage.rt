@@ -29,28 +29,30 @@ pub(crate) fn usage<'a>(alloc: Global) -> Result<Command<'a>, AllocError> {
 fn lines<'a>(alloc: Global) -> Result<Command<'a>, AllocError> {
     Command::new(alloc, "lines")
         .display_name("p6scope")?
-        .about("Lists the scopes and the lines of the bus that a dump declares, and what is missing")
+        .about(
+            "Lists the scopes and the lines of the bus that a dump declares, and what is missing",
+        )
         .arg(dump(alloc))
 }
 
 fn check<'a>(alloc: Global) -> Result<Command<'a>, AllocError> {
-    let check = Command::new(alloc, "check")
-        .display_name("p6scope")?
-        .about("Says whether the bus keeps its rules, and explains the first one that it breaks");
+    let check = Command::new(alloc, "check").display_name("p6scope")?.about(
+        "Says whether the bus keeps its rules, and explains the first one that it breaks",
+    );
     with_part(alloc, with_wires(alloc, check.arg(dump(alloc))?)?)
 }
 
 fn pick<'a>(alloc: Global) -> Result<Command<'a>, AllocError> {
-    let pick = Command::new(alloc, "pick")
-        .display_name("p6scope")?
-        .about("Writes the lines of the bus as a dump of its own, for p6bench and any viewer");
+    let pick = Command::new(alloc, "pick").display_name("p6scope")?.about(
+        "Writes the lines of the bus as a dump of its own, for p6bench and any viewer",
+    );
     with_part(alloc, with_wires(alloc, pick.arg(dump(alloc))?)?)
 }
 
 fn rule<'a>(alloc: Global) -> Result<Command<'a>, AllocError> {
-    let number = Arg::new(alloc, "rule")
-        .value_name("N")
-        .help("The number of a rule, 1 to 31; without it all titles are listed");
+    let number = Arg::new(alloc, "rule").value_name("N").help(
+        "The number of a rule, 1 to 31; without it all titles are listed",
+    );
     Command::new(alloc, "rule")
         .display_name("p6scope")?
         .about("Prints the text of a rule")
@@ -94,10 +96,9 @@ fn with_wires<'a>(alloc: Global, verb: Command<'a>) -> Result<Command<'a>, Alloc
 
 // The options that say when the wires are sampled.
 fn with_edge<'a>(alloc: Global, verb: Command<'a>) -> Result<Command<'a>, AllocError> {
-    let edge = Arg::new(alloc, "edge")
-        .long("edge")
-        .value_name("EDGE")
-        .help("The edge of BCLK at which the lines are sampled: rise or fall [default: rise]");
+    let edge = Arg::new(alloc, "edge").long("edge").value_name("EDGE").help(
+        "The edge of BCLK at which the lines are sampled: rise or fall [default: rise]",
+    );
     let first = Arg::new(alloc, "first")
         .long("first")
         .action(ArgAction::SetTrue)
@@ -114,22 +115,19 @@ fn with_edge<'a>(alloc: Global, verb: Command<'a>) -> Result<Command<'a>, AllocE
 
 // The options that say which clocks are judged.
 fn with_part<'a>(alloc: Global, verb: Command<'a>) -> Result<Command<'a>, AllocError> {
-    let at = Arg::new(alloc, "at")
-        .long("at")
-        .value_name("C")
-        .help("Judges exactly from here on: a clock number, or a time as 285ns");
-    let from = Arg::new(alloc, "from")
-        .long("from")
-        .value_name("C")
-        .help("Judges from the first quiet clock at or above this one on");
+    let at = Arg::new(alloc, "at").long("at").value_name("C").help(
+        "Judges exactly from here on: a clock number, or a time as 285ns",
+    );
+    let from = Arg::new(alloc, "from").long("from").value_name("C").help(
+        "Judges from the first quiet clock at or above this one on",
+    );
     let to = Arg::new(alloc, "to")
         .long("to")
         .value_name("C")
         .help("Judges up to here");
-    let quiet = Arg::new(alloc, "quiet")
-        .long("quiet")
-        .value_name("N")
-        .help("How many clocks without an asserted line make a quiet one [default: 32]");
+    let quiet = Arg::new(alloc, "quiet").long("quiet").value_name("N").help(
+        "How many clocks without an asserted line make a quiet one [default: 32]",
+    );
     verb.arg(at.help_heading(PART))?
         .arg(from.help_heading(PART))?
         .arg(to.help_heading(PART))?

@@ -14,9 +14,11 @@ use scope_pick::line_named;
 use scope_wiring::{Choice, LineOption, line_option};
 use std::alloc::Global;
 
-const LINES: &str = "the lines: BCLK, BREQ0_n to BREQ3_n, BPRI_n, LOCK_n, BNR_n, ADS_n, REQ_n, A_n, AERR_n, HIT_n, HITM_n, DEFER_n, RS_n, TRDY_n, DBSY_n, DRDY_n, D_n, AP_n, RP_n";
+const LINES: &str =
+    "the lines: BCLK, BREQ0_n to BREQ3_n, BPRI_n, LOCK_n, BNR_n, ADS_n, REQ_n, A_n, AERR_n, HIT_n, HITM_n, DEFER_n, RS_n, TRDY_n, DBSY_n, DRDY_n, D_n, AP_n, RP_n";
 
-const ONE_LINE: &str = "LINE=[!]PATH is wanted, as ADS_n=tb.dut.ads, A_n=tb.a[35:3] or HIT_n=!tb.hit";
+const ONE_LINE: &str =
+    "LINE=[!]PATH is wanted, as ADS_n=tb.dut.ads, A_n=tb.a[35:3] or HIT_n=!tb.hit";
 
 /// The longest name, in bytes.
 const NAME_LIMIT: usize = 4096;
@@ -88,7 +90,13 @@ fn edge_of(alloc: Global, found: &ArgMatches<'_>) -> Result<Edge, Stop>
         Some("rise") => Ok(Edge::Rise),
         Some("fall") => Ok(Edge::Fall),
         Some(word) => {
-            Err(wrong_value(alloc, "--edge", word, "there is no such edge", "rise or fall may stand there"))
+            Err(wrong_value(
+                alloc,
+                "--edge",
+                word,
+                "there is no such edge",
+                "rise or fall may stand there",
+            ))
         }
     }
 }
@@ -120,7 +128,13 @@ fn no_option(alloc: Global, word: &str) -> Stop
             if line_named(name.as_bytes()).is_some() {
                 wrong_value(alloc, "--line", word, "no variable is named", ONE_LINE)
             } else {
-                wrong_value(alloc, "--line", word, "no line of the bus has this name", LINES)
+                wrong_value(
+                    alloc,
+                    "--line",
+                    word,
+                    "no line of the bus has this name",
+                    LINES,
+                )
             }
         }
     }
