@@ -4,32 +4,25 @@
 //! The second model is wrong: it does not hear other agents' reads. The comparison says of which line it is wrong first, and when.
 #![tactic(auto)]
 
-ghost use Rattle.std.specs.Prelude.{◌≡◌, ◌≢◌, ◌<◌, ◌++◌, ◌∷◌, [], ℕ, Some, None, IfSome, slice_get, length};
+ghost use Rattle.std.specs.Prelude.{◌≡◌, ◌≢◌, ◌<◌, ◌++◌, [], ◌∷◌, ℕ, Some, None, IfSome, slice_get};
 ghost use Rattle.fsb_cache.specs.Sets.{states};
 ghost use Rattle.fsb_core.specs.Benches.{bench_view};
 ghost use Rattle.fsb_core.specs.Stepping.{HasClockLeft};
 
+use crate::model::{LINES, Model};
 use anyhow::{Result, anyhow};
-use fsb_access::{Access, Done};
-use fsb_arbiter::Arbiter;
 use fsb_cache::{Cache, Mesi};
 use fsb_core::Bench;
-use fsb_encode::{Kind, Pair, Request, decode};
 use fsb_hazard::{Hazard, ScriptHazard};
 use fsb_script::read_bench;
-use fsb_signal::{Lines, Sample};
-use fsb_trace::{Who, known_pair};
+use fsb_signal::Sample;
 use std::alloc::{AllocError, Global};
-use std::collections::VecDeque;
 
-/// The lines that the scripts name are 0 to 7.
-const LINES: usize = 8;
+mod model;
 
-/// The sets of each cache.
-const SETS: usize = 2;
-
+/// Two agents with caches of two sets, in profile 2, so that lines are upgraded.
 const BENCH: &str = "p6bench 1
-agents 3
+agents 2
 clocks 160
 cache 2
 ahead 1
@@ -46,161 +39,25 @@ end
 agent 1
 idle 11
 ld 4 40
-ld 4 60
-st 4 64 5
-end
-agent 2
-idle 30
-st 4 48 4
-ld 4 c0
+st 4 60 4
+st 4 48 5
 end
 tx 2 stall 1
 tx 3 retry
 tx 6 aerr
 ";
 
-/// A request whose snoop has not ended.
-#[derive(Clone, Copy)]
-struct Open {
-    clock: u64,
-    request: Request,
-}
-
-/// What an agent has of each line, by the bus and by its own stores.
-#[derive(Drop)]
-struct Model {
-    agent: u8,
-    hears_reads: bool,
-    states: [Mesi; LINES],
-    clock: u64,
-    arbiter: Arbiter,
-    /// The words of the last sample, where a request began there.
-    first: Option<Pair>,
-    /// The oldest first. Snoops end in this order.
-    open: VecDeque<Open>,
-    /// The clock before which no snoop may begin.
-    clear: u64,
-}
-
-impl Model {
-    /// Before the first clock, with no line.
-    fn new(alloc: Global, agent: u8, hears_reads: bool) -> Model {
-        Model {
-            agent,
-            hears_reads,
-            states: [Mesi::Invalid; LINES],
-            clock: 0,
-            arbiter: Arbiter::new(),
-            first: None,
-            open: VecDeque::new(alloc),
-            clear: 0,
-        }
-    }
-
-    /// Takes one clock. The agent's stores come first, and the end of a snoop last.
-    fn take(&mut self, log: &[Done], sample: &Sample) -> Result<(), AllocError> {
-        for done in log {
-            if done.agent == self.agent && u64::from(done.clock) == self.clock {
-                self.store(&done.access);
-            }
-        }
-        self.begin(sample)?;
-        let clock = self.clock;
-        if sample.has(Lines::AERR) {
-            self.open.retain(|open| open.clock.saturating_add(3) != clock);
-        }
-        if let Some(request) = self.snooped(sample) {
-            self.end_snoop(&request, sample);
-        }
-        self.arbiter.absorb(sample);
-        self.clock = clock.saturating_add(1);
-        Ok(())
-    }
-
-    /// A store makes an Exclusive line Modified, and the bus sees nothing of it.
-    fn store(&mut self, access: &Access) {
-        if let Access::Store { .. } = access {
-            if let Some(state) = self.states.get_mut(access.line() as usize) {
-                if *state == Mesi::Exclusive {
-                    *state = Mesi::Modified;
-                }
-            }
-        }
-    }
-
-    /// Both clocks in which a request begins. In the first one the agent gives up the other line of the set that it asks for.
-    fn begin(&mut self, sample: &Sample) -> Result<(), AllocError> {
-        let words = known_pair(sample);
-        if let (Some(first), Some(second)) = (self.first, words) {
-            if let Ok(request) = decode(first, second) {
-                let clock = self.clock.saturating_sub(1);
-                self.open.push_back(Open { clock, request })?;
-            }
-        }
-        self.first = if sample.has(Lines::ADS) { words } else { None };
-        if self.first.is_some() && self.arbiter.winner() == Some(Who::Symmetric(self.agent)) {
-            let line = (sample.addr.bits / 4) as usize;
-            for (other, state) in self.states.iter_mut().enumerate() {
-                if other != line && other % SETS == line % SETS {
-                    *state = Mesi::Invalid;
-                }
-            }
-        }
-        Ok(())
-    }
-
-    /// The request whose snoop ends with this sample: the oldest one, four clocks after its first clock or later.
-    fn snooped(&mut self, sample: &Sample) -> Option<Request> {
-        let oldest = self.open.front().copied()?;
-        let start = oldest.clock.saturating_add(4).max(self.clear);
-        let is_stall = sample.has(Lines::HIT) && sample.has(Lines::HITM);
-        if self.clock < start || (self.clock - start) % 2 != 0 || is_stall {
-            return None;
-        }
-        self.clear = self.clock.saturating_add(3);
-        let _ = self.open.pop_front();
-        Some(oldest.request)
-    }
-
-    /// What the end of a snoop makes of its line.
-    fn end_snoop(&mut self, request: &Request, sample: &Sample) {
-        let is_own = request.did / 16 == self.agent;
-        let is_handed = sample.has(Lines::HITM);
-        let is_retried = sample.has(Lines::DEFER) && !is_handed;
-        let is_shared = sample.has(Lines::HIT) || is_handed;
-        if let Some(state) = self.states.get_mut(request.line as usize) {
-            let is_held = *state != Mesi::Invalid;
-            *state = match request.kind {
-                Kind::WriteBack if is_own => Mesi::Invalid,
-                Kind::Read | Kind::Invalidate | Kind::Upgrade if is_own && is_retried => *state,
-                Kind::Read if is_own && is_shared => Mesi::Shared,
-                Kind::Read if is_own => Mesi::Exclusive,
-                Kind::Invalidate if is_own => Mesi::Modified,
-                Kind::Upgrade if is_own && (is_held || is_handed) => Mesi::Modified,
-                Kind::Read if is_held && self.hears_reads => Mesi::Shared,
-                Kind::Invalidate | Kind::Upgrade if !is_own => Mesi::Invalid,
-                _ => *state,
-            };
-        }
-    }
-}
-
 fn main(rt: HostRuntime) -> Result<()> {
-    let alloc = rt.alloc();
     for hears_reads in [true, false] {
-        let mut hazards: Vec<Box<dyn Hazard>> = Vec::new(alloc);
-        hazards.push(Box::new(alloc, ScriptHazard::new(alloc))?)?;
-        let mut bench = make_bench(alloc, hazards)?;
-        let mut model = Model::new(alloc, 0, hears_reads);
-        match compare(&mut bench, &mut model)? {
-            None => println!(rt; "the same in {} clocks, {} accesses", bench.clock(), bench.log().len())?,
-            Some(line) => println!(rt; "line {line} is not the same after clock {}", bench.clock())?,
-        }
+        let mut hazards: Vec<Box<dyn Hazard>> = Vec::new(rt.alloc());
+        hazards.push(Box::new(rt.alloc(), ScriptHazard::new(rt.alloc()))?)?;
+        let mut bench = make_bench(rt.alloc(), hazards)?;
+        run(&rt, &mut bench, Model::new(rt.alloc(), 0, hears_reads))?;
     }
     Ok(())
 }
 
-/// The bench with these objects.
+/// The bench before its first clock, with these objects.
 fn make_bench(alloc: Global, hazards: Vec<Box<dyn Hazard>>) -> Result<Bench> {
     match read_bench(alloc, BENCH.as_bytes()) {
         Ok(plan) => Ok(Bench::make(alloc, plan, hazards)?),
@@ -208,13 +65,23 @@ fn make_bench(alloc: Global, hazards: Vec<Box<dyn Hazard>>) -> Result<Bench> {
     }
 }
 
+/// Prints whether the model has the same as the bench's cache, clock by clock.
+fn run(rt: &impl Print, bench: &mut Bench, mut model: Model) -> Result<()> {
+    match compare(bench, &mut model)? {
+        None => println!(rt; "the same after each of {} clocks", bench.clock())?,
+        Some(line) => println!(rt;
+            "line {line} is not the same after {} clocks",
+            bench.clock()
+        )?,
+    }
+    Ok(())
+}
+
 /// Takes clock after clock, until the model and the bench's cache differ. Answers the first line of which they do.
 fn compare(bench: &mut Bench, model: &mut Model) -> Result<Option<usize>, AllocError> {
     while bench.clock() < bench.plan().clocks {
-        bench.step();
-        if let Some(sample) = bench.trace().last() {
-            model.take(bench.log(), sample)?;
-        }
+        let sample = next_sample(bench);
+        model.take(bench.log(), &sample)?;
         if let Some(cache) = bench.cache(model.agent) {
             let line = difference(&model.states, cache);
             if line.is_some() {
@@ -223,6 +90,18 @@ fn compare(bench: &mut Bench, model: &mut Model) -> Result<Option<usize>, AllocE
         }
     }
     Ok(None)
+}
+
+/// Takes the next clock, and gives its sample.
+fn next_sample(bench: &mut Bench) -> Sample
+    requires { HasClockLeft (bench_view bench.old) }
+    ensures trace { (bench_view bench.new).run.trace
+        ≡ (bench_view bench.old).run.trace ++ result ∷ [] }
+    ensures plan_stays { (bench_view bench.new).run.plan ≡ (bench_view bench.old).run.plan }
+{
+    let clock = bench.clock() as usize;
+    bench.step();
+    bench.trace()[clock]
 }
 
 /// The first line that the cache does not have in this state.

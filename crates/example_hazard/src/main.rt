@@ -1,23 +1,23 @@
-//! A bench file under two hazard objects of one's own: `example_hazard <bench>`.
+//! A bench file under hazard objects of one's own: `example_hazard <bench>`.
 //!
-//! [`TwoOfThree`] stands on the bench from the first clock on, beside the object of the file's hazard lines. [`Crowd`] is
-//! plugged when half of the clocks are taken, and from then on the answers of all three are joined. Both keep state and
-//! tell nothing, so a proof knows nothing of what they answer. The run breaks no phase rule all the same.
+//! [`TwoOfThree`] keeps state: it counts the requests of an agent. One stands on the bench from the first clock on, beside the
+//! object of the file's hazard lines, and a second one is plugged when half of the clocks are taken. Both tell nothing, so no proof
+//! knows what they answer. The run breaks no phase rule all the same ([`go`]).
 #![tactic(auto)]
 
 ghost use Rattle.std.specs.Prelude.{◌≡◌, ◌<◌, ◌+◌, ◌≤◌, None};
+ghost use Rattle.fsb_core.specs.Benches.{bench_view};
+ghost use Rattle.fsb_signal.specs.Parity.{marks_in};
+ghost use Rattle.fsb_trace.specs.Verdict.{verdict};
 
 use anyhow::{Result, anyhow};
 use fsb_core::Bench;
-use fsb_encode::{Kind, Request};
+use fsb_encode::Kind;
 use fsb_hazard::{Ask, Choice, Hazard, HazardLine, ScriptHazard, Turn, quiet_choice};
 use fsb_io::{FileSource, Memory, Source, read_all};
-use fsb_script::{Plan, ScriptStop, read_bench};
+use fsb_script::{Plan, read_bench};
 use fsb_trace::requests;
 use std::rt::{Env, Files};
-
-/// The longest bench file that is read, in bytes.
-const LONGEST: usize = 1 << 20;
 
 /// Has two of three requests of one agent retried.
 #[derive(Drop)]
@@ -29,13 +29,19 @@ struct TwoOfThree {
 }
 
 impl TwoOfThree {
+    /// Of the requests of this agent.
+    fn new(agent: u8) -> TwoOfThree
+        ensures { result.retried ≡ 0 }
+    {
+        TwoOfThree { agent, retried: 0 }
+    }
+
     /// What becomes of the agent's next request.
     fn next(&mut self) -> Turn
         ensures retried { self.old.retried < 2 → result ≡ Turn.Retry }
         ensures counted { self.old.retried < 2 → self.new.retried ≡ self.old.retried + 1 }
         ensures let_through { self.old.retried ≡ 2 → result ≡ Turn.Keep }
         ensures from_the_start { self.old.retried ≡ 2 → self.new.retried ≡ 0 }
-        ensures agent_stays { self.new.agent ≡ self.old.agent }
     {
         if self.retried < 2 {
             self.retried += 1;
@@ -45,21 +51,15 @@ impl TwoOfThree {
             Turn::Keep
         }
     }
-
-    /// Whether the agent asks with this request for a line.
-    fn is_asked_by(&self, request: &Request) -> bool {
-        match request.kind {
-            Kind::Read | Kind::Invalidate | Kind::Upgrade => request.did / 16 == self.agent,
-            Kind::WriteBack | Kind::Reply => false,
-        }
-    }
 }
 
 impl Hazard for TwoOfThree {
     ghost use Rattle.std.specs.Prelude.{None, false};
 
+    // It tells nothing: it may answer anything.
     ghost told = { λ _. None };
 
+    // It does not take over the file's hazard lines.
     ghost is_scripted = { λ _. false };
 
     fn load(&mut self, _lines: &[HazardLine]) -> Result<(), Memory> {
@@ -68,7 +68,8 @@ impl Hazard for TwoOfThree {
 
     fn choose(&mut self, ask: &Ask) -> Choice {
         let turn = match ask {
-            Ask::Begun { request, .. } if self.is_asked_by(request) => self.next(),
+            Ask::Begun { request, .. }
+                if request.did / 16 == self.agent && request.kind != Kind::Reply => self.next(),
             _ => Turn::Keep,
         };
         Choice {
@@ -78,103 +79,71 @@ impl Hazard for TwoOfThree {
     }
 }
 
-/// Lets responses wait the longer the more requests came of late: one clock for each, less one for each eight clocks.
-#[derive(Drop)]
-struct Crowd {
-    waiting: u8,
-}
-
-impl Hazard for Crowd {
-    ghost use Rattle.std.specs.Prelude.{None, false};
-
-    ghost told = { λ _. None };
-
-    ghost is_scripted = { λ _. false };
-
-    fn load(&mut self, _lines: &[HazardLine]) -> Result<(), Memory> {
-        Ok(())
-    }
-
-    fn choose(&mut self, ask: &Ask) -> Choice {
-        let resp = self.waiting;
-        match ask {
-            Ask::Clock(clock) if *clock % 8 == 0 => self.waiting = resp.saturating_sub(1),
-            Ask::Clock(_) => {}
-            Ask::Begun { .. } => self.waiting = resp.saturating_add(1),
-        }
-        Choice {
-            resp,
-            ..quiet_choice()
-        }
-    }
-}
-
 fn main(rt: HostRuntime) -> Result<()> {
     let alloc = rt.alloc();
     let plan = plan_of(&rt)?;
-    let half = plan.clocks / 2;
-    let rest = plan.clocks - half;
     let mut hazards: Vec<Box<dyn Hazard>> = Vec::new(alloc);
     hazards.push(Box::new(alloc, ScriptHazard::new(alloc))?)?;
-    hazards.push(Box::new(
-        alloc,
-        TwoOfThree {
-            agent: 1,
-            retried: 0,
-        },
-    )?)?;
+    hazards.push(Box::new(alloc, TwoOfThree::new(1))?)?;
+    let second: Box<dyn Hazard> = Box::new(alloc, TwoOfThree::new(2))?;
     let mut bench = Bench::make(alloc, plan, hazards)?;
+    let half = bench.plan().clocks / 2;
     go(&mut bench, half);
-    let crowd: Box<dyn Hazard> = Box::new(alloc, Crowd { waiting: 0 })?;
-    if bench.plug(crowd).is_err() {
+    if bench.plug(second).is_err() {
         return Err(anyhow!("no memory for one object more"));
     }
-    go(&mut bench, rest);
+    go(&mut bench, u32::MAX);
     print_run(&rt, &bench)
 }
 
 /// The plan of the bench file that the first word names.
 fn plan_of(rt: &(impl Files + Env + AllocGlobal)) -> Result<Plan> {
-    let alloc = rt.alloc();
-    let name = std::env::args(rt)?.nth(1).ok_or(anyhow!("which bench file?"))?;
+    let name = std::env::args(rt)?
+        .nth(1)
+        .ok_or(anyhow!("which bench file?"))?;
     if name.len() > 4_096 {
         return Err(anyhow!("the name is too long"));
     }
     let mut source = FileSource::new(rt);
     source.begin(name.as_str())?;
-    let text = read_all(alloc, &mut source, LONGEST)?;
-    match read_bench(alloc, text.as_slice()) {
+    let text = read_all(rt.alloc(), &mut source, 1_000_000)?;
+    match read_bench(rt.alloc(), text.as_slice()) {
         Ok(plan) => Ok(plan),
-        Err(ScriptStop::Bad(fault)) => Err(anyhow!("bench line {}: {:?}", fault.line, fault.cause)),
-        Err(ScriptStop::Memory) => Err(Memory.into()),
+        Err(stop) => Err(anyhow!("{stop:?}")),
     }
 }
 
-/// Takes so many clocks, or those that the plan has left.
-fn go(bench: &mut Bench, clocks: u32) {
+/// Takes so many clocks, or those that the plan has left. Whatever the objects answer, the trace
+/// breaks no phase rule.
+fn go(bench: &mut Bench, clocks: u32)
+    ensures { verdict (marks_in (bench_view bench.new).run.plan.profile)
+        (bench_view bench.new).run.trace ≡ None }
+{
     for _ in 0..clocks {
-        if bench.clock() < bench.plan().clocks {
-            bench.step();
+        if bench.clock() >= bench.plan().clocks {
+            break;
         }
+        bench.step();
     }
     bench.breaks_no_rule();
 }
 
-/// Prints what was chosen for each request, and how many accesses were completed.
+/// Prints what was chosen for each request.
 fn print_run(rt: &(impl Print + AllocGlobal), bench: &Bench) -> Result<()> {
     let seen = requests(rt.alloc(), bench.trace())?;
     for (seen, choice) in seen.iter().zip(bench.choices()) {
         if let Some(request) = seen.request {
+            let agent = request.did / 16;
             println!(rt;
-                "clock {}: {:?} of agent {}: {:?}, {} clocks later",
-                seen.clock,
-                request.kind,
-                request.did / 16,
-                choice.turn,
-                choice.resp
+                "{} {:?} of agent {agent}: {:?}",
+                seen.clock, request.kind, choice.turn
             )?;
         }
     }
-    println!(rt; "{} accesses completed in {} clocks", bench.log().len(), bench.clock())?;
+    println!(rt;
+        "{} accesses completed in {} clocks",
+        bench.log().len(),
+        bench.clock()
+    )?;
     Ok(())
 }

@@ -4,7 +4,7 @@
 //! proved ([`watch`], `lawful`). In the second run the sample of one clock is lost on the way.
 #![tactic(auto)]
 
-ghost use Rattle.std.specs.Prelude.{◌≡◌, ◌<◌, ◌++◌, [], ◌∷◌, None};
+ghost use Rattle.std.specs.Prelude.{◌≡◌, ◌<◌, ◌++◌, [], ◌∷◌, None, IfOk};
 ghost use Rattle.fsb_core.specs.Benches.{bench_view};
 ghost use Rattle.fsb_core.specs.Stepping.{HasClockLeft};
 ghost use Rattle.fsb_rules.specs.Checker.{as_broken};
@@ -21,38 +21,54 @@ use fsb_signal::{Marks, Sample, idle_sample};
 use std::alloc::Global;
 
 /// Two agents that store to one byte.
-const BENCH: &str =
-    "p6bench 1\nagents 2\nclocks 60\ncache 64\nahead 1\nagent 0\nst 1 40 1\nend\nagent 1\nst 1 40 2\nend\n";
+const BENCH: &str = "p6bench 1
+agents 2
+clocks 60
+cache 64
+ahead 1
+agent 0
+st 1 40 1
+end
+agent 1
+st 1 40 2
+end
+";
 
 fn main(rt: HostRuntime) -> Result<()> {
     for lost in [None, Some(8)] {
-        let mut bench = make_bench(rt.alloc())?;
+        let hazards: Vec<Box<dyn Hazard>> = Vec::new(rt.alloc());
+        let mut bench = make_bench(rt.alloc(), hazards)?;
         match watch(&mut bench, lost) {
             None => println!(rt; "lost {lost:?}: {} clocks break no rule", bench.clock())?,
             Some(broken) => {
-                println!(rt; "lost {lost:?}: clock {} breaks rule {}", broken.clock, broken.rule)?
+                println!(rt;
+                    "lost {lost:?}: clock {} breaks rule {}",
+                    broken.clock, broken.rule
+                )?
             }
         }
     }
     Ok(())
 }
 
-/// The bench, without hazard objects.
-fn make_bench(alloc: Global) -> Result<Bench> {
-    let hazards: Vec<Box<dyn Hazard>> = Vec::new(alloc);
+/// The bench before its first clock, with these objects.
+fn make_bench(alloc: Global, hazards: Vec<Box<dyn Hazard>>) -> Result<Bench>
+    ensures { IfOk result (λ bench. (bench_view bench).run.trace ≡ []) }
+{
     match read_bench(alloc, BENCH.as_bytes()) {
         Ok(plan) => Ok(Bench::make(alloc, plan, hazards)?),
         Err(stop) => Err(anyhow!("{stop:?}")),
     }
 }
 
-/// Feeds a checker sample by sample, until a rule is broken or the plan has no clock left. Its answer is the verdict on what was
-/// received.
+/// Feeds a checker sample by sample, until a rule is broken or the plan has no clock left. The answer is the verdict on what was
+/// received; where nothing is lost, it is that no rule is broken.
 fn watch(bench: &mut Bench, lost: Option<u32>) -> Option<Broken>
-    ensures verdict { (bench_view bench.old).run.trace ≡ [] →
-        result ≡ as_broken (verdict (marks_in (bench_view bench.old).run.plan.profile)
+    requires { (bench_view bench.old).run.trace ≡ [] }
+    ensures verdict { result ≡ as_broken (verdict (marks_in (bench_view bench.new).run.plan.profile)
         (received lost (bench_view bench.new).run.trace)) }
-    ensures lawful { (bench_view bench.old).run.trace ≡ [] → lost ≡ None → result ≡ None }
+    ensures lawful { lost ≡ None → result ≡ None }
+    ensures plan_stays { (bench_view bench.new).run.plan ≡ (bench_view bench.old).run.plan }
 {
     let mut checker = Checker::new(Marks::of_profile(bench.plan().profile));
     let mut broken = None;
@@ -65,7 +81,7 @@ fn watch(bench: &mut Bench, lost: Option<u32>) -> Option<Broken>
     broken
 }
 
-/// The sample of the next clock, as a simulator would give it.
+/// Takes the next clock, and gives its sample, as a simulator would.
 fn next_sample(bench: &mut Bench) -> Sample
     requires { HasClockLeft (bench_view bench.old) }
     ensures trace { (bench_view bench.new).run.trace
@@ -77,13 +93,12 @@ fn next_sample(bench: &mut Bench) -> Sample
     bench.trace()[clock]
 }
 
-/// What comes of the sample of this clock: nothing is on the lines where it is lost.
+/// What comes of the sample of this clock: an idle one, where it is lost.
 fn receive(clock: u32, sample: &Sample, lost: Option<u32>) -> Sample
     ensures { result ≡ received_at lost clock sample.now }
 {
-    if lost == Some(clock) {
-        idle_sample()
-    } else {
-        *sample
+    match lost {
+        Some(lost) if lost == clock => idle_sample(),
+        _ => *sample,
     }
 }
