@@ -14,7 +14,7 @@ use anyhow::{Result, anyhow};
 use fsb_cache::{Cache, Mesi};
 use fsb_core::Bench;
 use fsb_hazard::{Hazard, ScriptHazard};
-use fsb_script::read_bench;
+use fsb_script::{Plan, read_bench};
 use fsb_signal::Sample;
 use std::alloc::{AllocError, Global};
 
@@ -51,16 +51,16 @@ fn main(rt: HostRuntime) -> Result<()> {
     for hears_reads in [true, false] {
         let mut hazards: Vec<Box<dyn Hazard>> = Vec::new(rt.alloc());
         hazards.push(Box::new(rt.alloc(), ScriptHazard::new(rt.alloc()))?)?;
-        let mut bench = make_bench(rt.alloc(), hazards)?;
+        let mut bench = Bench::make(rt.alloc(), plan_of(rt.alloc())?, hazards)?;
         run(&rt, &mut bench, Model::new(rt.alloc(), 0, hears_reads))?;
     }
     Ok(())
 }
 
-/// The bench before its first clock, with these objects.
-fn make_bench(alloc: Global, hazards: Vec<Box<dyn Hazard>>) -> Result<Bench> {
+/// The plan of the bench's text.
+fn plan_of(alloc: Global) -> Result<Plan> {
     match read_bench(alloc, BENCH.as_bytes()) {
-        Ok(plan) => Ok(Bench::make(alloc, plan, hazards)?),
+        Ok(plan) => Ok(plan),
         Err(stop) => Err(anyhow!("{stop:?}")),
     }
 }

@@ -1,6 +1,5 @@
 -- What a monitor receives, with one sample more.
 use Rattle.std.proofs.Common.{◌≡◌, ℕ, ◌+◌, suc, List, [], ◌∷◌, ◌++◌, Option, None, length, refl, ap, ◌∙◌, arith, sym, add-zero}
-use Rattle.std.proofs.lemmas.Grind.{common_steps}
 use Rattle.fsb_count.specs.Clocks.{first_where}
 use Rattle.fsb_rules.specs.Checker.{as_broken}
 use Rattle.fsb_signal.specs.declared.marks.Marks.{Marks}

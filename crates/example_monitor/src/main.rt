@@ -4,7 +4,7 @@
 //! proved ([`watch`], `lawful`). In the second run the sample of one clock is lost on the way.
 #![tactic(auto)]
 
-ghost use Rattle.std.specs.Prelude.{◌≡◌, ◌<◌, ◌++◌, [], ◌∷◌, None, IfOk};
+ghost use Rattle.std.specs.Prelude.{◌≡◌, ◌<◌, ◌++◌, [], ◌∷◌, None};
 ghost use Rattle.fsb_core.specs.Benches.{bench_view};
 ghost use Rattle.fsb_core.specs.Stepping.{HasClockLeft};
 ghost use Rattle.fsb_rules.specs.Checker.{as_broken};
@@ -16,7 +16,7 @@ use anyhow::{Result, anyhow};
 use fsb_core::Bench;
 use fsb_hazard::Hazard;
 use fsb_rules::{Broken, Checker};
-use fsb_script::read_bench;
+use fsb_script::{Plan, read_bench};
 use fsb_signal::{Marks, Sample, idle_sample};
 use std::alloc::Global;
 
@@ -37,7 +37,7 @@ end
 fn main(rt: HostRuntime) -> Result<()> {
     for lost in [None, Some(8)] {
         let hazards: Vec<Box<dyn Hazard>> = Vec::new(rt.alloc());
-        let mut bench = make_bench(rt.alloc(), hazards)?;
+        let mut bench = Bench::make(rt.alloc(), plan_of(rt.alloc())?, hazards)?;
         match watch(&mut bench, lost) {
             None => println!(rt; "lost {lost:?}: {} clocks break no rule", bench.clock())?,
             Some(broken) => {
@@ -51,12 +51,10 @@ fn main(rt: HostRuntime) -> Result<()> {
     Ok(())
 }
 
-/// The bench before its first clock, with these objects.
-fn make_bench(alloc: Global, hazards: Vec<Box<dyn Hazard>>) -> Result<Bench>
-    ensures { IfOk result (λ bench. (bench_view bench).run.trace ≡ []) }
-{
+/// The plan of the bench's text.
+fn plan_of(alloc: Global) -> Result<Plan> {
     match read_bench(alloc, BENCH.as_bytes()) {
-        Ok(plan) => Ok(Bench::make(alloc, plan, hazards)?),
+        Ok(plan) => Ok(plan),
         Err(stop) => Err(anyhow!("{stop:?}")),
     }
 }

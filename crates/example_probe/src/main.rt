@@ -5,7 +5,7 @@
 //! of `show`, and then a bench while that runs.
 #![tactic(auto)]
 
-ghost use Rattle.std.specs.Prelude.{◌≡◌, ◌++◌, [], ◌∷◌, IfOk};
+ghost use Rattle.std.specs.Prelude.{◌≡◌, ◌++◌, [], ◌∷◌};
 ghost use Rattle.fsb_core.specs.Benches.{bench_view};
 ghost use Rattle.fsb_core.specs.Stepping.{HasClockLeft};
 ghost use Rattle.fsb_probe.specs.Weights.{total_weight};
@@ -17,7 +17,7 @@ use fsb_core::Bench;
 use fsb_hazard::{Hazard, SeedHazard};
 use fsb_io::{FileSource, StdoutSink};
 use fsb_probe::Probe;
-use fsb_script::read_bench;
+use fsb_script::{Plan, read_bench};
 use fsb_show::{put_show, show_dump};
 use fsb_signal::Sample;
 use std::alloc::Global;
@@ -59,7 +59,8 @@ fn main(rt: HostRuntime) -> Result<()> {
     let mut hazards: Vec<Box<dyn Hazard>> = Vec::new(alloc);
     hazards.push(Box::new(alloc, SeedHazard::new(7))?)?;
     let mut latency = Latency::new(histogram.clone()?);
-    watch(&mut make_bench(alloc, hazards)?, &mut latency);
+    let mut bench = Bench::make(alloc, plan_of(alloc)?, hazards)?;
+    watch(&mut bench, &mut latency);
     println!(rt; "{} responses of the bench", latency.total())?;
     println!(rt; "{:?}", histogram.get())?;
     Ok(())
@@ -81,12 +82,10 @@ fn show(
     }
 }
 
-/// The bench before its first clock, with these objects.
-fn make_bench(alloc: Global, hazards: Vec<Box<dyn Hazard>>) -> Result<Bench>
-    ensures { IfOk result (λ bench. (bench_view bench).run.trace ≡ []) }
-{
+/// The plan of the bench's text.
+fn plan_of(alloc: Global) -> Result<Plan> {
     match read_bench(alloc, BENCH.as_bytes()) {
-        Ok(plan) => Ok(Bench::make(alloc, plan, hazards)?),
+        Ok(plan) => Ok(plan),
         Err(stop) => Err(anyhow!("{stop:?}")),
     }
 }
