@@ -26,3 +26,6 @@ loop-bench-preserved g c =
           ∙ sym (ap (total_weight response_weight) trace ∙ one_more old.trace x);
       few = omega (arith, long, light, c.see.ensures.counted, c.loop-bench.invariant.few);
     }
+
+pub see-requires : goal.see-requires
+see-requires g c = omega (arith, c.loop-bench.invariant.few, c.clock.ensures)
