@@ -1,10 +1,15 @@
 -- What a monitor receives, with one sample more.
-use Rattle.std.proofs.Common.{◌≡◌, ℕ, ◌+◌, suc, List, [], ◌∷◌, ◌++◌, Option, None, length, refl, ap, ◌∙◌, arith, sym, add-zero}
+use Rattle.std.proofs.Common.{◌≡◌, ℕ, ◌+◌, suc, List, [], ◌∷◌, ◌++◌, Option, Some, None, length, refl, ap, ◌∙◌, arith, sym, add-zero, inl, inr, ◌<◌, ◌≤◌, ◌⊎◌}
+use Rattle.std.specs.Option.{IfSome}
+use Rattle.std.proofs.lemmas.Bool.{cases_lt}
 use Rattle.fsb_count.specs.Clocks.{first_where}
 use Rattle.fsb_rules.specs.Checker.{as_broken}
 use Rattle.fsb_signal.specs.declared.marks.Marks.{Marks}
 use Rattle.fsb_signal.specs.declared.sample.Sample.{Sample}
 use Rattle.fsb_trace.specs.Verdict.{verdict}
+use Rattle.fsb_trace.proofs.Interface.{AgreeTo-sym, verdict-least, verdict-stays}
+use Rattle.fsb_rules.proofs.Interface.{as_broken-none}
+use Rattle.fsb_laws.proofs.Interface.{one_more}
 use Rattle.example_monitor.specs.Received.{received, received_at, received_from}
 
 -- as many samples are received as were sent
@@ -44,3 +49,23 @@ no_sample marks = refl
 pub unbroken : as_broken None ≡ None
 unfolding as_broken
 unbroken = refl
+
+newest_at : (marks : Marks) (h : List Sample) (x : Sample) (p : ℕ × ℕ) → verdict marks h ≡ None
+    → verdict marks (h ++ x ∷ []) ≡ Some p → length (h ++ x ∷ []) ≡ p.0 + 1
+newest_at marks h x p none e =
+    let more = one_more h x in
+    let below = (verdict-least marks (h ++ x ∷ []) p.0 p.1 e).0 in
+    elim (cases_lt p.0 (length h)) [
+      | inr l ↦ omega (arith, more.size, below, l)
+      | inl l ↦ let early : verdict marks h ≡ Some p =
+          verdict-stays (length h) marks (h ++ x ∷ []) h p.0 p.1 (AgreeTo-sym (length h) h (h ++ x ∷ []) more.agree) l e in
+          absurd (let no : ⊥ = cc in no)
+    ]
+
+-- a rule that was not broken before is broken with the newest sample
+pub newest : (marks : Marks) (h : List Sample) (x : Sample) (o : Option (ℕ × ℕ)) (n : ℕ) → as_broken (verdict marks h) ≡ None
+    → verdict marks (h ++ x ∷ []) ≡ o → n ≡ length (h ++ x ∷ []) → IfSome (as_broken o) (λ b. n ≡ b.clock + 1)
+unfolding as_broken
+newest marks h x None n none e size = tt
+newest marks h x (Some p) n none e size =
+    size ∙ newest_at marks h x p (as_broken-none (verdict marks h) none) e

@@ -4,7 +4,7 @@
 //! proved ([`watch`], `lawful`). In the second run the sample of one clock is lost on the way.
 #![tactic(auto)]
 
-ghost use Rattle.std.specs.Prelude.{◌≡◌, ◌<◌, ◌++◌, [], ◌∷◌, None};
+ghost use Rattle.std.specs.Prelude.{◌≡◌, ◌<◌, ◌≤◌, ◌+◌, ◌++◌, [], ◌∷◌, None, IfSome, length};
 ghost use Rattle.fsb_core.specs.Benches.{bench_view};
 ghost use Rattle.fsb_core.specs.Stepping.{HasClockLeft};
 ghost use Rattle.fsb_rules.specs.Checker.{as_broken};
@@ -60,12 +60,16 @@ fn plan_of(alloc: Global) -> Result<Plan> {
 }
 
 /// Feeds a checker sample by sample, until a rule is broken or the plan has no clock left. The answer is the verdict on what was
-/// received; where nothing is lost, it is that no rule is broken.
+/// received; where nothing is lost, it is that no rule is broken. The clock of a broken rule is the last one that is taken.
 fn watch(bench: &mut Bench, lost: Option<u32>) -> Option<Broken>
     requires { (bench_view bench.old).run.trace ≡ [] }
     ensures verdict { result ≡ as_broken (verdict (marks_in (bench_view bench.new).run.plan.profile)
         (received lost (bench_view bench.new).run.trace)) }
     ensures lawful { lost ≡ None → result ≡ None }
+    ensures stops { IfSome result (λ broken.
+        length (bench_view bench.new).run.trace ≡ broken.clock + 1) }
+    ensures to_the_end { result ≡ None →
+        (bench_view bench.new).run.plan.clocks ≤ length (bench_view bench.new).run.trace }
     ensures plan_stays { (bench_view bench.new).run.plan ≡ (bench_view bench.old).run.plan }
 {
     let mut checker = Checker::new(Marks::of_profile(bench.plan().profile));

@@ -1,5 +1,8 @@
-use Rattle.std.proofs.Common.{◌≡◌, ◌∷◌, ◌++◌, [], None, length, refl, sym, ap, ◌∙◌, subst, arith}
+use Rattle.std.proofs.Common.{◌≡◌, ◌∷◌, ◌++◌, [], None, Option, ◌+◌, length, refl, sym, ap, ◌∙◌, subst, arith}
+use Rattle.std.specs.Option.{IfSome}
+use Rattle.std.proofs.lemmas.Grind.{common_steps}
 use Rattle.fsb_core.specs.Benches.{bench_view}
+use Rattle.fsb_rules.specs.declared.broken.Broken.{Broken}
 use Rattle.fsb_rules.specs.Checker.{Stands, as_broken}
 use Rattle.fsb_script.specs.Plans.{PlanView}
 use Rattle.fsb_signal.specs.declared.marks.Marks.{Marks}
@@ -7,7 +10,7 @@ use Rattle.fsb_signal.specs.Parity.{marks_in}
 use Rattle.fsb_trace.specs.At.{Trace}
 use Rattle.fsb_trace.specs.Verdict.{verdict}
 use Rattle.example_monitor.specs.Received.{received, received_at}
-use Rattle.example_monitor.proofs.Receiving.{received-length, received-more, received-none, no_sample, unbroken}
+use Rattle.example_monitor.proofs.Receiving.{received-length, received-more, received-none, no_sample, unbroken, newest}
 use Rattle.example_monitor.proofs.watch.Goals as goal
 
 pub loop-bench-init : goal.loop-bench-init
@@ -21,6 +24,7 @@ loop-bench-init g c =
       checker = subst (λ (h : Trace). Stands c.new-checker.result (marks_in run.plan.profile) h) none
           (subst (λ (m : Marks). Stands c.new-checker.result m []) marks c.new-checker.ensures);
       broken = no_sample (marks_in run.plan.profile) ∙ ap (λ h. as_broken (verdict (marks_in run.plan.profile) h)) none;
+      stops = tt;
     }
 
 pub feed-broken-requires : goal.feed-broken-requires
@@ -40,6 +44,7 @@ loop-bench-preserved g c =
     let h = received c.args.lost run.trace in
     let marks : marks_in run.plan.profile ≡ marks_in new.plan.profile =
     ap (λ (p : PlanView). marks_in p.profile) (sym c.next_sample-sample.ensures.plan_stays) in
+    let unheard : c.loop-bench.broken ≡ None = grind (arith, common_steps, c.loop-bench-test.true) in
     let last : received_at c.args.lost (length run.trace) c.next_sample-sample.result ≡ c.receive.result =
     ap (λ n. received_at c.args.lost n c.next_sample-sample.result) (sym c.clock-clock.ensures) ∙ sym c.receive.ensures in
     let next : h ++ c.receive.result ∷ [] ≡ received c.args.lost new.trace =
@@ -54,6 +59,11 @@ loop-bench-preserved g c =
       broken = c.feed-broken.ensures.verdict (marks_in run.plan.profile) h c.loop-bench.invariant.checker
           ∙ ap (λ t. as_broken (verdict (marks_in run.plan.profile) t)) next
           ∙ ap (λ m. as_broken (verdict m (received c.args.lost new.trace))) marks;
+      stops = subst (λ (o : Option Broken). IfSome o (λ (b : Broken). length new.trace ≡ b.clock + 1))
+          (sym (c.feed-broken.ensures.verdict (marks_in run.plan.profile) h c.loop-bench.invariant.checker))
+          (newest (marks_in run.plan.profile) h c.receive.result (verdict (marks_in run.plan.profile) (h ++ c.receive.result ∷ []))
+          (length new.trace) (sym c.loop-bench.invariant.broken ∙ unheard) refl
+          (sym (received-length c.args.lost 0 new.trace) ∙ ap length (sym next)));
     }
 
 pub returns-clause-lawful : goal.returns-clause-lawful
