@@ -51,7 +51,10 @@ fn main(rt: HostRuntime) -> Result<()> {
         hazards.push(Box::new(rt.alloc(), ScriptHazard::new(rt.alloc()))?)?;
         let mut bench = Bench::make(rt.alloc(), plan_of(rt.alloc())?, hazards)?;
         let line = compare(rt.alloc(), &mut bench, &mut Model::new(0, hears_reads))?;
-        println!(rt; "first line that differs after {} clocks: {line:?}", bench.clock())?;
+        println!(rt;
+            "first line that differs after {} clocks: {line:?}",
+            bench.clock()
+        )?;
     }
     Ok(())
 }
