@@ -1,6 +1,6 @@
 -- What follows from how a call ends (`CallEnds`), one law for each thing that somebody may want to know of it:
 -- how it may end, what each status means, what was read, printed and dumped.
-use Rattle.std.proofs.Common.{◌≡◌, ◌≢◌, ◌-◌, ◌⊎◌, ◌∙◌, ℕ, IsTrue, List, Option, Some, None}
+use Rattle.std.proofs.Common.{◌≡◌, ◌≢◌, ◌⊎◌, ◌∙◌, ℕ, IsTrue, List, Option, Some, None}
 use Rattle.std.proofs.Common.{ap, inl, inr, refl, subst, sym, true, false}
 use Rattle.fsb_command.specs.Form.{Form, run, check, audit, show, find, wave, gen, looks_only}
 use Rattle.fsb_io.specs.Faults.{Rose}
@@ -38,11 +38,11 @@ use Rattle.fsb_calls.specs.FileSays.{HasBegunNoOther, HasReadSome, HasReadTooLon
 use Rattle.fsb_top.specs.declared.status.Status.{Status}
 use Rattle.fsb_top.specs.declared.status.Status.TheVariants.{Done, BadWords, BadBench, BadDump, ReadFault}
 use Rattle.fsb_top.specs.declared.status.Status.TheVariants.{WriteFault, DumpFault, OutOfMemory, TooLong}
-use Rattle.fsb_top.proofs.Statuses.{audit_as, audit_dumps, audit_ends, audit_writes, broken_as, broken_runs}
-use Rattle.fsb_top.proofs.Statuses.{found_runs, long_pieces, long_whole, match_as, match_runs, played_made}
-use Rattle.fsb_top.proofs.Statuses.{played_runs, run_is_not_silent, stopped_look, stopped_run}
-use Rattle.fsb_top.proofs.Statuses.{stopped_silent, tells_broken, tells_found, tells_match, told_as}
-use Rattle.fsb_top.proofs.Statuses.{told_line, unwritten}
+use Rattle.fsb_top.proofs.Statuses.{audit_as, audit_ends, broken_as, match_as, played_ends, played_made}
+use Rattle.fsb_top.proofs.Statuses.{stopped_look, stopped_run, told_as}
+use Rattle.fsb_calls.proofs.Statuses.{audit_dumps, audit_writes, broken_runs, found_runs, match_runs, played_runs}
+use Rattle.fsb_calls.proofs.Statuses.{run_is_not_silent, stopped_silent, tells_broken, tells_found, tells_match}
+use Rattle.fsb_calls.proofs.Statuses.{told_line, unwritten}
 
 module _ {S O D : Type 0} {source : SourceGhosts S} {out : SinkGhosts O}
     {dump : SinkGhosts D} (call : Call source out dump) where
@@ -107,7 +107,7 @@ module _ {S O D : Type 0} {source : SourceGhosts S} {out : SinkGhosts O}
       → StoppedBy form status × (call.after ≡ call.before) × (call.last ≡ call.first)
   row_stopped (run bench name) status silent (unnamed, inl stopped) = (stopped.0, stopped.1.0, stopped.1.1)
   row_stopped (run bench name) status silent (unnamed, inr played) =
-      absurd (run_is_not_silent status (played_runs _ sink_of name status played.0).0 silent)
+      absurd (run_is_not_silent status (played_runs _ sink_of name status played.0) silent)
   row_stopped (check name) status silent row = look_row (check_look name) status broken_runs silent row
   row_stopped (audit name) status silent row = look_row (audit_look name) status found_runs silent row
   row_stopped (show name) status silent row = look_row (show_look call.weights name) status broken_runs silent row
@@ -115,7 +115,7 @@ module _ {S O D : Type 0} {source : SourceGhosts S} {out : SinkGhosts O}
   row_stopped (wave name from to) status silent row = look_row (wave_look name from to) status (λ f. tt) silent row
   row_stopped (gen seed agents items) status silent (same, (stays, inl lacks)) = ((lacks.0, same), lacks.1, stays)
   row_stopped (gen seed agents items) status silent (same, (stays, inr played)) =
-      absurd (run_is_not_silent status (played_runs _ sink_of None status played.0).0 silent)
+      absurd (run_is_not_silent status (played_runs _ sink_of None status played.0) silent)
 
   -- ---- what stayed as it was
 
@@ -182,7 +182,7 @@ module _ {S O D : Type 0} {source : SourceGhosts S} {out : SinkGhosts O}
   of_run bench name status (inl lacks) = lacked IsOfRun status tt lacks
   of_run bench name status (inr (unnamed, inl stopped)) =
       stopped_run source bench call.was call.now status stopped.0
-  of_run bench name status (inr (unnamed, inr played)) = (played_runs _ sink_of name status played.0).1
+  of_run bench name status (inr (unnamed, inr played)) = played_ends _ sink_of name status played.0
 
   pub of_gen : (seed agents items : ℕ) (status : Status)
       → EndsAs call (Some (gen seed agents items)) status
@@ -317,11 +317,11 @@ module _ {S O D : Type 0} {source : SourceGhosts S} {out : SinkGhosts O}
   long_row : (form : Form) → IsTrue source.tells → StoppedBy form TooLong
       → HasReadTooLong form (held call) (left_of call) (named_as call)
   long_row (run bench name) tells stopped = elim (stopped tells) [ inl past ↦ past | inr both ↦ absurd both.1 ]
-  long_row (check name) tells stopped = long_pieces name _ _ _ (stopped tells)
-  long_row (audit name) tells stopped = long_pieces name _ _ _ (stopped tells)
-  long_row (show name) tells stopped = long_whole name _ _ _ (stopped tells)
-  long_row (find name steps) tells stopped = long_pieces name _ _ _ (stopped tells)
-  long_row (wave name from to) tells stopped = long_pieces name _ _ _ (stopped tells)
+  long_row (check name) tells stopped = stopped tells
+  long_row (audit name) tells stopped = stopped tells
+  long_row (show name) tells stopped = stopped tells
+  long_row (find name steps) tells stopped = stopped tells
+  long_row (wave name from to) tells stopped = stopped tells
   long_row (gen seed agents items) tells stopped = let e = stopped.0 in let no : ⊥ = cc in no
 
   pub long_read : (form : Form) → IsTrue source.tells
@@ -375,8 +375,7 @@ module _ {S O D : Type 0} {source : SourceGhosts S} {out : SinkGhosts O}
   bad_pieces name fault tells stopped =
       let read = stopped.1 tells in
       record {
-        read = record { short = read.0.short; all = read.0.all };
-        named = read.0.named;
+        read = read.0;
         is_bad = read.1;
       }
 
@@ -390,8 +389,7 @@ module _ {S O D : Type 0} {source : SourceGhosts S} {out : SinkGhosts O}
   dump_row (show name) tells fault stopped =
       let read = stopped.1 tells in
       record {
-        read = record { short = read.0.short; all = read.0.all };
-        named = read.0.named;
+        read = read.0;
         is_bad = read.1;
       }
   dump_row (find name steps) tells fault stopped = bad_pieces name fault tells stopped
@@ -501,8 +499,7 @@ module _ {S O D : Type 0} {source : SourceGhosts S} {out : SinkGhosts O}
       let looked = looked_row (check_look name) status runs ends in
       let it = looked.told tells in
       record {
-        read = record { short = it.read.short; all = it.read.all };
-        named = it.read.named;
+        read = it.read;
         marks = it.marks;
         trace = it.trace;
         reads = it.reads;
@@ -520,8 +517,7 @@ module _ {S O D : Type 0} {source : SourceGhosts S} {out : SinkGhosts O}
       let looked = looked_row (audit_look name) status runs ends in
       let it = looked.told tells in
       record {
-        read = record { short = it.read.short; all = it.read.all };
-        named = it.read.named;
+        read = it.read;
         marks = it.marks;
         trace = it.trace;
         reads = it.reads;
@@ -539,8 +535,7 @@ module _ {S O D : Type 0} {source : SourceGhosts S} {out : SinkGhosts O}
       let looked = looked_row (show_look call.weights name) status runs ends in
       let it = looked.told tells in
       record {
-        read = record { short = it.read.short; all = it.read.all };
-        named = it.read.named;
+        read = it.read;
         marks = it.marks;
         trace = it.trace;
         reads = it.reads;
@@ -559,8 +554,7 @@ module _ {S O D : Type 0} {source : SourceGhosts S} {out : SinkGhosts O}
       let looked = looked_row (find_look name steps) status runs ends in
       let it = looked.told tells in
       record {
-        read = record { short = it.read.short; all = it.read.all };
-        named = it.read.named;
+        read = it.read;
         marks = it.marks;
         trace = it.trace;
         reads = it.reads;
@@ -578,8 +572,7 @@ module _ {S O D : Type 0} {source : SourceGhosts S} {out : SinkGhosts O}
       let looked = looked_row (wave_look name from to) status runs ends in
       let it = looked.told tells in
       record {
-        read = record { short = it.read.short; all = it.read.all };
-        named = it.read.named;
+        read = it.read;
         marks = it.marks;
         trace = it.trace;
         reads = it.reads;

@@ -1,5 +1,5 @@
 -- A call that nothing stops does all that its words ask for.
-use Rattle.std.proofs.Common.{◌≡◌, ◌⊎◌, ℕ, IsTrue, List, Option, Some, None, refl, sym, subst, ◌∙◌}
+use Rattle.std.proofs.Common.{◌≡◌, ℕ, IsTrue, List, Option, Some, refl, sym, subst, ◌∙◌}
 use Rattle.fsb_command.specs.Form.{Form, run, check, audit, show, find, wave, gen}
 use Rattle.fsb_io.specs.Faults.{Rose}
 use Rattle.fsb_io.specs.declared.sink.Sink.{Ghosts as SinkGhosts}
