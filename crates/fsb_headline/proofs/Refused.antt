@@ -36,10 +36,10 @@ pub bad-dump : (name held left : List ℕ) (begun_as : Option (List ℕ)) (fault
     → IsBadDump name held left begun_as fault
     → WasReadWhole (2 ^ 40) name held left begun_as × IsNoDump held fault
 bad-dump name held left begun_as fault h =
-    (record { named = h.named; all = h.read.all; short = h.read.short }, no-dump held fault h.is_bad.first)
+    (record { named = h.read.named; all = h.read.all; short = h.read.short }, no-dump held fault h.is_bad.first)
 
 pub bad-table : (name held left : List ℕ) (begun_as : Option (List ℕ)) (fault : VcdFault)
     → IsBadTable name held left begun_as fault
     → WasReadWhole 268435456 name held left begun_as × IsNoDump held fault
 bad-table name held left begun_as fault h =
-    (record { named = h.named; all = h.read.all; short = h.read.short }, no-dump held fault h.is_bad)
+    (record { named = h.read.named; all = h.read.all; short = h.read.short }, no-dump held fault h.is_bad)

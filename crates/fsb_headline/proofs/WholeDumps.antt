@@ -11,7 +11,7 @@ pub judged : (status : Status) (name held left : List ℕ) (begun_as : Option (L
     → HasVerdict status name held left begun_as
     → WasReadWhole (2 ^ 40) name held left begun_as × IsDumpWithin (2 ^ 40) (2 ^ 32 - 1) held
 judged status name held left begun_as h = (
-  record { named = h.named; all = h.read.all; short = h.read.short },
+  record { named = h.read.named; all = h.read.all; short = h.read.short },
   record { short = h.read.short; marks = h.marks; trace = h.trace; reads = h.reads; few = h.few },
 )
 
@@ -20,7 +20,7 @@ pub audited : (status : Status) (name held left : List ℕ) (begun_as : Option (
     → HasFinding status name held left begun_as
     → WasReadWhole (2 ^ 40) name held left begun_as × IsDumpWithin (2 ^ 40) (2 ^ 32 - 1) held
 audited status name held left begun_as h = (
-  record { named = h.named; all = h.read.all; short = h.read.short },
+  record { named = h.read.named; all = h.read.all; short = h.read.short },
   record { short = h.read.short; marks = h.marks; trace = h.trace; reads = h.reads; few = h.few },
 )
 
@@ -29,7 +29,7 @@ pub looked : (tells : Status → List Sample → Type 0) (status : Status) (name
     → HasLooked tells status name held left begun_as
     → WasReadWhole (2 ^ 40) name held left begun_as × IsDumpWithin (2 ^ 40) (2 ^ 32 - 1) held
 looked tells status name held left begun_as h = (
-  record { named = h.named; all = h.read.all; short = h.read.short },
+  record { named = h.read.named; all = h.read.all; short = h.read.short },
   record { short = h.read.short; marks = h.marks; trace = h.trace; reads = h.reads; few = h.few },
 )
 
@@ -38,6 +38,6 @@ pub tabled : (status : Status) (name held left : List ℕ) (begun_as : Option (L
     → HasTable status name held left begun_as
     → WasReadWhole 268435456 name held left begun_as × IsDumpWithin 268435456 200000 held
 tabled status name held left begun_as h = (
-  record { named = h.named; all = h.read.all; short = h.read.short },
+  record { named = h.read.named; all = h.read.all; short = h.read.short },
   record { short = h.read.short; marks = h.marks; trace = h.trace; reads = h.reads; few = h.few },
 )
