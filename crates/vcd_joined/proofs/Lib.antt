@@ -1,2 +1,3 @@
 mod Header
 mod Values
+mod Events
