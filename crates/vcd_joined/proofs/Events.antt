@@ -1,13 +1,12 @@
 -- What is told of a text, and its faults, are what the readers tell.
 use Rattle.std.proofs.Common.{◌≡◌, ℕ, Bool, true, false, not, ◌&&◌, if◌then◌else◌, is_some, List, [], ◌∷◌, ◌++◌, length}
-use Rattle.std.proofs.Common.{Option, Some, None, refl, sym, ap, ◌∙◌, append_assoc, append-nil}
-use Rattle.vcd_grammar.specs.declared.fault.VcdFault.{VcdFault}
+use Rattle.std.proofs.Common.{None, refl, sym, ap, ◌∙◌, append_assoc, append-nil}
 use Rattle.vcd_grammar.specs.Tokens.{Token, tokens_so_far, tokens_of, open_run, ended_at}
 use Rattle.vcd_way.specs.Declarations.{Declaration}
 use Rattle.vcd_way.specs.Ways.{ValueRules}
 use Rattle.vcd_way.specs.Pieces.{Happening, Comes, Gets, Switches, pieces_of, over}
 use Rattle.vcd_way.specs.Steps.{DumpState, first_state, happenings_in, unknown_from_here, is_past_header_at, hides_stamp}
-use Rattle.vcd_way.specs.Events.{DumpEvent, course_at_first, events_from}
+use Rattle.vcd_way.specs.Events.{course_at_first, events_from}
 use Rattle.vcd_way.specs.Answers.{state_of, pieces_in, fault_at_end, whole_fault, is_early, first_fault_by, events_by}
 use Rattle.vcd_way.specs.Answers.{events_so_far_by, events_before_end_by, fault_so_far_by, header_by}
 use Rattle.vcd_way.proofs.Interface.{tokens_longer, past-behind, state-append}
@@ -16,12 +15,12 @@ use Rattle.vcd_course.proofs.Interface.{after-append, told-append}
 use Rattle.vcd_header.specs.Gathering.{gathering, header_fault_so_far, header_fault_of}
 use Rattle.vcd_scan.specs.Wired.{Wiring, wired}
 use Rattle.vcd_scan.specs.Begun.{begun}
-use Rattle.vcd_scan.specs.Standing.{tokens_after, last_tokens_after, known_after, first_open_of, open_after, told_after}
+use Rattle.vcd_scan.specs.Standing.{tokens_after, last_tokens_after, known_after, first_open_of, told_after}
 use Rattle.vcd_scan.specs.Standing.{fault_behind, all_told_after}
 use Rattle.vcd_joined.specs.Choosing.{Choice, choosing, IsTaken, of_values}
 use Rattle.vcd_joined.specs.Behind.{gathered_in, IsHeader, behind}
 use Rattle.vcd_joined.specs.Texts.{IsHeadWith, IsWholeWith, is_early_behind}
-use Rattle.vcd_joined.proofs.Header.{known-open, quiet-open, known-at-end}
+use Rattle.vcd_joined.proofs.Header.{known-open, quiet-open, known-at-end, begins-at-end}
 use Rattle.vcd_joined.proofs.Values.{known-behind, happened-behind}
 
 -- ---- what happens, told
@@ -172,9 +171,57 @@ pub events-are : (c : Choice) (m : ValueRules) (w : Wiring) (head fed : List ℕ
 unfolding events_by
 events-are c m w head fed law all h =
     let told =
-        ap (λ ts. events_from m course_at_first (pieces_in (choosing c m) ts)) (all-tokens head fed)
-        ∙ all-behind c m w (tokens_so_far head) (last_tokens_after head fed) all h.header h.taken in
+    ap (λ ts. events_from m course_at_first (pieces_in (choosing c m) ts)) (all-tokens head fed)
+    ∙ all-behind c m w (tokens_so_far head) (last_tokens_after head fed) all h.header h.taken in
     λ i. if early-behind c m w head fed h i then told-so_far c m w head fed law h i else told i
+
+-- ---- texts that are a header
+
+-- what is known at the end of one
+known-of-header : (c : Choice) (m : ValueRules) (w : Wiring) (text : List ℕ) → IsHeader m (tokens_of text)
+    → state_of (choosing c m) (tokens_of text) ≡ behind (gathered_in m (tokens_of text)) (begun w)
+known-of-header c m w text h = known-at-end c m (tokens_of text) h ∙ begins-at-end m w (tokens_of text) h
+
+no-end : (a b p e : Bool) → e ≡ false → (a && b && p && e) ≡ false
+no-end true true true e h = h
+no-end true true false e h = refl
+no-end true false p e h = refl
+no-end false b p e h = refl
+
+no-fault : (c : Choice) (m : ValueRules) (text : List ℕ) → IsHeader m (tokens_of text)
+    → whole_fault (choosing c m) text ≡ None
+no-fault c m text h =
+    ap (λ (s : DumpState (List Declaration)). fault_at_end s.fault s.spot (length text))
+    (known-of-header c m (record { codes = []; lines = [] }) text h)
+
+header-not-early : (c : Choice) (m : ValueRules) (text : List ℕ) → IsHeader m (tokens_of text)
+    → is_early (choosing c m) text ≡ false
+header-not-early c m text h =
+    let s = state_of (choosing c m) (tokens_so_far text) in
+    let all = state_of (choosing c m) (tokens_of text) in
+    no-end m.ends_early (not (is_some s.fault)) (is_past_header_at s.spot && not (hides_stamp all.spot))
+    (is_some (whole_fault (choosing c m) text)) (ap is_some (no-fault c m text h))
+
+pub faultless-header : (c : Choice) (m : ValueRules) (text : List ℕ) → IsHeader m (tokens_of text)
+    → first_fault_by (choosing c m) text ≡ None
+unfolding first_fault_by
+faultless-header c m text h =
+    (λ i. if header-not-early c m text h i then None else no-fault c m text h i)
+
+pub whole-header : (c : Choice) (m : ValueRules) (text : List ℕ) → IsHeader m (tokens_of text)
+    → header_by (choosing c m) text ≡ (gathered_in m (tokens_of text)).header
+unfolding header_by
+whole-header c m text h =
+    ap (λ (s : DumpState (List Declaration)). s.header) (known-at-end c m (tokens_of text) h)
+
+pub told-by-header : (c : Choice) (m : ValueRules) (w : Wiring) (text : List ℕ) → AllTold → IsWholeWith c m w text
+    → events_by (choosing c m) text ≡ all_told_after (of_values m) w []
+unfolding events_by
+told-by-header c m w text all h =
+    ap (λ b. if b then events_so_far_by (choosing c m) text
+    else events_from m course_at_first (pieces_in (choosing c m) (tokens_of text))) (header-not-early c m text h.header)
+    ∙ ap (λ ts. events_from m course_at_first (pieces_in (choosing c m) ts)) (sym (append-nil (tokens_of text)))
+    ∙ all-behind c m w (tokens_of text) [] all h.header h.taken
 
 -- ---- texts whose header is not over
 
@@ -196,7 +243,7 @@ not-so_far m text h = by (is_past_header_at (gathered_in m (tokens_so_far text))
     by true e =
         let last = ended_at (length text) (open_run text) in
         let more = ap (λ (s : DumpState (List Declaration)). is_past_header_at s.spot)
-            (state-append (gathering m) (first_state (gathering m)) (tokens_so_far text) last) in
+        (state-append (gathering m) (first_state (gathering m)) (tokens_so_far text) last) in
         let wrong = sym (past-behind (gathering m) (gathered_in m (tokens_so_far text)) last e) ∙ sym more ∙ h in cc wrong
     by false e = refl
 

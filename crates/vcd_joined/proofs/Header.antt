@@ -7,7 +7,6 @@ use Rattle.vcd_grammar.specs.Tokens.{Token, is_long}
 use Rattle.vcd_grammar.specs.Words.{HeaderWord, Declares, Finishes, Ends, Opens, Bare, header_word, is_dollar, is_end}
 use Rattle.vcd_way.specs.Declarations.{DumpSection, Declaration, declaration_of, with_word}
 use Rattle.vcd_way.specs.Ways.{ValueRules, Way}
-use Rattle.vcd_way.specs.Pieces.{Happening}
 use Rattle.vcd_way.specs.Steps.{Spot, AtPreface, AtHeader, InSection, AtValues, AtCode, AtOtherCode, InRemark, DumpState}
 use Rattle.vcd_way.specs.Steps.{first_state, Step, reads_past, moves_to, breaks, if_short, header_step, unknown_from_here}
 use Rattle.vcd_way.specs.Steps.{declared_step, section_end, section_kept, is_declaring, step_at, step, state_after}

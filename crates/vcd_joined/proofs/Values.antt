@@ -1,14 +1,13 @@
 -- Behind a header, a way that has chosen its lines goes on as a reader of the wires.
 use Rattle.std.proofs.Common.{◌≡◌, ℕ, Bool, true, false, not, ◌&&◌, if◌then◌else◌, is_some, List, [], ◌∷◌, ◌++◌}
 use Rattle.std.proofs.Common.{codes, nat_lt, Option, Some, None, refl, sym, ap, subst, ◌∙◌, append_assoc}
-use Rattle.vcd_grammar.specs.declared.fault.VcdFault.{VcdFault}
 use Rattle.vcd_grammar.specs.declared.fault.VcdCause.{VcdCause}
 use Rattle.vcd_grammar.specs.declared.fault.VcdCause.TheVariants as causes
 use Rattle.vcd_grammar.specs.Tokens.{Token, is_long}
 use Rattle.vcd_grammar.specs.Words.{ValueWord, Stamp, Scalar, Vector, Foreign, Mark, Section, Wrong, same, is_end}
 use Rattle.vcd_way.specs.Declarations.{DumpSection, Declaration, with_word}
 use Rattle.vcd_way.specs.declared.tap.Tap.{Tap}
-use Rattle.vcd_way.specs.Ways.{ValueRules, Way}
+use Rattle.vcd_way.specs.Ways.{ValueRules}
 use Rattle.vcd_way.specs.Pieces.{Off, On, Switches}
 use Rattle.vcd_way.specs.Steps.{Spot, AtPreface, AtHeader, InSection, AtValues, AtCode, AtOtherCode, InRemark, DumpState}
 use Rattle.vcd_way.specs.Steps.{first_state, Step, reads_past, moves_to, breaks, if_short, unknown_from_here}

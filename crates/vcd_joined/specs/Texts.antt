@@ -1,5 +1,5 @@
 -- Where a text ends, as the readers of its header and of its values see it.
-use Rattle.std.specs.Prelude.{◌≡◌, ℕ, Bool, not, ◌&&◌, is_some, List, ◌++◌, length}
+use Rattle.std.specs.Prelude.{ℕ, Bool, not, ◌&&◌, is_some, List, ◌++◌, length}
 use Rattle.vcd_grammar.specs.Tokens.{tokens_so_far, tokens_of}
 use Rattle.vcd_way.specs.Ways.{ValueRules}
 use Rattle.vcd_way.specs.Steps.{hides_stamp}

@@ -6,16 +6,20 @@
 
 ghost use Rattle.std.specs.Prelude.{◌≡◌, ℕ, ◌++◌, false, List, [], None, length, if◌then◌else◌};
 ghost use Rattle.vcd_grammar.specs.Tokens.{Token, tokens_so_far, tokens_of};
+ghost use Rattle.vcd_way.specs.Declarations.{Declaration};
 ghost use Rattle.vcd_way.specs.Ways.{ValueRules};
 ghost use Rattle.vcd_way.specs.Steps.{first_state, happenings_in, is_past_header_at, unknown_from_here};
 ghost use Rattle.vcd_way.specs.Answers.{state_of, events_so_far_by, events_before_end_by, events_by, header_by, fault_so_far_by, first_fault_by};
+ghost use Rattle.scope_wiring.specs.declared.wire.Wire.{Wire};
+ghost use Rattle.scope_way.specs.Wired.{way_by};
 ghost use Rattle.vcd_header.specs.Gathering.{header_fault_so_far, header_fault_of};
 ghost use Rattle.vcd_scan.specs.Begun.{begun};
 ghost use Rattle.vcd_scan.specs.Wired.{Wiring, wired};
 ghost use Rattle.vcd_scan.specs.Standing.{known_after, tokens_after, last_tokens_after, told_after, all_told_after, fault_behind};
 ghost use Rattle.vcd_joined.specs.Choosing.{Choice, choosing, IsTaken, of_values};
 ghost use Rattle.vcd_joined.specs.Behind.{gathered_in, IsHeader, behind};
-ghost use Rattle.vcd_joined.specs.Texts.{IsHeadWith, is_early_behind};
+ghost use Rattle.vcd_joined.specs.Texts.{IsHeadWith, IsWholeWith, is_early_behind};
+ghost use Rattle.vcd_joined.specs.Picking.{picking};
 
 use vcd_course::told_step_by_step;
 
@@ -101,3 +105,23 @@ pub fn texts_end_as_the_readers_say()
 {
     told_step_by_step();
 }
+
+/// A text may end with the `$end` of its header: it has no fault, and tells what a reader of the
+/// wires tells of nothing.
+pub fn headers_may_be_all()
+    ensures fault { (c : Choice) (m : ValueRules) (text : List ℕ) → IsHeader m (tokens_of text) →
+        first_fault_by (choosing c m) text ≡ None }
+    ensures header { (c : Choice) (m : ValueRules) (text : List ℕ) → IsHeader m (tokens_of text) →
+        header_by (choosing c m) text ≡ (gathered_in m (tokens_of text)).header }
+    ensures events { (c : Choice) (m : ValueRules) (w : Wiring) (text : List ℕ) →
+        IsWholeWith c m w text →
+        events_by (choosing c m) text ≡ all_told_after (of_values m) w [] }
+{
+    told_step_by_step();
+}
+
+/// The ways by wires that are picked of a header are such ways.
+pub fn picked_wires_choose()
+    ensures { (choose : List Declaration → List Wire) (m : ValueRules) →
+        way_by choose m ≡ choosing (picking choose) m }
+{}
