@@ -1,0 +1,4 @@
+pub mod Choosing
+pub mod Behind
+pub mod Texts
+pub mod Picking
