@@ -50,27 +50,36 @@ module _ {O D : Type 0} (out : SinkGhosts O) (dump : SinkGhosts D) (before after
       → PlanEnds out (dump_call dump first last) before after told plan text name (played_status played)
   played_as plays.Done h = (
     h.no_dump,
-    inr (tt, record {
-      run = run;
-      is_run = is_run;
-      leaves = (λ tells. h.printed tells (λ e. cc), λ tells. h.whole tells refl);
-    }),
+    inr (
+      tt,
+      record {
+        run = run;
+        is_run = is_run;
+        leaves = (λ tells. h.printed tells (λ e. cc), λ tells. h.whole tells refl);
+      },
+    ),
   )
   played_as plays.WriteFault h = (
     h.no_dump,
-    inr ((h.write_fault refl, h.not_begun refl), record {
-      run = run;
-      is_run = is_run;
-      leaves = (λ tells. h.part tells, λ tells. tt);
-    }),
+    inr (
+      (h.write_fault refl, h.not_begun refl),
+      record {
+        run = run;
+        is_run = is_run;
+        leaves = (λ tells. h.part tells, λ tells. tt);
+      },
+    ),
   )
   played_as plays.DumpFault h = (
     h.no_dump,
-    inr ((h.dump_fault refl, named name (h.has_name refl)), record {
-      run = run;
-      is_run = is_run;
-      leaves = (λ tells. h.printed tells (λ e. cc), λ tells. h.dump_part tells refl);
-    }),
+    inr (
+      (h.dump_fault refl, named name (h.has_name refl)),
+      record {
+        run = run;
+        is_run = is_run;
+        leaves = (λ tells. h.printed tells (λ e. cc), λ tells. h.dump_part tells refl);
+      },
+    ),
   )
 
 -- a bench was made of the plan, and played

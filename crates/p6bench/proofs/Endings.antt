@@ -269,8 +269,7 @@ module _ {S O : Type 0} (source : SourceGhosts S) (out : SinkGhosts O) (up down 
       subst (λ (s : Status). IsPlayed PrintFails down name s) (sym same)
       (played_same name called refl same played)
   played_below name unnamed (inr lost) played =
-      subst (λ (s : Status). IsPlayed PrintFails down name s) (sym lost.1)
-      (
+      subst (λ (s : Status). IsPlayed PrintFails down name s) (sym lost.1) (
         fails (λ fault. absurd (not_both called fault lost.0)) lost.1,
         λ none. faulty_named name unnamed played lost.1 none,
       )

@@ -76,10 +76,7 @@ fn call(rt: &(impl Files + Print + AllocGlobal), words: &Words) -> Result<Status
 // Does what a command asks for, with one object that does what a bench file's hazard lines say, and with three probes.
 // It reads the file that the command names and writes to standard output, and to the file that it names for a dump, which
 // never is the file that is read. A dump is stored before the call is done. `Memory` means that it did nothing.
-fn obey(
-    rt: &(impl Files + Print + AllocGlobal),
-    command: Command<'_>,
-) -> Result<Status, Memory>
+fn obey(rt: &(impl Files + Print + AllocGlobal), command: Command<'_>) -> Result<Status, Memory>
     requires { KeepsLimits (form_meant command) }
     ensures { IfOk result (λ status. MayEnd (Some (form_meant command.entry)) status) }
 {
@@ -107,11 +104,7 @@ fn obey(
 }
 
 // The end of a call that may have named a dump: where it was done, the system is asked to store the dump.
-fn kept<R: Files + Print>(
-    status: Status,
-    names_dump: bool,
-    dump: Gather<FileSink<'_, R>>,
-) -> Status
+fn kept<R: Files + Print>(status: Status, names_dump: bool, dump: Gather<FileSink<'_, R>>) -> Status
     ensures unnamed { names_dump ≡ false → result ≡ status }
     ensures ends { (result ≡ status)
         ⊎ ((status ≡ Status.Done) × (result ≡ Status.DumpFault)) }

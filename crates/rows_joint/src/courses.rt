@@ -78,13 +78,29 @@ use Purpose::{Own, Read, Upgrade, WriteBack};
 
 #[test]
 fn owners_answer(rt: HostRuntime) {
-    let silent = [Ends(0, Own, false, false, false), Awaits(0), Ends(1, Read, false, false, false)];
+    let silent = [
+        Ends(0, Own, false, false, false),
+        Awaits(0),
+        Ends(1, Read, false, false, false),
+    ];
     assert_eq!(rt; first_unfit(JointSet::unheld(), &silent), 2);
-    let heard = [Ends(0, Own, false, false, false), Awaits(0), Ends(1, Read, false, true, false)];
+    let heard = [
+        Ends(0, Own, false, false, false),
+        Awaits(0),
+        Ends(1, Read, false, true, false),
+    ];
     assert_eq!(rt; first_unfit(JointSet::unheld(), &heard), 3);
-    let too_soon = [Ends(0, Read, false, false, false), Awaits(0), Ends(1, Read, false, true, false)];
+    let too_soon = [
+        Ends(0, Read, false, false, false),
+        Awaits(0),
+        Ends(1, Read, false, true, false),
+    ];
     assert_eq!(rt; first_unfit(JointSet::unheld(), &too_soon), 2);
-    let stored = [Ends(0, Read, false, false, false), Rests, Ends(1, Read, false, true, false)];
+    let stored = [
+        Ends(0, Read, false, false, false),
+        Rests,
+        Ends(1, Read, false, true, false),
+    ];
     assert_eq!(rt; first_unfit(JointSet::unheld(), &stored), 3);
     let stored_twice = [
         Ends(0, Read, false, false, false),
@@ -98,9 +114,17 @@ fn owners_answer(rt: HostRuntime) {
 
 #[test]
 fn holders_answer(rt: HostRuntime) {
-    let silent = [Ends(0, Read, false, false, false), Awaits(0), Ends(1, Read, false, false, false)];
+    let silent = [
+        Ends(0, Read, false, false, false),
+        Awaits(0),
+        Ends(1, Read, false, false, false),
+    ];
     assert_eq!(rt; first_unfit(JointSet::unheld(), &silent), 2);
-    let dropped = [Ends(0, Read, false, false, false), Rests, Ends(1, Read, false, false, false)];
+    let dropped = [
+        Ends(0, Read, false, false, false),
+        Rests,
+        Ends(1, Read, false, false, false),
+    ];
     assert_eq!(rt; first_unfit(JointSet::unheld(), &dropped), 3);
     let of_nobody = [Ends(0, Read, true, false, false)];
     assert_eq!(rt; first_unfit(JointSet::unheld(), &of_nobody), 0);
@@ -127,11 +151,23 @@ fn requests_fit_what_their_agents_have(rt: HostRuntime) {
     for kind in [Read, Own, Upgrade, WriteBack] {
         assert_eq!(rt; first_unfit(JointSet::every(), &[Begins(0, kind)]), 1);
     }
-    let read_again = [Ends(0, Read, false, false, false), Awaits(0), Begins(0, Read)];
+    let read_again = [
+        Ends(0, Read, false, false, false),
+        Awaits(0),
+        Begins(0, Read),
+    ];
     assert_eq!(rt; first_unfit(JointSet::unheld(), &read_again), 2);
-    let clean_written = [Ends(0, Read, false, false, false), Awaits(0), Begins(0, WriteBack)];
+    let clean_written = [
+        Ends(0, Read, false, false, false),
+        Awaits(0),
+        Begins(0, WriteBack),
+    ];
     assert_eq!(rt; first_unfit(JointSet::unheld(), &clean_written), 2);
-    let written = [Ends(0, Read, false, false, false), Rests, Begins(0, WriteBack)];
+    let written = [
+        Ends(0, Read, false, false, false),
+        Rests,
+        Begins(0, WriteBack),
+    ];
     assert_eq!(rt; first_unfit(JointSet::unheld(), &written), 3);
 }
 
@@ -170,7 +206,11 @@ fn replies_are_no_snoops(rt: HostRuntime) {
         Answers(0, Read, true),
     ];
     assert_eq!(rt; first_unfit(JointSet::unheld(), &given_up), 5);
-    let owned = [Ends(0, Own, false, false, true), Answers(0, Own, false), Ends(1, Read, false, false, false)];
+    let owned = [
+        Ends(0, Own, false, false, true),
+        Answers(0, Own, false),
+        Ends(1, Read, false, false, false),
+    ];
     assert_eq!(rt; first_unfit(JointSet::unheld(), &owned), 2);
     let held_by_another = [
         Ends(0, Own, false, false, true),
@@ -185,7 +225,9 @@ fn replies_are_no_snoops(rt: HostRuntime) {
 fn ownership_is_told(rt: HostRuntime) {
     let owned = after(JointSet::unheld(), Ends(0, Own, false, false, false));
     assert!(rt; owned.is_owned_elsewhere(1) && !owned.is_owned_elsewhere(0));
-    assert!(rt; !JointSet::every().is_owned_elsewhere(1) && !JointSet::unheld().is_owned_elsewhere(1));
+    assert!(rt;
+        !JointSet::every().is_owned_elsewhere(1) && !JointSet::unheld().is_owned_elsewhere(1)
+    );
 }
 
 #[test]

@@ -13,6 +13,6 @@ returns g c call ends tells prints dumps bench name e done =
     (λ r leaves. (
       subst (λ s. IsLogged s (run_log r) (printed_before call) (printed call)) done (leaves.0 prints),
       (subst (λ s. IsDumped s (run_dump r) (Some name) (g.D.Sink.holds call.first) (g.D.Sink.begun_as call.first)
-      (g.D.Sink.holds call.last) (g.D.Sink.begun_as call.last)) done (leaves.1 dumps)).whole,
+          (g.D.Sink.holds call.last) (g.D.Sink.begun_as call.last)) done (leaves.1 dumps)).whole,
     ))
     (c.runs_leave_log_and_dump.ensures.ran call ends bench (Some name) e (subst HasRun (sym done) tt))
