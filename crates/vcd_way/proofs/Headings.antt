@@ -28,15 +28,15 @@ use Rattle.vcd_way.specs.Answers.{state_of, header_in, header_by, header_so_far_
 use Rattle.vcd_way.specs.Events.{course_at_first, events_from}
 
 -- the state at a spot
-abbrev placed : {W : Type 0} → DumpState W → Spot → DumpState W
+abbrev pub placed : {W : Type 0} → DumpState W → Spot → DumpState W
 placed s spot = record s { spot = spot }
 
 -- ---- behind the header
 
 -- the header is over, and what is kept of it stays
-record Stays {W : Type 0} (s : DumpState W) (y : Step W) : Type 0 where
-  header : y.state.header ≡ s.header
-  past : is_past_header_at y.state.spot ≡ true
+pub record Stays {W : Type 0} (s : DumpState W) (y : Step W) : Type 0 where
+  pub header : y.state.header ≡ s.header
+  pub past : is_past_header_at y.state.spot ≡ true
 
 stays-if : {W : Type 0} (s : DumpState W) (b : Bool) (x y : Step W) → Stays s x → Stays s y → Stays s (if b then x else y)
 stays-if s true x y p q = p
@@ -127,6 +127,41 @@ stays-at way (InRemark section) s t h =
     stays-if p (is_end t.word) (moves_to (record p { remarks = s.remarks ++ section ∷ [] }) AtValues)
     (moves_to p (InRemark (with_word section t.word))) (record { header = refl; past = refl })
     (record { header = refl; past = refl })
+
+past-if : {W : Type 0} (s : DumpState W) (y : Step W) (f : Bool) → is_past_header_at s.spot ≡ true → Stays s y
+    → is_past_header_at (if f then reads_past s else y).state.spot ≡ true
+past-if s y true h p = h
+past-if s y false h p = p.past
+
+past-step : {W : Type 0} (way : Way W) (s : DumpState W) (t : Token) → is_past_header_at s.spot ≡ true
+    → is_past_header_at (step way s t).state.spot ≡ true
+unfolding step
+past-step way s t h = past-if s (step_at way s.spot s t) (is_some s.fault) h (stays-at way s.spot s t h)
+
+-- once the header is over, it stays so
+pub past-behind : {W : Type 0} (way : Way W) (s : DumpState W) (ts : List Token) → is_past_header_at s.spot ≡ true
+    → is_past_header_at (state_after way s ts).spot ≡ true
+past-behind way s [] h = h
+past-behind way s (t ∷ ts) h = past-behind way (step way s t).state ts (past-step way s t h)
+
+fault-step : {W : Type 0} (way : Way W) (s : DumpState W) (t : Token) → is_some s.fault ≡ true
+    → (step way s t).state ≡ s
+unfolding step
+fault-step way s t h = ap (λ b. (if b then reads_past s else step_at way s.spot s t).state) h
+
+-- after a fault nothing changes
+pub fault-behind : {W : Type 0} (way : Way W) (s : DumpState W) (ts : List Token) → is_some s.fault ≡ true
+    → state_after way s ts ≡ s
+fault-behind way s [] h = refl
+fault-behind way s (t ∷ ts) h =
+    let e = fault-step way s t h in
+    ap (λ r. state_after way r ts) e ∙ fault-behind way s ts h
+
+-- a token where there is no fault before it
+pub sound-step : {W : Type 0} (way : Way W) (s : DumpState W) (t : Token) → s.fault ≡ None
+    → step way s t ≡ step_at way s.spot s t
+unfolding step
+sound-step way s t h = ap (λ f. if is_some f then reads_past s else step_at way s.spot s t) h
 
 -- nothing more is kept of the header: it is over, or there is a fault
 abbrev Done : {W : Type 0} → DumpState W → Type 0

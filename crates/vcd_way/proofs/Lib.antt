@@ -7,3 +7,4 @@ mod Headings
 mod Longer
 mod Rows
 mod Widths
+pub mod Interface

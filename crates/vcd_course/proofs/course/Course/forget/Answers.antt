@@ -1,0 +1,10 @@
+use Rattle.std.proofs.Common.{ap, ◌∙◌}
+use Rattle.vcd_course.specs.Opening.{OpenPiece}
+use Rattle.vcd_course.specs.Told.{open_told}
+use Rattle.vcd_course.proofs.Opening.{forgotten_from_here}
+use Rattle.vcd_course.proofs.course.Course.forget.Goals as goal
+
+pub returns-clause-open : goal.returns-clause-open
+returns-clause-open c =
+    let o : OpenPiece = open_told c.args.self.now in
+    (λ i. record o { now = c.forget.ensures i }) ∙ forgotten_from_here o c.args.unset.now

@@ -1,0 +1,191 @@
+ghost use Rattle.std.specs.Prelude.{◌≡◌, ◌++◌, [], ◌∷◌, true, false};
+ghost use Rattle.std.specs.List.{list_all};
+ghost use Rattle.vcd_way.specs.Ways.{ValueRules};
+ghost use Rattle.vcd_way.specs.Pieces.{Happening, Comes, Gets, Switches};
+ghost use Rattle.vcd_way.specs.Lawful.{is_line, is_lawful_tap};
+ghost use Rattle.vcd_way.specs.Steps.{is_too_wide_for, unknown_from_here};
+ghost use Rattle.vcd_way.specs.Events.{Sampled, sampled, is_edge, digit_after, is_known_digit};
+ghost use Rattle.vcd_grammar.specs.Values.{sample_of};
+ghost use Rattle.vcd_course.specs.Told.{event_list, event_told, stamp_told, last_told, switch_told, rows_told, open_told, rules_of, late_of, FitsCourse};
+ghost use Rattle.vcd_course.specs.Opening.{first_open, next_open, after_happening, after_happenings, ended_in, told_at, sample_by};
+
+use crate::event::{CourseEvent, Stamp, Told};
+use crate::lines::Rows;
+use vcd_way::{Edge, Tap};
+
+/// When there is a sample.
+#[derive(Clone, Copy, Debug, PartialEq, Eq)]
+pub struct CourseRules {
+    pub edge: Edge,
+    /// A clock whose first known digit is the one after an edge has an edge there.
+    pub takes_first: bool,
+}
+
+/// The lines while a dump is read.
+#[derive(Drop)]
+pub struct Course {
+    rules: CourseRules,
+    /// The lines that are sampled after the changes of the edge's own time.
+    late: Vec<u8>,
+    /// Before the block that stands open.
+    before: Rows,
+    /// In it.
+    inside: Rows,
+    /// The clock was 0 or 1 before the block.
+    is_seen: bool,
+    stamp: Option<Stamp>,
+}
+
+impl Course {
+    /// Before anything happens.
+    pub fn new(rules: CourseRules, late: Vec<u8>) -> Self
+        ensures open { open_told result ≡ first_open }
+        ensures rules { rules_of result ≡ rules }
+        ensures late { late_of result ≡ late.items }
+    {
+        Course {
+            rules,
+            late,
+            before: Rows::new(),
+            inside: Rows::new(),
+            is_seen: false,
+            stamp: None,
+        }
+    }
+
+    /// Some taps get a value.
+    pub fn gets(&mut self, taps: &[Tap], digits: &[u8])
+        requires lawful { list_all is_lawful_tap taps.now ≡ true }
+        requires fits { is_too_wide_for taps.now digits.now ≡ false }
+        ensures open { open_told self.new ≡ after_happening (open_told self.old)
+            (Gets (record { taps = taps.now; digits = digits.now })) }
+        ensures rules { rules_of self.new ≡ rules_of self.old }
+        ensures late { late_of self.new ≡ late_of self.old }
+    {
+        self.inside.set_taps(taps, digits);
+    }
+
+    /// These lines become unknown until they get a value.
+    pub fn forget(&mut self, unset: &[u8])
+        requires { list_all is_line unset.now ≡ true }
+        ensures open { open_told self.new
+            ≡ after_happenings (open_told self.old) (unknown_from_here unset.now) }
+        ensures rules { rules_of self.new ≡ rules_of self.old }
+        ensures late { late_of self.new ≡ late_of self.old }
+    {
+        self.inside.forget(unset);
+    }
+
+    /// A greater time comes. Tells the sample of the block that it ends, if there is one.
+    pub fn comes(&mut self, stamp: Stamp) -> Option<CourseEvent>
+        ensures open { open_told self.new ≡ after_happening (open_told self.old) (Comes (stamp_told stamp)) }
+        ensures told { (m : ValueRules) → FitsCourse m self.old →
+            event_list result ≡ told_at m (open_told self.old) (Comes (stamp_told stamp)) }
+        ensures rules { rules_of self.new ≡ rules_of self.old }
+        ensures late { late_of self.new ≡ late_of self.old }
+    {
+        let event = self.ended();
+        self.close();
+        self.stamp = Some(stamp);
+        event
+    }
+
+    /// The dump stops for a time, or it goes on, and these lines are unknown. Tells the sample of the
+    /// block that this ends, if there is one, and then that it stops or goes on.
+    pub fn switches(&mut self, is_off: bool, lines: &[u8]) -> (Option<CourseEvent>, CourseEvent)
+        requires { list_all is_line lines.now ≡ true }
+        ensures open { open_told self.new ≡ after_happening (open_told self.old)
+            (Switches (switch_told is_off) lines.now) }
+        ensures told { (m : ValueRules) → FitsCourse m self.old →
+            event_list result.0 ++ event_told result.1 ∷ []
+            ≡ told_at m (open_told self.old) (Switches (switch_told is_off) lines.now) }
+        ensures rules { rules_of self.new ≡ rules_of self.old }
+        ensures late { late_of self.new ≡ late_of self.old }
+    {
+        let event = self.ended();
+        self.close();
+        self.inside.forget(lines);
+        self.before = self.inside;
+        let told = if is_off { Told::Hole } else { Told::Resumed };
+        (
+            event,
+            CourseEvent {
+                told,
+                stamp: self.stamp,
+            },
+        )
+    }
+
+    /// The sample of the block that stands open, if it ended here.
+    pub fn ends(&self) -> Option<CourseEvent>
+        ensures { (m : ValueRules) → FitsCourse m self.now →
+            event_list result ≡ ended_in m (open_told self.now) }
+    {
+        self.ended()
+    }
+
+    /// The same, by the rules of the course.
+    fn ended(&self) -> Option<CourseEvent>
+        ensures { event_list result ≡ sample_by self.now.rules.edge self.now.rules.takes_first
+            self.now.late.items (open_told self.now) }
+    {
+        let clock = self.inside.clock();
+        if self.is_seen && is_edge(self.rules.edge, self.before.clock(), clock) {
+            return self.sample(&self.before);
+        }
+        if self.rules.takes_first && !self.is_seen && clock == digit_after(self.rules.edge) {
+            return self.sample(&self.before.settled(&self.inside));
+        }
+        None
+    }
+
+    /// The sample of these digits before the block.
+    fn sample(&self, before: &Rows) -> Option<CourseEvent>
+        ensures { event_list result ≡ Sampled (sample_of
+            (sampled self.now.late.items (rows_told before.now) (rows_told self.now.inside)))
+            (last_told self.now.stamp) ∷ [] }
+    {
+        let rows = before.sampled(self.late.as_slice(), &self.inside);
+        Some(CourseEvent {
+            told: Told::Sampled(rows.sample()),
+            stamp: self.stamp,
+        })
+    }
+
+    /// Ends the block.
+    fn close(&mut self)
+        ensures open { open_told self.new ≡ next_open (open_told self.old) }
+        ensures rules { self.new.rules ≡ self.old.rules }
+        ensures late { self.new.late ≡ self.old.late }
+    {
+        self.is_seen = self.is_seen || is_known_digit(self.inside.clock());
+        self.before = self.inside;
+    }
+}
+
+/// Whether the digit is known.
+fn is_known_digit(digit: u8) -> bool
+    ensures { result ≡ is_known_digit digit }
+{
+    digit == b'0' || digit == b'1'
+}
+
+/// Whether the clock's edge lies between these digits.
+fn is_edge(edge: Edge, before: u8, after: u8) -> bool
+    ensures { result ≡ is_edge edge before after }
+{
+    match edge {
+        Edge::Rising => before == b'0' && after == b'1',
+        Edge::Falling => after == b'0' && before == b'1',
+    }
+}
+
+/// The clock's digit after its edge.
+fn digit_after(edge: Edge) -> u8
+    ensures { result ≡ digit_after edge }
+{
+    match edge {
+        Edge::Rising => b'1',
+        Edge::Falling => b'0',
+    }
+}

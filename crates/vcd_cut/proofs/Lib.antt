@@ -1,0 +1,4 @@
+mod TokenRuns
+mod LaneRuns
+mod Cutting
+mod Standings

@@ -1,0 +1,11 @@
+-- What a cutter stands for.
+use Rattle.std.specs.Prelude.{◌≡◌, ℕ, count_by, List, length}
+use Rattle.vcd_grammar.specs.Tokens.{open_run}
+use Rattle.vcd_cut.specs.declared.cutter.Cutter.{Cutter}
+use Rattle.vcd_cut.specs.Cutting.{is_break}
+
+-- the cutter has read these bytes, the first ones of a text
+pub record Stands (c : Cutter) (fed : List ℕ) : Type 0 where
+  pub at : c.at ≡ length fed
+  pub breaks : c.breaks ≡ count_by is_break fed
+  pub run : c.run.bytes.items ≡ open_run fed

@@ -1,0 +1,4 @@
+mod Faults
+mod Sections
+mod Readings
+mod Numbers

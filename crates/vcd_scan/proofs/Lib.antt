@@ -1,0 +1,4 @@
+mod Events
+mod Reading
+mod Readers
+mod Steps

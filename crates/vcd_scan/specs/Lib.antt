@@ -1,0 +1,5 @@
+pub mod Wired
+pub mod Digits
+pub mod Told
+pub mod Standing
+pub mod Begun

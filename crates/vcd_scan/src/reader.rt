@@ -1,0 +1,239 @@
+ghost use Rattle.std.specs.Prelude.{◌≡◌, ◌<◌, ◌≤◌, ◌+◌, ◌^◌, ◌++◌, ℕ, List, [], length, take, None, Some, Err, map, IfOk, OnOk};
+ghost use Rattle.vcd_cut.specs.Standing.{Stands as CutterStands};
+ghost use Rattle.vcd_course.specs.Told.{event_told, open_told};
+ghost use Rattle.vcd_course.specs.Opening.{first_open};
+ghost use Rattle.vcd_scan.specs.Wired.{wires_told};
+ghost use Rattle.vcd_scan.specs.Told.{values_by};
+ghost use Rattle.vcd_scan.specs.Standing.{Works, Stands, Reads, Took, Keeps, Answers, Appends, AppendsBy, refusal_of, refusal_in, rules_of, wiring_of, events_of, tokens_after, last_tokens_after, known_after, told_after, fault_behind, all_told_after};
+
+use crate::machine::{Machine, ScanRules};
+use crate::stop::ScanStop;
+use crate::wire::Wires;
+use std::alloc::{AllocError, Global};
+use vcd_course::{Course, CourseEvent};
+use vcd_cut::Cutter;
+use vcd_grammar::{VcdCause, VcdFault};
+
+/// Reads the values of a dump in pieces of any size.
+#[derive(Drop)]
+pub struct ValueReader {
+    cutter: Cutter,
+    machine: Machine,
+    refused: Option<ScanStop>,
+}
+
+impl ValueReader {
+    /// A reader that goes on after a header, which the cutter has read, with a course before
+    /// anything happens. The lines are unknown until they get a value.
+    pub fn new(
+        alloc: Global,
+        rules: ScanRules,
+        wires: Wires,
+        cutter: Cutter,
+        course: Course,
+    ) -> Self
+        requires { open_told course ≡ first_open }
+        ensures stands { (head : List ℕ) → CutterStands cutter head → Stands result head [] }
+        ensures fresh { refusal_of result ≡ None }
+        ensures wiring { wiring_of result ≡ wires_told wires }
+        ensures rules { rules_of result ≡ values_by rules course }
+        ensures events { events_of result ≡ [] }
+    {
+        let mut course = course;
+        course.forget(wires.lines.as_slice());
+        ValueReader {
+            cutter,
+            machine: Machine::new(alloc, rules, wires, course),
+            refused: None,
+        }
+    }
+
+    /// The next piece of the text. Keeps what it tells for who takes it. After a refusal it refuses in
+    /// the same way for good.
+    pub fn feed(&mut self, piece: &[u8]) -> Result<(), ScanStop>
+        // No `finish` has answered Ok, and the bytes fed are few enough to be counted.
+        requires { (head fed : List ℕ) × Stands self.old head fed × (length (head ++ fed) + length
+            piece.now + 1 < 2 ^ 64) }
+        ensures stands { (head fed : List ℕ) → Stands self.old head fed →
+            Stands self.new head (fed ++ piece.now) }
+        ensures refusal { refusal_of self.new ≡ refusal_in result }
+        ensures keeps { Keeps self.old self.new }
+        ensures answer { (head fed : List ℕ) → Stands self.old head fed → refusal_of self.old ≡
+            None →
+            Answers result (known_after (rules_of self.old) (wiring_of self.old)
+            (tokens_after head (fed ++ piece.now))).fault }
+        ensures told { (head fed : List ℕ) → Stands self.old head fed → refusal_of self.old ≡ None →
+            AppendsBy result
+            (told_after (rules_of self.old) (wiring_of self.old) (tokens_after head fed))
+            (told_after (rules_of self.old) (wiring_of self.old) (tokens_after head (fed ++ piece.now)))
+            (events_of self.old) (events_of self.new) }
+        ensures again { (stop : ScanStop) → refusal_of self.old ≡ Some stop → result ≡ Err stop }
+    {
+        if let Some(stop) = self.refused {
+            return Err(stop);
+        }
+        let answer = self.absorb(piece);
+        if let Err(stop) = answer {
+            self.refused = Some(stop);
+        }
+        answer
+    }
+
+    /// The next piece, where nothing was refused.
+    fn absorb(&mut self, piece: &[u8]) -> Result<(), ScanStop>
+        requires { (head fed : List ℕ) × Works self.old head fed × (length (head ++ fed) + length
+            piece.now + 1 < 2 ^ 64) }
+        ensures works { (head fed : List ℕ) → Works self.old head fed →
+            OnOk result (Works self.new head (fed ++ piece.now)) }
+        ensures refusal { refusal_of self.new ≡ refusal_of self.old }
+        ensures keeps { Keeps self.old self.new }
+        ensures answer { (head fed : List ℕ) → Works self.old head fed →
+            Answers result (known_after (rules_of self.old) (wiring_of self.old)
+            (tokens_after head (fed ++ piece.now))).fault }
+        ensures told { (head fed : List ℕ) → Works self.old head fed →
+            AppendsBy result
+            (told_after (rules_of self.old) (wiring_of self.old) (tokens_after head fed))
+            (told_after (rules_of self.old) (wiring_of self.old) (tokens_after head (fed ++ piece.now)))
+            (events_of self.old) (events_of self.new) }
+    {
+        let mut used = 0;
+        while used < piece.len() {
+            let len = self.step(&piece[used..])?;
+            used += len;
+            match self.machine.fault {
+                Some(fault) => return Err(ScanStop::Bad(fault)),
+                None => {}
+            }
+        }
+        Ok(())
+    }
+
+    /// The bytes up to the first white space and that byte too, or all bytes where there is none.
+    /// Tells how many.
+    fn step(&mut self, bytes: &[u8]) -> Result<usize, AllocError>
+        requires some { 0 < length bytes.now }
+        requires room { (head fed : List ℕ) × Works self.old head fed × (length (head ++ fed) +
+            length bytes.now + 1 < 2 ^ 64) }
+        ensures some { IfOk result (λ len. 0 < len) }
+        ensures within { IfOk result (λ len. len ≤ length bytes.now) }
+        ensures reads { (head fed : List ℕ) → Works self.old head fed →
+            IfOk result (λ len. Reads self.new head (fed ++ take len bytes.now)) }
+        ensures told { (head fed : List ℕ) → Works self.old head fed →
+            IfOk result (λ len. Appends
+            (told_after (rules_of self.old) (wiring_of self.old) (tokens_after head fed))
+            (told_after (rules_of self.old) (wiring_of self.old) (tokens_after head (fed ++ take len bytes.now)))
+            (events_of self.old) (events_of self.new)) }
+        ensures refusal { refusal_of self.new ≡ refusal_of self.old }
+        ensures keeps { Keeps self.old self.new }
+    {
+        let cut = self.cutter.next(bytes);
+        match cut.token {
+            None => Ok(cut.used),
+            Some(token) => {
+                let word = self.cutter.word(token, bytes);
+                self.machine.take(token.place, token.line, word)?;
+                Ok(cut.used)
+            }
+        }
+    }
+
+    /// The end of the text. Tells the samples of the last block too, where the text may end there.
+    /// A text that ends early is refused here.
+    pub fn finish(&mut self) -> Result<(), ScanStop>
+        // No `finish` has answered Ok.
+        requires { (head fed : List ℕ) × Stands self.old head fed × (length (head ++ fed) + 1 < 2
+            ^ 64) }
+        ensures refusal { refusal_of self.new ≡ refusal_in result }
+        ensures keeps { Keeps self.old self.new }
+        ensures answer { (head fed : List ℕ) → Stands self.old head fed → refusal_of self.old ≡
+            None →
+            Answers result (fault_behind (rules_of self.old) (wiring_of self.old)
+            (last_tokens_after head fed) (length (head ++ fed))) }
+        ensures told { (head fed : List ℕ) → Stands self.old head fed →
+            OnOk result (Appends
+            (told_after (rules_of self.old) (wiring_of self.old) (tokens_after head fed))
+            (all_told_after (rules_of self.old) (wiring_of self.old) (last_tokens_after head fed))
+            (events_of self.old) (events_of self.new)) }
+        ensures again { (stop : ScanStop) → refusal_of self.old ≡ Some stop → result ≡ Err stop }
+    {
+        if let Some(stop) = self.refused {
+            return Err(stop);
+        }
+        let answer = self.end();
+        if let Err(stop) = answer {
+            self.refused = Some(stop);
+        }
+        answer
+    }
+
+    /// The end of the text, where nothing was refused.
+    fn end(&mut self) -> Result<(), ScanStop>
+        requires { (head fed : List ℕ) × Works self.old head fed × (length (head ++ fed) + 1 < 2 ^
+            64) }
+        ensures refusal { refusal_of self.new ≡ refusal_of self.old }
+        ensures keeps { Keeps self.old self.new }
+        ensures answer { (head fed : List ℕ) → Works self.old head fed →
+            Answers result (fault_behind (rules_of self.old) (wiring_of self.old)
+            (last_tokens_after head fed) (length (head ++ fed))) }
+        ensures told { (head fed : List ℕ) → Works self.old head fed →
+            OnOk result (Appends
+            (told_after (rules_of self.old) (wiring_of self.old) (tokens_after head fed))
+            (all_told_after (rules_of self.old) (wiring_of self.old) (last_tokens_after head fed))
+            (events_of self.old) (events_of self.new)) }
+    {
+        let place = self.cutter.place();
+        self.last()?;
+        match self.machine.fault {
+            Some(fault) => return Err(ScanStop::Bad(fault)),
+            None => {}
+        }
+        if !self.machine.is_between_values() {
+            return Err(ScanStop::Bad(VcdFault {
+                place,
+                cause: VcdCause::Cut,
+            }));
+        }
+        self.machine.close()?;
+        Ok(())
+    }
+
+    /// The last token.
+    fn last(&mut self) -> Result<(), AllocError>
+        requires { (head fed : List ℕ) × Works self.old head fed × (length (head ++ fed) + 1 < 2 ^
+            64) }
+        ensures refusal { refusal_of self.new ≡ refusal_of self.old }
+        ensures keeps { Keeps self.old self.new }
+        ensures took { (head fed : List ℕ) → Works self.old head fed →
+            OnOk result (Took self.new (last_tokens_after head fed)) }
+        ensures told { (head fed : List ℕ) → Works self.old head fed →
+            OnOk result (Appends
+            (told_after (rules_of self.old) (wiring_of self.old) (tokens_after head fed))
+            (told_after (rules_of self.old) (wiring_of self.old) (last_tokens_after head fed))
+            (events_of self.old) (events_of self.new)) }
+    {
+        match self.cutter.finish() {
+            None => Ok(()),
+            Some(token) => {
+                let word = self.cutter.word(token, &[]);
+                self.machine.take(token.place, token.line, word)
+            }
+        }
+    }
+
+    /// What was told and nobody took, in its order.
+    pub fn events(&self) -> &[CourseEvent]
+        ensures { map event_told result.now ≡ events_of self.now }
+    {
+        self.machine.told.as_slice()
+    }
+
+    /// Forgets what was told so far.
+    pub fn take_events(&mut self)
+        ensures events { events_of self.new ≡ [] }
+        ensures stands { (head fed : List ℕ) → Stands self.old head fed → Stands self.new head fed }
+        ensures refusal { refusal_of self.new ≡ refusal_of self.old }
+        ensures keeps { Keeps self.old self.new }
+    {
+        self.machine.told.clear();
+    }
+}

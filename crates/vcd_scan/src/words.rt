@@ -1,0 +1,50 @@
+//! What a token says by itself.
+
+ghost use Rattle.std.specs.Prelude.{◌≡◌, codes};
+ghost use Rattle.vcd_grammar.specs.Digits.{time_in};
+ghost use Rattle.vcd_grammar.specs.Words.{is_read_past, same};
+ghost use Rattle.vcd_way.specs.Steps.{is_unreadable};
+
+use vcd_header::{is_end, number_up_to};
+
+/// The time that a stamp tells behind its number sign.
+#[tactic(auto, unfolding(vcd_grammar::specs::Digits::time_in))]
+pub(crate) fn time_in(digits: &[u8]) -> Option<u64>
+    ensures { result ≡ time_in digits.now }
+{
+    if digits.len() <= 20 {
+        number_up_to(u64::MAX, digits)
+    } else {
+        None
+    }
+}
+
+/// Whether changes stand behind the word.
+#[tactic(auto, unfolding(vcd_grammar::specs::Words::is_read_past))]
+pub(crate) fn is_read_past(word: &[u8]) -> bool
+    ensures { result ≡ is_read_past word.now }
+{
+    (b"$dumpvars".as_slice() == word || b"$dumpall".as_slice() == word)
+        || ((b"$dumpon".as_slice() == word || b"$dumpoff".as_slice() == word) || is_end(word))
+}
+
+/// Whether the dump stops for a time there.
+pub(crate) fn is_off_word(word: &[u8]) -> bool
+    ensures { result ≡ same (codes "$dumpoff") word.now }
+{
+    b"$dumpoff".as_slice() == word
+}
+
+/// Whether it goes on there.
+pub(crate) fn is_on_word(word: &[u8]) -> bool
+    ensures { result ≡ same (codes "$dumpon") word.now }
+{
+    b"$dumpon".as_slice() == word
+}
+
+/// Whether a vector has no digits, or more than are known.
+pub(crate) fn is_unreadable(digits: &[u8]) -> bool
+    ensures { result ≡ is_unreadable digits.now }
+{
+    digits.len() == 0 || 70_000 <= digits.len()
+}
