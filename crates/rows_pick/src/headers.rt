@@ -1,464 +1,184 @@
-//! Headers, a variable a line: its scope, type, width, code, name, and its range where one is written.
+//! Headers, in a few words a line: a bus, a word bit by bit, or one variable.
+//!
+//! `SCOPE bus CODE [CODE] [-LINE ..]` declares the needed lines by the table's names, ranges and order, but for those
+//! with a minus sign. Codes are the first letter, of words the second one, and a letter by the line's number.
+//! `SCOPE bits CODE LINE FORM LOW HIGH` declares a word's bits by name and form: `[`, `(`, `_`, or `:` for a range.
+//! `SCOPE KIND WIDTH CODE NAME [RANGE]` declares one variable. The scope `.` is the root.
 
-use scope_pick::{Declaration, Range};
+use scope_pick::{Range, Variable, Written};
 use std::alloc::{AllocError, Global};
 
-/// The names of the table.
-pub(crate) const EXACT: &str = r"tb.dut wire 1 a BCLK
-tb.dut wire 1 b BREQ0_n
-tb.dut wire 1 c ADS_n
-tb.dut wire 5 d REQ_n 4:0
-tb.dut wire 33 e A_n 35:3
-tb.dut wire 1 f HIT_n
-tb.dut wire 1 g HITM_n
-tb.dut wire 3 h RS_n 2:0
-tb.dut wire 1 i TRDY_n
-tb.dut wire 1 j DBSY_n
-tb.dut wire 1 k DRDY_n
-tb.dut wire 64 l D_n 63:0";
+/// The needed lines: their numbers, names, widths, and ranges where they are words.
+static NEEDED: [(u8, &'static str, u32, Option<(u32, u32)>); 12] = [
+    (0, "BCLK", 1, None),
+    (1, "BREQ0_n", 1, None),
+    (8, "ADS_n", 1, None),
+    (9, "REQ_n", 5, Some((4, 0))),
+    (10, "A_n", 33, Some((35, 3))),
+    (12, "HIT_n", 1, None),
+    (13, "HITM_n", 1, None),
+    (15, "RS_n", 3, Some((2, 0))),
+    (16, "TRDY_n", 1, None),
+    (17, "DBSY_n", 1, None),
+    (18, "DRDY_n", 1, None),
+    (19, "D_n", 64, Some((63, 0))),
+];
 
-/// Every other spelling.
-pub(crate) const LOOSE: &str = r"tb.dut wire 1 a bclk
-tb.dut wire 1 b breq0#
-tb.dut wire 1 c ADS_b
-tb.dut wire 5 d req_L 4:0
-tb.dut wire 33 e A_B 35:3
-tb.dut wire 1 f hit_N
-tb.dut wire 1 g HITM_l
-tb.dut wire 3 h rs# 2:0
-tb.dut wire 1 i TRDY_b
-tb.dut wire 1 j dbsy_L
-tb.dut wire 1 k DRDY_B
-tb.dut wire 64 l d_N 63:0";
-
-/// Escaped names, some with a backslash behind them.
-pub(crate) const ESCAPED: &str = r"tb.dut wire 1 a \BCLK\
-tb.dut wire 1 b \BREQ0_n\
-tb.dut wire 1 c \ADS_n\
-tb.dut wire 5 d \REQ_n 4:0
-tb.dut wire 33 e \A_n\ 35:3
-tb.dut wire 1 f \HIT_n
-tb.dut wire 1 g \HITM_n
-tb.dut wire 3 h \RS_n 2:0
-tb.dut wire 1 i \TRDY_n
-tb.dut wire 1 j \DBSY_n
-tb.dut wire 1 k \DRDY_n
-tb.dut wire 64 l \D_n 63:0";
-
-/// Two buses side by side.
-pub(crate) const TWO_BUSES: &str = r"tb.left wire 1 a BCLK
-tb.left wire 1 b BREQ0_n
-tb.left wire 1 c ADS_n
-tb.left wire 5 d REQ_n 4:0
-tb.left wire 33 e A_n 35:3
-tb.left wire 1 f HIT_n
-tb.left wire 1 g HITM_n
-tb.left wire 3 h RS_n 2:0
-tb.left wire 1 i TRDY_n
-tb.left wire 1 j DBSY_n
-tb.left wire 1 k DRDY_n
-tb.left wire 64 l D_n 63:0
-tb.right wire 1 A BCLK
-tb.right wire 1 B BREQ0_n
-tb.right wire 1 C ADS_n
-tb.right wire 5 D REQ_n 4:0
-tb.right wire 33 E A_n 35:3
-tb.right wire 1 F HIT_n
-tb.right wire 1 G HITM_n
-tb.right wire 3 H RS_n 2:0
-tb.right wire 1 I TRDY_n
-tb.right wire 1 J DBSY_n
-tb.right wire 1 K DRDY_n
-tb.right wire 64 L D_n 63:0";
-
-/// One bus, seen in two scopes: the inner one has BPRI_n too.
-pub(crate) const ALIASES: &str = r"tb wire 1 a BCLK
-tb wire 1 b BREQ0_n
-tb wire 1 c ADS_n
-tb wire 5 d REQ_n 4:0
-tb wire 33 e A_n 35:3
-tb wire 1 f HIT_n
-tb wire 1 g HITM_n
-tb wire 3 h RS_n 2:0
-tb wire 1 i TRDY_n
-tb wire 1 j DBSY_n
-tb wire 1 k DRDY_n
-tb wire 64 l D_n 63:0
-tb.dut wire 1 a BCLK
-tb.dut wire 1 b BREQ0_n
-tb.dut wire 1 c ADS_n
-tb.dut wire 5 d REQ_n 4:0
-tb.dut wire 33 e A_n 35:3
-tb.dut wire 1 f HIT_n
-tb.dut wire 1 g HITM_n
-tb.dut wire 3 h RS_n 2:0
-tb.dut wire 1 i TRDY_n
-tb.dut wire 1 j DBSY_n
-tb.dut wire 1 k DRDY_n
-tb.dut wire 64 l D_n 63:0
-tb.dut wire 1 m BPRI_n";
-
-/// One bus, seen in two scopes with the same lines.
-pub(crate) const MIRRORED: &str = r"tb wire 1 a BCLK
-tb wire 1 b BREQ0_n
-tb wire 1 c ADS_n
-tb wire 5 d REQ_n 4:0
-tb wire 33 e A_n 35:3
-tb wire 1 f HIT_n
-tb wire 1 g HITM_n
-tb wire 3 h RS_n 2:0
-tb wire 1 i TRDY_n
-tb wire 1 j DBSY_n
-tb wire 1 k DRDY_n
-tb wire 64 l D_n 63:0
-tb.dut wire 1 a BCLK
-tb.dut wire 1 b BREQ0_n
-tb.dut wire 1 c ADS_n
-tb.dut wire 5 d REQ_n 4:0
-tb.dut wire 33 e A_n 35:3
-tb.dut wire 1 f HIT_n
-tb.dut wire 1 g HITM_n
-tb.dut wire 3 h RS_n 2:0
-tb.dut wire 1 i TRDY_n
-tb.dut wire 1 j DBSY_n
-tb.dut wire 1 k DRDY_n
-tb.dut wire 64 l D_n 63:0";
-
-/// One bus, seen in two scopes, each with a line that the other lacks.
-pub(crate) const CROSSED: &str = r"tb wire 1 a BCLK
-tb wire 1 b BREQ0_n
-tb wire 1 c ADS_n
-tb wire 5 d REQ_n 4:0
-tb wire 33 e A_n 35:3
-tb wire 1 f HIT_n
-tb wire 1 g HITM_n
-tb wire 3 h RS_n 2:0
-tb wire 1 i TRDY_n
-tb wire 1 j DBSY_n
-tb wire 1 k DRDY_n
-tb wire 64 l D_n 63:0
-tb wire 1 n LOCK_n
-tb.dut wire 1 a BCLK
-tb.dut wire 1 b BREQ0_n
-tb.dut wire 1 c ADS_n
-tb.dut wire 5 d REQ_n 4:0
-tb.dut wire 33 e A_n 35:3
-tb.dut wire 1 f HIT_n
-tb.dut wire 1 g HITM_n
-tb.dut wire 3 h RS_n 2:0
-tb.dut wire 1 i TRDY_n
-tb.dut wire 1 j DBSY_n
-tb.dut wire 1 k DRDY_n
-tb.dut wire 64 l D_n 63:0
-tb.dut wire 1 m BPRI_n";
-
-/// No data lines.
-pub(crate) const NO_DATA: &str = r"tb.dut wire 1 a BCLK
-tb.dut wire 1 b BREQ0_n
-tb.dut wire 1 c ADS_n
-tb.dut wire 5 d REQ_n 4:0
-tb.dut wire 33 e A_n 35:3
-tb.dut wire 1 f HIT_n
-tb.dut wire 1 g HITM_n
-tb.dut wire 3 h RS_n 2:0
-tb.dut wire 1 i TRDY_n
-tb.dut wire 1 j DBSY_n
-tb.dut wire 1 k DRDY_n";
-
-/// The lines stand in two scopes, and none has all.
-pub(crate) const SPLIT_SCOPES: &str = r"tb.cpu wire 1 a BCLK
-tb.cpu wire 1 b BREQ0_n
-tb.cpu wire 1 c ADS_n
-tb.cpu wire 5 d REQ_n 4:0
-tb.cpu wire 33 e A_n 35:3
-tb.cpu wire 1 f HIT_n
-tb.memory wire 1 g HITM_n
-tb.memory wire 3 h RS_n 2:0
-tb.memory wire 1 i TRDY_n
-tb.memory wire 1 j DBSY_n
-tb.memory wire 1 k DRDY_n
-tb.memory wire 64 l D_n 63:0";
-
-/// ADS_n twice, on two wires.
-pub(crate) const EXACT_TWICE: &str = r"tb.dut wire 1 a BCLK
-tb.dut wire 1 b BREQ0_n
-tb.dut wire 1 c ADS_n
-tb.dut wire 5 d REQ_n 4:0
-tb.dut wire 33 e A_n 35:3
-tb.dut wire 1 f HIT_n
-tb.dut wire 1 g HITM_n
-tb.dut wire 3 h RS_n 2:0
-tb.dut wire 1 i TRDY_n
-tb.dut wire 1 j DBSY_n
-tb.dut wire 1 k DRDY_n
-tb.dut wire 64 l D_n 63:0
-tb.dut reg 1 z ADS_n";
-
-/// ADS_n twice, on one wire.
-pub(crate) const EXACT_TWICE_ONE_WIRE: &str = r"tb.dut wire 1 a BCLK
-tb.dut wire 1 b BREQ0_n
-tb.dut wire 1 c ADS_n
-tb.dut wire 5 d REQ_n 4:0
-tb.dut wire 33 e A_n 35:3
-tb.dut wire 1 f HIT_n
-tb.dut wire 1 g HITM_n
-tb.dut wire 3 h RS_n 2:0
-tb.dut wire 1 i TRDY_n
-tb.dut wire 1 j DBSY_n
-tb.dut wire 1 k DRDY_n
-tb.dut wire 64 l D_n 63:0
-tb.dut reg 1 c ADS_n";
-
-/// A looser name stands before ADS_n, on another wire.
-pub(crate) const EXACT_AND_LOOSE: &str = r"tb.dut wire 1 z ads_l
-tb.dut wire 1 a BCLK
-tb.dut wire 1 b BREQ0_n
-tb.dut wire 1 c ADS_n
-tb.dut wire 5 d REQ_n 4:0
-tb.dut wire 33 e A_n 35:3
-tb.dut wire 1 f HIT_n
-tb.dut wire 1 g HITM_n
-tb.dut wire 3 h RS_n 2:0
-tb.dut wire 1 i TRDY_n
-tb.dut wire 1 j DBSY_n
-tb.dut wire 1 k DRDY_n
-tb.dut wire 64 l D_n 63:0";
-
-/// Two looser names on two wires, and no ADS_n.
-pub(crate) const LOOSE_TWICE: &str = r"tb.dut wire 1 z ads_l
-tb.dut wire 1 a BCLK
-tb.dut wire 1 b BREQ0_n
-tb.dut wire 1 c ADS#
-tb.dut wire 5 d REQ_n 4:0
-tb.dut wire 33 e A_n 35:3
-tb.dut wire 1 f HIT_n
-tb.dut wire 1 g HITM_n
-tb.dut wire 3 h RS_n 2:0
-tb.dut wire 1 i TRDY_n
-tb.dut wire 1 j DBSY_n
-tb.dut wire 1 k DRDY_n
-tb.dut wire 64 l D_n 63:0";
-
-/// D_n is no wire.
-pub(crate) const REAL_DATA: &str = r"tb.dut wire 1 a BCLK
-tb.dut wire 1 b BREQ0_n
-tb.dut wire 1 c ADS_n
-tb.dut wire 5 d REQ_n 4:0
-tb.dut wire 33 e A_n 35:3
-tb.dut wire 1 f HIT_n
-tb.dut wire 1 g HITM_n
-tb.dut wire 3 h RS_n 2:0
-tb.dut wire 1 i TRDY_n
-tb.dut wire 1 j DBSY_n
-tb.dut wire 1 k DRDY_n
-tb.dut real 64 l D_n 63:0";
-
-/// A_n has 32 bits.
-pub(crate) const NARROW_ADDRESS: &str = r"tb.dut wire 1 a BCLK
-tb.dut wire 1 b BREQ0_n
-tb.dut wire 1 c ADS_n
-tb.dut wire 5 d REQ_n 4:0
-tb.dut wire 32 e A_n 31:0
-tb.dut wire 1 f HIT_n
-tb.dut wire 1 g HITM_n
-tb.dut wire 3 h RS_n 2:0
-tb.dut wire 1 i TRDY_n
-tb.dut wire 1 j DBSY_n
-tb.dut wire 1 k DRDY_n
-tb.dut wire 64 l D_n 63:0";
-
-/// A_n has 36 bits.
-pub(crate) const WIDE_ADDRESS: &str = r"tb.dut wire 1 a BCLK
-tb.dut wire 1 b BREQ0_n
-tb.dut wire 1 c ADS_n
-tb.dut wire 5 d REQ_n 4:0
-tb.dut wire 36 e A_n 35:0
-tb.dut wire 1 f HIT_n
-tb.dut wire 1 g HITM_n
-tb.dut wire 3 h RS_n 2:0
-tb.dut wire 1 i TRDY_n
-tb.dut wire 1 j DBSY_n
-tb.dut wire 1 k DRDY_n
-tb.dut wire 64 l D_n 63:0";
-
-/// Names without a mark that the line is active low.
-pub(crate) const NO_MARK: &str = r"tb.dut wire 1 a BCLK
-tb.dut wire 1 b BREQ0
-tb.dut wire 1 c ADS
-tb.dut wire 5 d REQ 4:0
-tb.dut wire 33 e A 35:3
-tb.dut wire 1 f HIT
-tb.dut wire 1 g HITM
-tb.dut wire 3 h RS 2:0
-tb.dut wire 1 i TRDY
-tb.dut wire 1 j DBSY
-tb.dut wire 1 k DRDY
-tb.dut wire 64 l D 63:0";
-
-/// Scopes of one last name in two places.
-pub(crate) const SAME_LAST_NAME: &str = r"tb.left.bus wire 1 a BCLK
-tb.left.bus wire 1 b BREQ0_n
-tb.left.bus wire 1 c ADS_n
-tb.left.bus wire 5 d REQ_n 4:0
-tb.left.bus wire 33 e A_n 35:3
-tb.left.bus wire 1 f HIT_n
-tb.right.bus wire 1 g HITM_n
-tb.right.bus wire 3 h RS_n 2:0
-tb.right.bus wire 1 i TRDY_n
-tb.right.bus wire 1 j DBSY_n
-tb.right.bus wire 1 k DRDY_n
-tb.right.bus wire 64 l D_n 63:0";
-
-/// Two looser names for LOCK_n, on two wires.
-pub(crate) const LOCK_TWICE: &str = r"tb.dut wire 1 a BCLK
-tb.dut wire 1 b BREQ0_n
-tb.dut wire 1 c ADS_n
-tb.dut wire 5 d REQ_n 4:0
-tb.dut wire 33 e A_n 35:3
-tb.dut wire 1 f HIT_n
-tb.dut wire 1 g HITM_n
-tb.dut wire 3 h RS_n 2:0
-tb.dut wire 1 i TRDY_n
-tb.dut wire 1 j DBSY_n
-tb.dut wire 1 k DRDY_n
-tb.dut wire 64 l D_n 63:0
-tb.dut wire 1 m lock_l
-tb.dut wire 1 n LOCK#";
-
-/// One bus, seen in two scopes with an ADS_n each.
-pub(crate) const OTHER_STROBE: &str = r"tb wire 1 a BCLK
-tb wire 1 b BREQ0_n
-tb wire 1 c ADS_n
-tb wire 5 d REQ_n 4:0
-tb wire 33 e A_n 35:3
-tb wire 1 f HIT_n
-tb wire 1 g HITM_n
-tb wire 3 h RS_n 2:0
-tb wire 1 i TRDY_n
-tb wire 1 j DBSY_n
-tb wire 1 k DRDY_n
-tb wire 64 l D_n 63:0
-tb.dut wire 1 a BCLK
-tb.dut wire 1 b BREQ0_n
-tb.dut wire 1 z ADS_n
-tb.dut wire 5 d REQ_n 4:0
-tb.dut wire 33 e A_n 35:3
-tb.dut wire 1 f HIT_n
-tb.dut wire 1 g HITM_n
-tb.dut wire 3 h RS_n 2:0
-tb.dut wire 1 i TRDY_n
-tb.dut wire 1 j DBSY_n
-tb.dut wire 1 k DRDY_n
-tb.dut wire 64 l D_n 63:0";
-
-/// One bus, seen in two scopes, and another bus.
-pub(crate) const ALIASES_AND_OTHER: &str = r"tb wire 1 a BCLK
-tb wire 1 b BREQ0_n
-tb wire 1 c ADS_n
-tb wire 5 d REQ_n 4:0
-tb wire 33 e A_n 35:3
-tb wire 1 f HIT_n
-tb wire 1 g HITM_n
-tb wire 3 h RS_n 2:0
-tb wire 1 i TRDY_n
-tb wire 1 j DBSY_n
-tb wire 1 k DRDY_n
-tb wire 64 l D_n 63:0
-tb.dut wire 1 a BCLK
-tb.dut wire 1 b BREQ0_n
-tb.dut wire 1 c ADS_n
-tb.dut wire 5 d REQ_n 4:0
-tb.dut wire 33 e A_n 35:3
-tb.dut wire 1 f HIT_n
-tb.dut wire 1 g HITM_n
-tb.dut wire 3 h RS_n 2:0
-tb.dut wire 1 i TRDY_n
-tb.dut wire 1 j DBSY_n
-tb.dut wire 1 k DRDY_n
-tb.dut wire 64 l D_n 63:0
-tb.dut wire 1 m BPRI_n
-tb.other wire 1 A BCLK
-tb.other wire 1 B BREQ0_n
-tb.other wire 1 C ADS_n
-tb.other wire 5 D REQ_n 4:0
-tb.other wire 33 E A_n 35:3
-tb.other wire 1 F HIT_n
-tb.other wire 1 G HITM_n
-tb.other wire 3 H RS_n 2:0
-tb.other wire 1 I TRDY_n
-tb.other wire 1 J DBSY_n
-tb.other wire 1 K DRDY_n
-tb.other wire 64 L D_n 63:0";
-
-/// An address of the line's own name that is too narrow, and a loose one.
-pub(crate) const NARROW_AND_LOOSE: &str = r"tb.dut wire 1 a BCLK
-tb.dut wire 1 b BREQ0_n
-tb.dut wire 1 c ADS_n
-tb.dut wire 5 d REQ_n 4:0
-tb.dut wire 32 y A_n 31:0
-tb.dut wire 33 e a_l 33:1
-tb.dut wire 1 f HIT_n
-tb.dut wire 1 g HITM_n
-tb.dut wire 3 h RS_n 2:0
-tb.dut wire 1 i TRDY_n
-tb.dut wire 1 j DBSY_n
-tb.dut wire 1 k DRDY_n
-tb.dut wire 64 l D_n 63:0";
-
-/// Names that are no line's.
-pub(crate) const OTHER_NAMES: &str = r"tb.dut wire 1 a clk
-tb.dut wire 1 b strobe";
-
-/// D_n is a type that only one tool writes.
-pub(crate) const SHORT_REAL_DATA: &str = r"tb.dut wire 1 a BCLK
-tb.dut wire 1 b BREQ0_n
-tb.dut wire 1 c ADS_n
-tb.dut wire 5 d REQ_n 4:0
-tb.dut wire 33 e A_n 35:3
-tb.dut wire 1 f HIT_n
-tb.dut wire 1 g HITM_n
-tb.dut wire 3 h RS_n 2:0
-tb.dut wire 1 i TRDY_n
-tb.dut wire 1 j DBSY_n
-tb.dut wire 1 k DRDY_n
-tb.dut shortreal 64 l D_n 63:0";
-
-/// The declarations of a header.
-pub(crate) fn declarations(alloc: Global, header: &str) -> Result<Vec<Declaration>, AllocError> {
+/// The variables of a header.
+pub(crate) fn variables(alloc: Global, header: &str) -> Result<Vec<Variable>, AllocError> {
     let mut declared = Vec::new(alloc);
     for row in header.lines() {
-        declared.push(declaration(alloc, row)?)?;
+        let mut words = row.split_whitespace();
+        let path = words.next().unwrap_or("");
+        let scope = if path == "." { "" } else { path };
+        let kind = words.next().unwrap_or("");
+        if kind == "bus" {
+            let code = first_byte(words.next().unwrap_or(""));
+            let word_code = first_byte(words.next().unwrap_or(""));
+            bus(alloc, &mut declared, scope, row, code, word_code)?;
+        } else if kind == "bits" {
+            let code = first_byte(words.next().unwrap_or(""));
+            let name = words.next().unwrap_or("");
+            let form = first_byte(words.next().unwrap_or(""));
+            let low = number(words.next().unwrap_or(""));
+            let high = number(words.next().unwrap_or(""));
+            bits(alloc, &mut declared, scope, code, name, form, low, high)?;
+        } else {
+            let width = number(words.next().unwrap_or(""));
+            let code = words.next().unwrap_or("");
+            let name = words.next().unwrap_or("");
+            let range = written(words.next().unwrap_or(""));
+            declared.push(variable(
+                alloc,
+                scope,
+                kind,
+                width,
+                code.as_bytes(),
+                name.as_bytes(),
+                range,
+            )?)?;
+        }
     }
     Ok(declared)
 }
 
-fn declaration(alloc: Global, row: &str) -> Result<Declaration, AllocError> {
-    let mut words = row.split_whitespace();
-    let path = words.next().unwrap_or("");
-    let mut scope = Vec::new(alloc);
-    for name in path.split('.') {
-        scope.push(Vec::from_slice(alloc, name.as_bytes())?)?;
-    }
-    let kind = words.next().unwrap_or("");
-    let width = number(words.next().unwrap_or(""));
-    let code = words.next().unwrap_or("");
-    let name = words.next().unwrap_or("");
-    Ok(Declaration {
-        scope,
+/// One variable.
+pub(crate) fn variable(
+    alloc: Global,
+    scope: &str,
+    kind: &str,
+    width: u32,
+    code: &[u8],
+    name: &[u8],
+    range: Written,
+) -> Result<Variable, AllocError> {
+    Ok(Variable {
+        scope: Vec::from_slice(alloc, scope.as_bytes())?,
+        name: Vec::from_slice(alloc, name)?,
         kind: Vec::from_slice(alloc, kind.as_bytes())?,
         width,
-        code: Vec::from_slice(alloc, code.as_bytes())?,
-        name: Vec::from_slice(alloc, name.as_bytes())?,
-        range: words.next().and_then(range),
+        code: Vec::from_slice(alloc, code)?,
+        range,
     })
 }
 
-fn range(word: &str) -> Option<Range> {
-    let (left, right) = word.split_once(':')?;
-    Some(Range {
-        left: number(left),
-        right: number(right),
-    })
+fn bus(
+    alloc: Global,
+    declared: &mut Vec<Variable>,
+    scope: &str,
+    row: &str,
+    code: u8,
+    word_code: u8,
+) -> Result<(), AllocError> {
+    for (line, name, width, range) in NEEDED.iter() {
+        if !is_left_out(row, name) {
+            let first = if *width == 1 || word_code == 0 || word_code == 45 {
+                code
+            } else {
+                word_code
+            };
+            let codes = [first, line.wrapping_add(65)];
+            let range = match range {
+                None => Written::Absent,
+                Some((left, right)) => Written::Numbers(Range {
+                    left: *left,
+                    right: *right,
+                }),
+            };
+            declared.push(variable(
+                alloc,
+                scope,
+                "wire",
+                *width,
+                codes.as_slice(),
+                name.as_bytes(),
+                range,
+            )?)?;
+        }
+    }
+    Ok(())
+}
+
+fn is_left_out(row: &str, name: &str) -> bool {
+    row.split_whitespace()
+        .any(|word| word.strip_prefix('-') == Some(name))
+}
+
+fn bits(
+    alloc: Global,
+    declared: &mut Vec<Variable>,
+    scope: &str,
+    code: u8,
+    name: &str,
+    form: u8,
+    low: u32,
+    high: u32,
+) -> Result<(), AllocError> {
+    for number in low..high {
+        let digit = (number % 100) as u8;
+        let mut text = Vec::from_slice(alloc, name.as_bytes())?;
+        if form != 58 {
+            text.push(form)?;
+            if digit >= 10 {
+                text.push((digit / 10).wrapping_add(48))?;
+            }
+            text.push((digit % 10).wrapping_add(48))?;
+            if form == 91 {
+                text.push(93)?;
+            }
+            if form == 40 {
+                text.push(41)?;
+            }
+        }
+        let range = if form == 58 {
+            Written::Numbers(Range {
+                left: number,
+                right: number,
+            })
+        } else {
+            Written::Absent
+        };
+        let codes = [code, digit.wrapping_add(33)];
+        declared.push(variable(alloc, scope, "wire", 1, codes.as_slice(), &text, range)?)?;
+    }
+    Ok(())
+}
+
+fn written(word: &str) -> Written {
+    if word == "" {
+        return Written::Absent;
+    }
+    match word.split_once(':') {
+        None => Written::Unreadable,
+        Some((left, right)) => Written::Numbers(Range {
+            left: number(left),
+            right: number(right),
+        }),
+    }
+}
+
+fn first_byte(word: &str) -> u8 {
+    word.as_bytes().get(0).copied().unwrap_or(0)
 }
 
 fn number(word: &str) -> u32 {

@@ -1,6 +1,6 @@
 //! Which bits of a variable are a line.
 
-use scope_pick::{Range, place_of};
+use scope_pick::{Range, Written, place_of};
 use std::process::Abort;
 
 /// Lines, the width and range of a variable, the lowest of its bits that is the line's, and whether they are turned.
@@ -27,7 +27,13 @@ static PLACES: [(u8, u32, Option<(u32, u32)>, Option<(u32, bool)>); 17] = [
 #[test]
 fn place_lines(rt: HostRuntime) {
     for (line, width, range, place) in PLACES.iter() {
-        let range = range.map(|(left, right)| Range { left, right });
+        let range = match range {
+            None => Written::Absent,
+            Some((left, right)) => Written::Numbers(Range {
+                left: *left,
+                right: *right,
+            }),
+        };
         assert!(rt; *line < 22);
         let found = place_of(*line, *width, range);
         assert_eq!(rt; found.map(|place| (place.low, place.turned)), *place);

@@ -1,7 +1,9 @@
 -- Which bits of a variable are a line of the bus.
 use Rattle.std.specs.Prelude.{ℕ, Bool, true, false, nat_eq, nat_le, nat_lt, ◌+◌, ◌-◌, ◌&&◌, Option, Some, None, slice_get, if◌then◌else◌}
 use Rattle.fsb_signal.specs.Table.{table, TableEntry}
-use Rattle.scope_pick.specs.declared.declaration.Range.{Range}
+use Rattle.scope_pick.specs.declared.variable.Range.{Range}
+use Rattle.scope_pick.specs.declared.variable.Written.{Written}
+use Rattle.scope_pick.specs.declared.variable.Written.TheVariants.{Absent, Numbers, Unreadable}
 use Rattle.scope_pick.specs.declared.place.Place.{Place}
 
 unfoldable pub entry_width : Option TableEntry → ℕ
@@ -11,6 +13,10 @@ entry_width (Some e) = e.width
 -- how many bits the line has
 unfoldable pub line_width : ℕ → ℕ
 line_width line = entry_width (slice_get table line)
+
+-- the line has more than one bit
+unfoldable pub is_multi_bit : ℕ → Bool
+is_multi_bit line = nat_lt line 22 && nat_lt 1 (line_width line)
 
 unfoldable pub is_entry_needed : Option TableEntry → Bool
 is_entry_needed None = false
@@ -50,18 +56,23 @@ place_by_index line range =
     if nat_le range.left (lowest_index line) && nat_le (highest_index line) range.right
     then Some (from_bit (range.right - highest_index line) true) else None
 
--- the same, where the range is not written it is from the width less one down to 0
-unfoldable pub place_in_wider : ℕ → ℕ → Option Range → Option Place
-place_in_wider line width None = place_by_index line (record { left = width - 1; right = 0 })
-place_in_wider line width (Some range) =
-    if is_range_of width range then place_by_index line range else None
-
 -- which bits of a variable of this width and range are the line:
 -- a variable as wide as the line is taken by place;
 -- in a wider one a word is taken by its indices, and a single line is not looked for
-unfoldable pub place_of : ℕ → ℕ → Option Range → Option Place
-place_of line width range =
+unfoldable pub place_within : ℕ → ℕ → Range → Option Place
+place_within line width range =
     if nat_eq width (line_width line) then Some (from_bit 0 false)
-    else if nat_lt 1 (line_width line) && nat_lt (line_width line) width
-    then place_in_wider line width range
+    else if nat_lt 1 (line_width line) && nat_lt (line_width line) width && is_range_of width range
+    then place_by_index line range
     else None
+
+-- the variable's range: where none is written, from its width less one down to 0
+unfoldable pub known_range : ℕ → Written → Option Range
+known_range width Absent = Some (record { left = width - 1; right = 0 })
+known_range width (Numbers range) = Some range
+known_range width Unreadable = None
+
+-- which bits of a variable are the line, if it can be the line
+unfoldable pub place_of : ℕ → ℕ → Written → Option Place
+place_of line width written =
+    elim (known_range width written) [ None ↦ None | Some range ↦ place_within line width range ]

@@ -2,7 +2,7 @@
 use Rattle.std.specs.Prelude.{ℕ, Bool, true, false, nat_eq, nat_lt, not, length, ◌&&◌, ◌||◌, List, [], ◌∷◌, Option, Some, None, is_some, if◌then◌else◌}
 use Rattle.std.specs.List.{find, filter, list_any, list_all}
 use Rattle.scope_pick.specs.declared.wires.Named.{Named}
-use Rattle.scope_pick.specs.Places.{is_line_needed}
+use Rattle.scope_pick.specs.Places.{is_line_needed, is_multi_bit}
 
 -- the numbers of the lines
 abbrev pub lines : List ℕ
@@ -69,19 +69,53 @@ qualifies ns settled e = is_head ns e && is_whole ns settled e.scope
 unfoldable pub qualified : List Named → List ℕ → List Named
 qualified ns settled = filter (qualifies ns settled) ns
 
--- the line stands in the scope on the same wire, if it stands in the other
+-- the line stands in the scope if it stands in the other; where it has one bit, on the same wire.
+-- Some tools give one net one code in all scopes, and some do so for single bits alone
 unfoldable pub has_same : Option Named → Option Named → Bool
 has_same None theirs = not (is_some theirs)
 has_same (Some e) None = true
-has_same (Some e) (Some f) = nat_eq e.wire f.wire
+has_same (Some e) (Some f) = is_multi_bit e.line || nat_eq e.wire f.wire
 
--- every line of the other scope stands in this one with the same code, so the two are one bus,
--- and this one has at least its lines; settled lines are taken from neither
-unfoldable pub is_same_bus : List Named → List ℕ → ℕ → ℕ → Bool
-is_same_bus ns settled scope other =
+-- the two are a word of one wire, if both stand there
+unfoldable pub may_be_one_word : Option Named → Option Named → Bool
+may_be_one_word None theirs = true
+may_be_one_word (Some e) None = true
+may_be_one_word (Some e) (Some f) = not (is_multi_bit e.line) || nat_eq e.wire f.wire
+
+-- the two are a word of two wires, if both stand there
+unfoldable pub may_be_two_words : Option Named → Option Named → Bool
+may_be_two_words None theirs = true
+may_be_two_words (Some e) None = true
+may_be_two_words (Some e) (Some f) = not (is_multi_bit e.line) || not (nat_eq e.wire f.wire)
+
+-- every line of the other scope stands in this one
+abbrev pub has_lines_of : List Named → List ℕ → ℕ → ℕ → Bool
+has_lines_of ns settled scope other =
     list_all
     (λ n. is_listed settled n || has_same (found_in ns scope n) (found_in ns other n))
     lines
+
+-- the words that stand in both have the same codes
+abbrev pub shares_words : List Named → List ℕ → ℕ → ℕ → Bool
+shares_words ns settled scope other =
+    list_all
+    (λ n. is_listed settled n || may_be_one_word (found_in ns scope n) (found_in ns other n))
+    lines
+
+-- none of them has the same code
+abbrev pub shares_no_word : List Named → List ℕ → ℕ → ℕ → Bool
+shares_no_word ns settled scope other =
+    list_all
+    (λ n. is_listed settled n || may_be_two_words (found_in ns scope n) (found_in ns other n))
+    lines
+
+-- every line of the other scope stands in this one, single bits with the same codes,
+-- and words all with the same codes or all with others: the two are one bus,
+-- and this one has at least its lines; settled lines are taken from neither
+unfoldable pub is_same_bus : List Named → List ℕ → ℕ → ℕ → Bool
+is_same_bus ns settled scope other =
+    has_lines_of ns settled scope other
+    && (shares_words ns settled scope other || shares_no_word ns settled scope other)
 
 -- the scope has the lines of all of these
 unfoldable pub is_fullest : List Named → List ℕ → List Named → Named → Bool

@@ -29,8 +29,9 @@ fn place_of(signals: &[Signal], name: &[u8]) -> Option<usize>
         .position(|signal| are_alike(name, signal.name.as_bytes()))
 }
 
+/// The name without a backslash before it and one after it.
 #[tactic(auto, unfolding(crate::specs::Names::without_escape))]
-fn without_escape(name: &[u8]) -> &[u8]
+pub fn without_escape(name: &[u8]) -> &[u8]
     ensures { result.now ≡ without_escape name.now }
 {
     let front = name.strip_prefix(b"\\").unwrap_or(name);

@@ -1,7 +1,7 @@
 ghost use Rattle.std.specs.Prelude.{◌≡◌, ◌<◌, ◌≤◌, IsTrue};
-ghost use Rattle.scope_pick.specs.Places.{line_width, is_line_needed, lowest_index, highest_index, is_range_of, place_by_index, place_in_wider, place_of};
+ghost use Rattle.scope_pick.specs.Places.{line_width, is_multi_bit, is_line_needed, lowest_index, highest_index, is_range_of, place_by_index, place_within, known_range, place_of};
 
-use crate::declaration::Range;
+use crate::variable::{Range, Written};
 use fsb_signal::signal_at;
 
 /// Which bits of a variable are a line: those from the low one on, in their order or turned.
@@ -30,11 +30,45 @@ pub fn is_line_needed(line: u8) -> bool
     signal_at(line).needed
 }
 
+/// Whether the line has more than one bit.
+#[tactic(auto, unfolding(crate::specs::Places::is_multi_bit))]
+pub fn is_multi_bit(line: u8) -> bool
+    ensures { result ≡ is_multi_bit line }
+{
+    line < 22 && 1 < line_width(line)
+}
+
 /// Which bits of a variable of this width and range are the line, or `None` where it cannot be the line.
 #[tactic(auto, unfolding(crate::specs::Places::place_of))]
-pub fn place_of(line: u8, width: u32, range: Option<Range>) -> Option<Place>
+pub fn place_of(line: u8, width: u32, written: Written) -> Option<Place>
     requires { line < 22 }
-    ensures { result ≡ place_of line width range }
+    ensures { result ≡ place_of line width written }
+{
+    match known_range(width, written) {
+        None => None,
+        Some(range) => place_within(line, width, range),
+    }
+}
+
+/// The range of a variable of this width, or `None` where it cannot be read.
+#[tactic(auto, unfolding(crate::specs::Places::known_range))]
+pub fn known_range(width: u32, written: Written) -> Option<Range>
+    ensures { result ≡ known_range width written }
+{
+    match written {
+        Written::Absent => Some(Range {
+            left: width.saturating_sub(1),
+            right: 0,
+        }),
+        Written::Numbers(range) => Some(range),
+        Written::Unreadable => None,
+    }
+}
+
+#[tactic(auto, unfolding(crate::specs::Places::place_within))]
+fn place_within(line: u8, width: u32, range: Range) -> Option<Place>
+    requires { line < 22 }
+    ensures { result ≡ place_within line width range }
 {
     let bits = line_width(line);
     if width == bits {
@@ -43,38 +77,15 @@ pub fn place_of(line: u8, width: u32, range: Option<Range>) -> Option<Place>
             turned: false,
         });
     }
-    if bits > 1 && bits < width {
-        return place_in_wider(line, width, range);
+    if bits > 1 && bits < width && is_range_of(width, range) {
+        return place_by_index(line, range);
     }
     None
 }
 
-#[tactic(auto, unfolding(crate::specs::Places::place_in_wider))]
-fn place_in_wider(line: u8, width: u32, range: Option<Range>) -> Option<Place>
-    requires line { line < 22 }
-    requires wide { 0 < width }
-    ensures { result ≡ place_in_wider line width range }
-{
-    match range {
-        None => place_by_index(
-            line,
-            Range {
-                left: width - 1,
-                right: 0,
-            },
-        ),
-        Some(range) => {
-            if is_range_of(width, range) {
-                place_by_index(line, range)
-            } else {
-                None
-            }
-        }
-    }
-}
-
+/// Whether a variable of this width can have the range.
 #[tactic(auto, unfolding(crate::specs::Places::is_range_of))]
-pub(crate) fn is_range_of(width: u32, range: Range) -> bool
+pub fn is_range_of(width: u32, range: Range) -> bool
     ensures { result ≡ is_range_of width range }
 {
     if width == 0 {
@@ -112,8 +123,9 @@ fn place_by_index(line: u8, range: Range) -> Option<Place>
     None
 }
 
+/// The index of the line's lowest bit.
 #[tactic(auto, unfolding(crate::specs::Places::lowest_index))]
-fn lowest_index(line: u8) -> u32
+pub fn lowest_index(line: u8) -> u32
     ensures index { result ≡ lowest_index line }
     ensures small { result ≤ 3 }
 {

@@ -1,9 +1,9 @@
 ghost use Rattle.std.specs.Prelude.{◌≡◌, ◌≢◌, ◌<◌, ◌||◌, nat_eq, Some, None, IfOk, IfErr, MatchResult, All, [], List, ℕ};
 ghost use Rattle.std.specs.List.{list_any, list_all, find, filter};
-ghost use Rattle.scope_pick.specs.Scopes.{lines, is_for, exact_in, like_in, first_in, is_rival, is_ambiguous, found_in, is_settled, is_whole, is_head, qualifies, qualified, has_same, is_same_bus, is_fullest, picked, lies_in, stands_alone, buses, is_free, is_scope_needed, is_listed};
+ghost use Rattle.scope_pick.specs.Scopes.{lines, is_for, exact_in, like_in, first_in, is_rival, is_ambiguous, found_in, is_settled, is_whole, is_head, qualifies, qualified, has_same, may_be_one_word, may_be_two_words, is_same_bus, is_fullest, picked, lies_in, stands_alone, buses, is_free, is_scope_needed, is_listed};
 ghost use Rattle.scope_pick.specs.ScopeFaults.{IsPicked, IsScopeFault};
 
-use crate::place::is_line_needed;
+use crate::place::{is_line_needed, is_multi_bit};
 use crate::wires::Named;
 use std::alloc::{AllocError, Global};
 
@@ -77,8 +77,8 @@ fn is_free(settled: &[u8], line: u8) -> bool
     !is_line_needed(line) || is_listed(settled, line)
 }
 
-// Of the scopes that qualify those that lie in no other.
-fn buses(
+/// Of these scopes those that lie in no other of them.
+pub fn buses(
     alloc: Global,
     names: &[Named],
     settled: &[u8],
@@ -174,8 +174,9 @@ pub fn is_settled(names: &[Named], settled: &[u8], scope: usize, line: u8) -> bo
             && (!is_line_needed(line) || first_in(names, scope, line).is_some()))
 }
 
+/// Whether the line is among these.
 #[tactic(auto, unfolding(crate::specs::Scopes::is_listed))]
-pub(crate) fn is_listed(lines: &[u8], line: u8) -> bool
+pub fn is_listed(lines: &[u8], line: u8) -> bool
     ensures { result ≡ is_listed lines.now line }
 {
     lines.iter().any(|other| *other == line)
@@ -230,8 +231,9 @@ fn qualifies(names: &[Named], settled: &[u8], name: Named) -> bool
     is_head(names, name) && is_whole(names, settled, name.scope)
 }
 
+/// Whether the variable is the first of its scope that is named like a line.
 #[tactic(auto, unfolding(crate::specs::Scopes::is_head))]
-fn is_head(names: &[Named], name: Named) -> bool
+pub fn is_head(names: &[Named], name: Named) -> bool
     ensures { result ≡ is_head names.now name }
 {
     match first_of(names, name.scope) {
@@ -270,15 +272,33 @@ fn are_settled(names: &[Named], settled: &[u8], scope: usize, lines: &[u8]) -> b
 fn is_same_bus(names: &[Named], settled: &[u8], scope: usize, other: usize) -> bool
     ensures { result ≡ is_same_bus names.now settled.now scope other }
 {
-    are_same(names, settled, scope, other, &LINES)
+    has_lines_of(names, settled, scope, other, &LINES)
+        && (shares_words(names, settled, scope, other, &LINES)
+            || shares_no_word(names, settled, scope, other, &LINES))
 }
 
-fn are_same(names: &[Named], settled: &[u8], scope: usize, other: usize, lines: &[u8]) -> bool
+fn has_lines_of(names: &[Named], settled: &[u8], scope: usize, other: usize, lines: &[u8]) -> bool
     ensures { result ≡ list_all (λ n. is_listed settled.now n
         || has_same (found_in names.now scope n) (found_in names.now other n)) lines.now }
 {
     lines.iter().all(|line| is_listed(settled, *line)
         || has_same(found_in(names, scope, *line), found_in(names, other, *line)))
+}
+
+fn shares_words(names: &[Named], settled: &[u8], scope: usize, other: usize, lines: &[u8]) -> bool
+    ensures { result ≡ list_all (λ n. is_listed settled.now n
+        || may_be_one_word (found_in names.now scope n) (found_in names.now other n)) lines.now }
+{
+    lines.iter().all(|line| is_listed(settled, *line)
+        || may_be_one_word(found_in(names, scope, *line), found_in(names, other, *line)))
+}
+
+fn shares_no_word(names: &[Named], settled: &[u8], scope: usize, other: usize, lines: &[u8]) -> bool
+    ensures { result ≡ list_all (λ n. is_listed settled.now n
+        || may_be_two_words (found_in names.now scope n) (found_in names.now other n)) lines.now }
+{
+    lines.iter().all(|line| is_listed(settled, *line)
+        || may_be_two_words(found_in(names, scope, *line), found_in(names, other, *line)))
 }
 
 #[tactic(auto, unfolding(crate::specs::Scopes::has_same))]
@@ -289,7 +309,33 @@ fn has_same(ours: Option<Named>, theirs: Option<Named>) -> bool
         None => theirs.is_none(),
         Some(our) => match theirs {
             None => true,
-            Some(their) => our.wire == their.wire,
+            Some(their) => is_multi_bit(our.line) || our.wire == their.wire,
+        },
+    }
+}
+
+#[tactic(auto, unfolding(crate::specs::Scopes::may_be_one_word))]
+fn may_be_one_word(ours: Option<Named>, theirs: Option<Named>) -> bool
+    ensures { result ≡ may_be_one_word ours theirs }
+{
+    match ours {
+        None => true,
+        Some(our) => match theirs {
+            None => true,
+            Some(their) => !is_multi_bit(our.line) || our.wire == their.wire,
+        },
+    }
+}
+
+#[tactic(auto, unfolding(crate::specs::Scopes::may_be_two_words))]
+fn may_be_two_words(ours: Option<Named>, theirs: Option<Named>) -> bool
+    ensures { result ≡ may_be_two_words ours theirs }
+{
+    match ours {
+        None => true,
+        Some(our) => match theirs {
+            None => true,
+            Some(their) => !is_multi_bit(our.line) || our.wire != their.wire,
         },
     }
 }
@@ -301,7 +347,8 @@ fn is_fullest(names: &[Named], settled: &[u8], others: &[Named], scope: Named) -
     others.iter().all(|other| is_same_bus(names, settled, scope.scope, other.scope))
 }
 
-fn fullest(names: &[Named], settled: &[u8], scopes: &[Named]) -> Option<Named>
+/// Of these scopes the first that has the lines of all of them.
+pub fn fullest(names: &[Named], settled: &[u8], scopes: &[Named]) -> Option<Named>
     ensures { result ≡ find (is_fullest names.now settled.now scopes.now) scopes.now }
 {
     scopes

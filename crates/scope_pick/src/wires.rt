@@ -1,17 +1,19 @@
-ghost use Rattle.std.specs.Prelude.{◌≡◌, ◌<◌, nat_eq, IfOk};
-ghost use Rattle.std.specs.List.{position, list_any};
-ghost use Rattle.std.specs.Cmp.Lexicographic.{pointwise};
-ghost use Rattle.scope_pick.specs.Wires.{is_beside, is_same_wire, is_wire_kind, scope_number, wire_number, can_be, as_line, unfit_at, unfit_lines, named_at, named_lines};
+ghost use Rattle.std.specs.Prelude.{◌≡◌, ◌<◌, IfOk, IfSome};
+ghost use Rattle.std.specs.List.{filter_map, enumerate_from};
+ghost use Rattle.scope_pick.specs.Splits.{bits};
+ghost use Rattle.scope_pick.specs.Wires.{can_be, as_line, as_word, whole_at, split_at, lone_bit, unfit_line, unfit_at, unfit_lines, named_at, named_lines};
 
-use crate::declaration::Declaration;
 use crate::names::{is_exact_name, line_named};
+use crate::numbering::{is_wire_kind, scope_number, wire_number};
 use crate::place::place_of;
+use crate::split::{Bit, bit_at, bits, is_first_bit, is_joined};
+use crate::variable::Variable;
 use std::alloc::{AllocError, Global};
 
-/// A variable that is named like a line of the bus.
+/// A variable, or a word declared bit by bit, that is named like a line of the bus.
 #[derive(Clone, Copy, Debug)]
 pub struct Named {
-    /// The index of its declaration.
+    /// The index of its declaration; of a split word, that of its first bit.
     pub index: usize,
     /// The number of the line.
     pub line: u8,
@@ -19,53 +21,101 @@ pub struct Named {
     pub exact: bool,
     /// The first declaration of its scope.
     pub scope: usize,
-    /// The first declaration with its code.
+    /// The first declaration with its code; of a split word, with that of its first bit.
     pub wire: usize,
+    /// It is declared bit by bit.
+    pub is_split: bool,
 }
 
-const OTHER_KINDS: [&str; 7] = [
-    "real",
-    "realtime",
-    "shortreal",
-    "string",
-    "event",
-    "parameter",
-    "real_parameter",
-];
-
-/// All variables that are named like lines and cannot be them, by their type, width or range.
+/// All variables that are named like lines and cannot be them, by their type, width or range, or since other bits lack.
 #[tactic(auto, unfolding(crate::specs::Wires::unfit_lines))]
-pub fn unfit_lines(alloc: Global, declarations: &[Declaration]) -> Result<Vec<Named>, AllocError>
-    ensures { IfOk result (λ v. v.items ≡ unfit_lines declarations.now) }
+pub fn unfit_lines(alloc: Global, variables: &[Variable]) -> Result<Vec<Named>, AllocError>
+    ensures { IfOk result (λ v. v.items ≡ unfit_lines variables.now) }
 {
-    declarations
+    let bits = bits(alloc, variables)?;
+    unfit_among(alloc, variables, &bits)
+}
+
+fn unfit_among(
+    alloc: Global,
+    variables: &[Variable],
+    bits: &[Bit],
+) -> Result<Vec<Named>, AllocError>
+    ensures { IfOk result (λ v. v.items
+        ≡ filter_map (λ p. unfit_at variables.now bits.now p.0 p.1) (enumerate_from 0 variables.now)) }
+{
+    variables
         .iter()
         .enumerate()
-        .filter_map(|(index, declaration)| unfit_at(declarations, index, declaration))
+        .filter_map(|(index, variable)| unfit_at(variables, bits, index, variable))
         .collect(alloc)
 }
 
-/// All variables that are named like lines and can be them, in the order of the header.
+/// All lines by the variables that are named like them and can be them, in the order of the header.
 #[tactic(auto, unfolding(crate::specs::Wires::named_lines))]
-pub fn named_lines(alloc: Global, declarations: &[Declaration]) -> Result<Vec<Named>, AllocError>
-    ensures { IfOk result (λ v. v.items ≡ named_lines declarations.now) }
+pub fn named_lines(alloc: Global, variables: &[Variable]) -> Result<Vec<Named>, AllocError>
+    ensures { IfOk result (λ v. v.items ≡ named_lines variables.now) }
 {
-    declarations
+    let bits = bits(alloc, variables)?;
+    named_among(alloc, variables, &bits)
+}
+
+fn named_among(
+    alloc: Global,
+    variables: &[Variable],
+    bits: &[Bit],
+) -> Result<Vec<Named>, AllocError>
+    ensures { IfOk result (λ v. v.items
+        ≡ filter_map (λ p. named_at variables.now bits.now p.0 p.1) (enumerate_from 0 variables.now)) }
+{
+    variables
         .iter()
         .enumerate()
-        .filter_map(|(index, declaration)| named_at(declarations, index, declaration))
+        .filter_map(|(index, variable)| named_at(variables, bits, index, variable))
         .collect(alloc)
 }
 
 #[tactic(auto, unfolding(crate::specs::Wires::named_at))]
-fn named_at(declarations: &[Declaration], index: usize, declaration: &Declaration) -> Option<Named>
-    ensures { result ≡ named_at declarations.now index declaration.now }
+fn named_at(
+    variables: &[Variable],
+    bits: &[Bit],
+    index: usize,
+    variable: &Variable,
+) -> Option<Named>
+    ensures { result ≡ named_at variables.now bits.now index variable.now }
 {
-    match line_named(&declaration.name) {
+    match whole_at(variables, index, variable) {
+        Some(name) => Some(name),
+        None => split_at(bits, bit_at(variables, index, variable)),
+    }
+}
+
+#[tactic(auto, unfolding(crate::specs::Wires::whole_at))]
+fn whole_at(variables: &[Variable], index: usize, variable: &Variable) -> Option<Named>
+    ensures { result ≡ whole_at variables.now index variable.now }
+{
+    match line_named(&variable.name) {
         None => None,
         Some(line) => {
-            if can_be(declaration, line) {
-                Some(as_line(declarations, index, declaration, line))
+            if can_be(variable, line) {
+                Some(as_line(variables, index, variable, line))
+            } else {
+                None
+            }
+        }
+    }
+}
+
+#[tactic(auto, unfolding(crate::specs::Wires::split_at))]
+fn split_at(bits: &[Bit], bit: Option<Bit>) -> Option<Named>
+    requires { IfSome bit (λ b. b.line < 22) }
+    ensures { result ≡ split_at bits.now bit }
+{
+    match bit {
+        None => None,
+        Some(bit) => {
+            if is_first_bit(bits, bit) && is_joined(bits, bit) {
+                Some(as_word(bit))
             } else {
                 None
             }
@@ -74,99 +124,93 @@ fn named_at(declarations: &[Declaration], index: usize, declaration: &Declaratio
 }
 
 #[tactic(auto, unfolding(crate::specs::Wires::unfit_at))]
-fn unfit_at(declarations: &[Declaration], index: usize, declaration: &Declaration) -> Option<Named>
-    ensures { result ≡ unfit_at declarations.now index declaration.now }
+fn unfit_at(
+    variables: &[Variable],
+    bits: &[Bit],
+    index: usize,
+    variable: &Variable,
+) -> Option<Named>
+    ensures { result ≡ unfit_at variables.now bits.now index variable.now }
 {
-    match line_named(&declaration.name) {
+    let bit = bit_at(variables, index, variable);
+    match bit {
+        Some(bit) => lone_bit(bits, Some(bit)),
+        None => unfit_line(variables, index, variable, line_named(&variable.name)),
+    }
+}
+
+#[tactic(auto, unfolding(crate::specs::Wires::lone_bit))]
+fn lone_bit(bits: &[Bit], bit: Option<Bit>) -> Option<Named>
+    requires { IfSome bit (λ b. b.line < 22) }
+    ensures { result ≡ lone_bit bits.now bit }
+{
+    match bit {
         None => None,
-        Some(line) => {
-            if can_be(declaration, line) {
+        Some(bit) => {
+            if is_joined(bits, bit) {
                 None
             } else {
-                Some(as_line(declarations, index, declaration, line))
+                Some(as_word(bit))
             }
         }
     }
 }
 
+#[tactic(auto, unfolding(crate::specs::Wires::unfit_line))]
+fn unfit_line(
+    variables: &[Variable],
+    index: usize,
+    variable: &Variable,
+    line: Option<u8>,
+) -> Option<Named>
+    requires { IfSome line (λ n. n < 22) }
+    ensures { result ≡ unfit_line variables.now index variable.now line }
+{
+    match line {
+        None => None,
+        Some(line) => {
+            if can_be(variable, line) {
+                None
+            } else {
+                Some(as_line(variables, index, variable, line))
+            }
+        }
+    }
+}
+
+#[tactic(auto, unfolding(crate::specs::Wires::as_word))]
+fn as_word(bit: Bit) -> Named
+    ensures { result ≡ as_word bit }
+{
+    Named {
+        index: bit.index,
+        line: bit.line,
+        exact: bit.exact,
+        scope: bit.scope,
+        wire: bit.wire,
+        is_split: true,
+    }
+}
+
 #[tactic(auto, unfolding(crate::specs::Wires::as_line))]
-fn as_line(declarations: &[Declaration], index: usize, declaration: &Declaration, line: u8) -> Named
+fn as_line(variables: &[Variable], index: usize, variable: &Variable, line: u8) -> Named
     requires { line < 22 }
-    ensures { result ≡ as_line declarations.now index declaration.now line }
+    ensures { result ≡ as_line variables.now index variable.now line }
 {
     Named {
         index,
         line,
-        exact: is_exact_name(line, &declaration.name),
-        scope: scope_number(declarations, index, declaration),
-        wire: wire_number(declarations, index, declaration),
+        exact: is_exact_name(line, &variable.name),
+        scope: scope_number(variables, index, variable),
+        wire: wire_number(variables, index, variable),
+        is_split: false,
     }
 }
 
 #[tactic(auto, unfolding(crate::specs::Wires::can_be))]
-fn can_be(declaration: &Declaration, line: u8) -> bool
+fn can_be(variable: &Variable, line: u8) -> bool
     requires { line < 22 }
-    ensures { result ≡ can_be declaration.now line }
+    ensures { result ≡ can_be variable.now line }
 {
-    is_wire_kind(&declaration.kind)
-        && place_of(line, declaration.width, declaration.range).is_some()
-}
-
-#[tactic(auto, unfolding(crate::specs::Wires::scope_number))]
-fn scope_number(declarations: &[Declaration], index: usize, declaration: &Declaration) -> usize
-    ensures { result ≡ scope_number declarations.now index declaration.now }
-{
-    first_beside(declarations, declaration).unwrap_or(index)
-}
-
-// The first declaration of the scope that this one stands in.
-fn first_beside(declarations: &[Declaration], declaration: &Declaration) -> Option<usize>
-    ensures { result ≡ position (λ e. is_beside e declaration.now) declarations.now }
-{
-    declarations
-        .iter()
-        .position(|other| is_beside(other, declaration))
-}
-
-#[tactic(auto, unfolding(crate::specs::Wires::wire_number))]
-fn wire_number(declarations: &[Declaration], index: usize, declaration: &Declaration) -> usize
-    ensures { result ≡ wire_number declarations.now index declaration.now }
-{
-    first_same_wire(declarations, declaration).unwrap_or(index)
-}
-
-// The first declaration with the code of this one.
-fn first_same_wire(declarations: &[Declaration], declaration: &Declaration) -> Option<usize>
-    ensures { result ≡ position (λ e. is_same_wire e declaration.now) declarations.now }
-{
-    declarations
-        .iter()
-        .position(|other| is_same_wire(other, declaration))
-}
-
-#[tactic(auto, unfolding(crate::specs::Wires::is_beside))]
-fn is_beside(one: &Declaration, other: &Declaration) -> bool
-    ensures { result ≡ is_beside one.now other.now }
-{
-    one.scope == other.scope
-}
-
-#[tactic(auto, unfolding(crate::specs::Wires::is_same_wire))]
-pub(crate) fn is_same_wire(one: &Declaration, other: &Declaration) -> bool
-    ensures { result ≡ is_same_wire one.now other.now }
-{
-    one.code == other.code
-}
-
-#[tactic(auto, unfolding(crate::specs::Wires::is_wire_kind))]
-pub(crate) fn is_wire_kind(kind: &[u8]) -> bool
-    ensures { result ≡ is_wire_kind kind.now }
-{
-    !is_one_of(&OTHER_KINDS, kind)
-}
-
-fn is_one_of(words: &[&str], word: &[u8]) -> bool
-    ensures { result ≡ list_any (λ k. pointwise nat_eq word.now k.now) words.now }
-{
-    words.iter().any(|other| word == other.as_bytes())
+    is_wire_kind(&variable.kind) && place_of(line, variable.width, variable.range).is_some()
 }

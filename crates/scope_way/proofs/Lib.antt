@@ -1,0 +1,5 @@
+pub mod Lawfulness
+pub mod Ranges
+pub mod Fits
+pub mod Picked
+pub mod Strictness

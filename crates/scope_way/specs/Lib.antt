@@ -1,0 +1,3 @@
+pub mod Wired
+pub mod Variables
+pub mod StrictWay

@@ -1,0 +1,98 @@
+//! The scope that is judged.
+
+ghost use Rattle.std.specs.Prelude.{◌≡◌, IfOk};
+ghost use Rattle.std.specs.List.{position};
+ghost use Rattle.scope_wiring.specs.Homes.{is_in_scope, scope_at, home_among, home_by_default, home_named, home_of};
+ghost use Rattle.scope_wiring.specs.Texts.{scope_path};
+
+use crate::cause::Cause;
+use crate::text::scope_path;
+use scope_pick::{Named, Variable, fullest, is_scope_needed, is_whole, qualified};
+use std::alloc::{AllocError, Global};
+
+/// The scope that is judged, by its first declaration.
+#[derive(Clone, Copy, Debug, PartialEq, Eq)]
+pub enum Home {
+    /// None: no variable is named like a line, and the user names them all.
+    Nowhere,
+    At(usize),
+    /// It is not to be told which.
+    Refused(Cause),
+}
+
+/// The scope that is judged: the one that the user names, or the one that has the lines of all that qualify.
+#[tactic(auto, unfolding(crate::specs::Homes::home_of))]
+pub(crate) fn home_of(
+    alloc: Global,
+    variables: &[Variable],
+    names: &[Named],
+    settled: &[u8],
+    scope: &Option<Vec<u8>>,
+) -> Result<Home, AllocError>
+    ensures { IfOk result (λ h. h ≡ home_of variables.now names.now settled.now scope.now) }
+{
+    match scope {
+        Some(text) => Ok(home_named(variables, names, settled, text)),
+        None => home_by_default(alloc, names, settled),
+    }
+}
+
+#[tactic(auto, unfolding(crate::specs::Homes::home_named))]
+fn home_named(variables: &[Variable], names: &[Named], settled: &[u8], text: &[u8]) -> Home
+    ensures { result ≡ home_named variables.now names.now settled.now text.now }
+{
+    match scope_at(variables, scope_path(text)) {
+        None => Home::Refused(Cause::NoScope),
+        Some(scope) => {
+            if is_whole(names, settled, scope) {
+                Home::At(scope)
+            } else {
+                Home::Refused(Cause::NotWhole(scope))
+            }
+        }
+    }
+}
+
+/// The number of the scope of this path: its first declaration.
+#[tactic(auto, unfolding(crate::specs::Homes::scope_at))]
+pub fn scope_at(variables: &[Variable], path: &[u8]) -> Option<usize>
+    ensures { result ≡ scope_at variables.now path.now }
+{
+    variables
+        .iter()
+        .position(|variable| is_in_scope(path, variable))
+}
+
+#[tactic(auto, unfolding(crate::specs::Homes::is_in_scope))]
+fn is_in_scope(path: &[u8], variable: &Variable) -> bool
+    ensures { result ≡ is_in_scope path.now variable.now }
+{
+    variable.scope.as_slice() == path
+}
+
+#[tactic(auto, unfolding(crate::specs::Homes::home_by_default))]
+fn home_by_default(alloc: Global, names: &[Named], settled: &[u8]) -> Result<Home, AllocError>
+    ensures { IfOk result (λ h. h ≡ home_by_default names.now settled.now) }
+{
+    if !is_scope_needed(names, settled) {
+        return Ok(Home::Nowhere);
+    }
+    let scopes = qualified(alloc, names, settled)?;
+    Ok(home_among(names, settled, &scopes))
+}
+
+#[tactic(auto, unfolding(crate::specs::Homes::home_among))]
+fn home_among(names: &[Named], settled: &[u8], scopes: &[Named]) -> Home
+    ensures { result ≡ home_among names.now settled.now scopes.now }
+{
+    match fullest(names, settled, scopes) {
+        Some(scope) => Home::At(scope.scope),
+        None => {
+            if scopes.len() == 0 {
+                Home::Refused(Cause::NoneWhole)
+            } else {
+                Home::Refused(Cause::Several)
+            }
+        }
+    }
+}

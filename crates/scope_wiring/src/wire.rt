@@ -1,0 +1,332 @@
+//! What is taken of a dump's variables.
+
+ghost use Rattle.std.specs.Prelude.{◌≡◌, ◌<◌, IfOk, IfSome, not, option_map};
+ghost use Rattle.std.specs.List.{filter};
+ghost use Rattle.scope_pick.specs.Splits.{bits};
+ghost use Rattle.scope_wiring.specs.Wirings.{wire_if, whole_wire, bits_wire, wire_meant, option_wire, is_taken, line_wire, is_word_taken, is_first, bit_from, bit_wire, wire_in, wire_at, option_wires, found_wires, wires_with, is_wired, absent_lines};
+
+use crate::home::Home;
+use crate::meaning::{Meaning, meaning_of};
+use crate::taps::{bit_tap, tap_named, tap_of};
+use crate::text::LineOption;
+use scope_pick::{
+    Bit, Named, Range, Variable, base_of, bit_at, bit_in, bits, found_in, is_listed, line_named,
+    line_width,
+};
+use std::alloc::{AllocError, Global};
+use vcd_way::Tap;
+
+/// A variable that is a line of the bus, or a bit of one.
+#[derive(Clone, Copy, Debug)]
+pub struct Wire {
+    /// The index of its declaration. Changes name its code.
+    pub index: usize,
+    pub tap: Tap,
+}
+
+const LINES: [u8; 22] = [
+    0, 1, 2, 3, 4, 5, 6, 7, 8, 9, 10, 11, 12, 13, 14, 15, 16, 17, 18, 19, 20, 21,
+];
+
+#[tactic(auto, unfolding(crate::specs::Wirings::wire_if))]
+fn wire_if(index: usize, tap: Option<Tap>) -> Option<Wire>
+    ensures { result ≡ wire_if index tap }
+{
+    match tap {
+        None => None,
+        Some(tap) => Some(Wire { index, tap }),
+    }
+}
+
+/// The variable of this index as the line that the option names.
+#[tactic(auto, unfolding(crate::specs::Wirings::whole_wire))]
+pub(crate) fn whole_wire(
+    option: &LineOption,
+    index: usize,
+    variable: Option<&Variable>,
+) -> Option<Wire>
+    ensures { result ≡ whole_wire option.now index (option_map (λ v. v.now) variable.entry) }
+{
+    match variable {
+        None => None,
+        Some(variable) => wire_if(index, tap_of(option.line, variable, option.inverted)),
+    }
+}
+
+/// Bits of it.
+#[tactic(auto, unfolding(crate::specs::Wirings::bits_wire))]
+pub(crate) fn bits_wire(
+    option: &LineOption,
+    index: usize,
+    range: Range,
+    variable: Option<&Variable>,
+) -> Option<Wire>
+    ensures { result ≡ bits_wire option.now index range (option_map (λ v. v.now) variable.entry) }
+{
+    match variable {
+        None => None,
+        Some(variable) => wire_if(
+            index,
+            tap_named(option.line, variable, option.inverted, range),
+        ),
+    }
+}
+
+#[tactic(auto, unfolding(crate::specs::Wirings::wire_meant))]
+fn wire_meant(variables: &[Variable], option: &LineOption, meaning: Meaning) -> Option<Wire>
+    ensures { result ≡ wire_meant variables.now option.now meaning }
+{
+    match meaning {
+        Meaning::Nothing => None,
+        Meaning::Several => None,
+        Meaning::Whole(index) => whole_wire(option, index, variables.get(index)),
+        Meaning::Bits(index, range) => bits_wire(option, index, range, variables.get(index)),
+    }
+}
+
+#[tactic(auto, unfolding(crate::specs::Wirings::option_wire))]
+fn option_wire(variables: &[Variable], home: Home, option: &LineOption) -> Option<Wire>
+    ensures { result ≡ option_wire variables.now home option.now }
+{
+    wire_meant(
+        variables,
+        option,
+        meaning_of(variables, home, &option.target),
+    )
+}
+
+#[tactic(auto, unfolding(crate::specs::Wirings::option_wires))]
+fn option_wires(
+    alloc: Global,
+    variables: &[Variable],
+    home: Home,
+    options: &[LineOption],
+) -> Result<Vec<Wire>, AllocError>
+    ensures { IfOk result (λ v. v.items ≡ option_wires variables.now home options.now) }
+{
+    options
+        .iter()
+        .filter_map(|option| option_wire(variables, home, option))
+        .collect(alloc)
+}
+
+#[tactic(auto, unfolding(crate::specs::Wirings::is_taken))]
+fn is_taken(index: usize, name: Option<Named>) -> bool
+    ensures { result ≡ is_taken index name }
+{
+    match name {
+        None => false,
+        Some(name) => name.index == index && !name.is_split,
+    }
+}
+
+#[tactic(auto, unfolding(crate::specs::Wirings::line_wire))]
+fn line_wire(
+    names: &[Named],
+    settled: &[u8],
+    scope: usize,
+    index: usize,
+    variable: &Variable,
+    line: Option<u8>,
+) -> Option<Wire>
+    ensures { result ≡ line_wire names.now settled.now scope index variable.now line }
+{
+    match line {
+        None => None,
+        Some(line) => {
+            if !is_listed(settled, line) && is_taken(index, found_in(names, scope, line)) {
+                wire_if(index, tap_of(line, variable, false))
+            } else {
+                None
+            }
+        }
+    }
+}
+
+#[tactic(auto, unfolding(crate::specs::Wirings::is_word_taken))]
+fn is_word_taken(bit: Bit, name: Option<Named>) -> bool
+    ensures { result ≡ is_word_taken bit name }
+{
+    match name {
+        None => false,
+        Some(name) => {
+            name.is_split
+                && name.scope == bit.scope
+                && (name.exact && bit.exact || !name.exact && !bit.exact)
+        }
+    }
+}
+
+#[tactic(auto, unfolding(crate::specs::Wirings::is_first))]
+fn is_first(bit: Bit, first: Option<Bit>) -> bool
+    ensures { result ≡ is_first bit first }
+{
+    match first {
+        None => false,
+        Some(first) => first.index == bit.index,
+    }
+}
+
+#[tactic(auto, unfolding(crate::specs::Wirings::bit_from))]
+fn bit_from(bit: Bit, base: Option<u32>) -> Option<Wire>
+    requires { bit.line < 22 }
+    ensures { result ≡ bit_from bit base }
+{
+    match base {
+        None => None,
+        Some(base) => {
+            if base <= bit.number && bit.number - base < line_width(bit.line) {
+                Some(Wire {
+                    index: bit.index,
+                    tap: bit_tap(bit.line, (bit.number - base) as u8),
+                })
+            } else {
+                None
+            }
+        }
+    }
+}
+
+#[tactic(auto, unfolding(crate::specs::Wirings::bit_wire))]
+fn bit_wire(
+    bits: &[Bit],
+    names: &[Named],
+    settled: &[u8],
+    scope: usize,
+    bit: Option<Bit>,
+) -> Option<Wire>
+    requires { IfSome bit (λ b. b.line < 22) }
+    ensures { result ≡ bit_wire bits.now names.now settled.now scope bit }
+{
+    match bit {
+        None => None,
+        Some(bit) => {
+            if !is_listed(settled, bit.line)
+                && is_word_taken(bit, found_in(names, scope, bit.line))
+                && is_first(bit, bit_in(bits, bit, bit.number))
+            {
+                bit_from(bit, base_of(bits, bit))
+            } else {
+                None
+            }
+        }
+    }
+}
+
+#[tactic(auto, unfolding(crate::specs::Wirings::wire_in))]
+fn wire_in(
+    variables: &[Variable],
+    bits: &[Bit],
+    names: &[Named],
+    settled: &[u8],
+    scope: usize,
+    index: usize,
+    variable: &Variable,
+) -> Option<Wire>
+    ensures { result
+        ≡ wire_in variables.now bits.now names.now settled.now scope index variable.now }
+{
+    match line_wire(
+        names,
+        settled,
+        scope,
+        index,
+        variable,
+        line_named(&variable.name),
+    ) {
+        Some(wire) => Some(wire),
+        None => bit_wire(
+            bits,
+            names,
+            settled,
+            scope,
+            bit_at(variables, index, variable),
+        ),
+    }
+}
+
+#[tactic(auto, unfolding(crate::specs::Wirings::wire_at))]
+fn wire_at(
+    variables: &[Variable],
+    bits: &[Bit],
+    names: &[Named],
+    settled: &[u8],
+    home: Home,
+    index: usize,
+    variable: &Variable,
+) -> Option<Wire>
+    ensures { result ≡ wire_at variables.now bits.now names.now settled.now home index variable.now }
+{
+    match home {
+        Home::Nowhere => None,
+        Home::At(scope) => wire_in(variables, bits, names, settled, scope, index, variable),
+        Home::Refused(_) => None,
+    }
+}
+
+#[tactic(auto, unfolding(crate::specs::Wirings::found_wires))]
+fn found_wires(
+    alloc: Global,
+    variables: &[Variable],
+    bits: &[Bit],
+    names: &[Named],
+    settled: &[u8],
+    home: Home,
+) -> Result<Vec<Wire>, AllocError>
+    ensures { IfOk result (λ v.
+        v.items ≡ found_wires variables.now bits.now names.now settled.now home) }
+{
+    variables
+        .iter()
+        .enumerate()
+        .filter_map(|(index, variable)| {
+            wire_at(variables, bits, names, settled, home, index, variable)
+        })
+        .collect(alloc)
+}
+
+/// The wires of the bus: those that the options take, and those that are found in the scope.
+#[tactic(auto, unfolding(crate::specs::Wirings::wires_with))]
+pub(crate) fn wires_with(
+    alloc: Global,
+    variables: &[Variable],
+    options: &[LineOption],
+    names: &[Named],
+    settled: &[u8],
+    home: Home,
+) -> Result<Vec<Wire>, AllocError>
+    ensures { IfOk result (λ v.
+        v.items ≡ wires_with variables.now options.now names.now settled.now home) }
+{
+    let bits = bits(alloc, variables)?;
+    let found = found_wires(alloc, variables, &bits, names, settled, home)?;
+    let mut wires = option_wires(alloc, variables, home, options)?;
+    wires.extend_from_slice(&found)?;
+    Ok(wires)
+}
+
+/// Whether a wire is the line, or a bit of it.
+#[tactic(auto, unfolding(crate::specs::Wirings::is_wired))]
+pub fn is_wired(wires: &[Wire], line: u8) -> bool
+    ensures { result ≡ is_wired wires.now line }
+{
+    wires.iter().any(|wire| wire.tap.line == line)
+}
+
+/// The lines without a wire: they read as never asserted.
+#[tactic(auto, unfolding(crate::specs::Wirings::absent_lines))]
+pub fn absent_lines(alloc: Global, wires: &[Wire]) -> Result<Vec<u8>, AllocError>
+    ensures { IfOk result (λ v. v.items ≡ absent_lines wires.now) }
+{
+    absent_among(alloc, wires, &LINES)
+}
+
+fn absent_among(alloc: Global, wires: &[Wire], lines: &[u8]) -> Result<Vec<u8>, AllocError>
+    ensures { IfOk result (λ v. v.items ≡ filter (λ n. not (is_wired wires.now n)) lines.now) }
+{
+    lines
+        .iter()
+        .copied()
+        .filter(|line| !is_wired(wires, *line))
+        .collect(alloc)
+}
