@@ -1,5 +1,5 @@
 -- What a judge stands for after one more event.
-use Rattle.std.proofs.Common.{◌≡◌, ◌∙◌, ◌+◌, ◌++◌, ◌∷◌, [], List, Option, true, false, length, refl, ap, sym, subst, arith}
+use Rattle.std.proofs.Common.{◌≡◌, ◌∙◌, ◌+◌, ◌++◌, ◌∷◌, [], List, Option, false, length, ap, sym, subst}
 use Rattle.std.proofs.lemmas.List.{length-append}
 use Rattle.fsb_signal.specs.declared.sample.Sample.{Sample}
 use Rattle.fsb_signal.specs.declared.marks.Marks.{Marks}
@@ -8,7 +8,7 @@ use Rattle.vcd_way.specs.Events.{DumpEvent, Sampled, samples_among}
 use Rattle.scope_check.specs.declared.judging.Judging.{Judging}
 use Rattle.scope_check.specs.declared.judging.Phase.{Phase}
 use Rattle.scope_check.specs.declared.judging.Phase.TheVariants as phases
-use Rattle.scope_check.specs.Parts.{is_none, is_sampled, is_ready}
+use Rattle.scope_check.specs.Parts.{is_sampled, is_ready}
 use Rattle.scope_check.specs.Standing.{HasJudged, IsPhase, Stands, rested}
 use Rattle.scope_check.proofs.Growing.{before_more, part_ends, rest_more, none_more}
 use Rattle.scope_check.proofs.Samples.{samples_snoc}

@@ -1,5 +1,5 @@
 -- What a judge has judged.
-use Rattle.std.specs.Prelude.{◌≡◌, ℕ, true, false, List, [], length}
+use Rattle.std.specs.Prelude.{◌≡◌, false, List, [], length}
 use Rattle.fsb_signal.specs.declared.marks.Marks.{Marks}
 use Rattle.fsb_trace.specs.Verdict.{verdict}
 use Rattle.fsb_rules.specs.Checker.{as_broken, Stands as CheckerStands}

@@ -1,4 +1,4 @@
-use Rattle.std.proofs.Common.{◌≡◌, ◌∙◌, ◌+◌, ap, sym, subst}
+use Rattle.std.proofs.Common.{◌∙◌, ◌+◌, ap, sym, subst}
 use Rattle.fsb_rules.specs.Checker.{as_broken, Stands as CheckerStands}
 use Rattle.fsb_trace.specs.Verdict.{verdict}
 use Rattle.vcd_way.specs.Events.{samples_among}

@@ -1,4 +1,4 @@
-use Rattle.std.proofs.Common.{◌≡◌, ◌∙◌, ◌+◌, ap, subst}
+use Rattle.std.proofs.Common.{◌∙◌, ◌+◌, ap, subst}
 use Rattle.scope_check.specs.Findings.{Says}
 use Rattle.scope_check.proofs.judging.Judging.judged.Goals as goal
 

@@ -1,4 +1,4 @@
-use Rattle.std.proofs.Common.{◌≡◌, [], refl, true}
+use Rattle.std.proofs.Common.{[], refl}
 use Rattle.fsb_count.specs.Clocks.{first_where}
 use Rattle.fsb_rules.specs.Checker.{as_broken}
 use Rattle.fsb_trace.specs.Verdict.{verdict}

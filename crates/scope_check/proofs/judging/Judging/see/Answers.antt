@@ -1,9 +1,9 @@
-use Rattle.std.proofs.Common.{◌≡◌, ◌∙◌, ◌+◌, ◌++◌, ◌∷◌, [], length, ap, sym, subst, refl}
-use Rattle.vcd_way.specs.Events.{Sampled, samples_among}
+use Rattle.std.proofs.Common.{◌∙◌, ◌+◌, ◌++◌, ◌∷◌, [], ap, sym, subst, refl}
+use Rattle.vcd_way.specs.Events.{Sampled}
 use Rattle.vcd_course.specs.Told.{last_told}
 use Rattle.scope_check.specs.declared.judging.Phase.TheVariants as phases
-use Rattle.scope_check.specs.Standing.{IsPhase, HasJudged}
-use Rattle.scope_check.proofs.Growing.{before_more, part_begins, part_goes_on, rest_more, none_more}
+use Rattle.scope_check.specs.Standing.{IsPhase}
+use Rattle.scope_check.proofs.Growing.{before_more, part_goes_on, rest_more, none_more}
 use Rattle.scope_check.proofs.Turns.{count_snoc}
 use Rattle.scope_check.proofs.judging.Judging.see.Goals as goal
 
@@ -11,7 +11,7 @@ pub returns-in_ok-self-in-Before : goal.returns-in_ok-self-in-Before
 returns-in_ok-self-in-Before c m es s =
     let e = Sampled c.args.sample.now (last_told c.args.stamp) in
     let f : IsPhase phases.Before s.part s.behind =
-        subst (λ x. IsPhase x s.part s.behind) c.in-Before.is s.phase in
+    subst (λ x. IsPhase x s.part s.behind) c.in-Before.is s.phase in
     record {
       before = s.before ++ e ∷ [];
       part = s.part;
@@ -33,7 +33,7 @@ pub returns-in_ok-judge-in-Inside : goal.returns-in_ok-judge-in-Inside
 returns-in_ok-judge-in-Inside c m es s =
     let e = Sampled c.args.sample.now (last_told c.args.stamp) in
     let f : IsPhase phases.Inside s.part s.behind =
-        subst (λ x. IsPhase x s.part s.behind) c.in-Inside.is s.phase in
+    subst (λ x. IsPhase x s.part s.behind) c.in-Inside.is s.phase in
     record {
       before = s.before;
       part = s.part ++ e ∷ [];
@@ -50,7 +50,7 @@ pub returns-in_ok-self-in-After : goal.returns-in_ok-self-in-After
 returns-in_ok-self-in-After c m es s =
     let e = Sampled c.args.sample.now (last_told c.args.stamp) in
     let f : IsPhase phases.After s.part s.behind =
-        subst (λ x. IsPhase x s.part s.behind) c.in-After.is s.phase in
+    subst (λ x. IsPhase x s.part s.behind) c.in-After.is s.phase in
     record {
       before = s.before;
       part = s.part;

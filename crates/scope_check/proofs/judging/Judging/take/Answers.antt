@@ -1,4 +1,4 @@
-use Rattle.std.proofs.Common.{◌≡◌, ◌∙◌, ap, sym, subst, refl}
+use Rattle.std.proofs.Common.{◌≡◌, ◌∙◌, ap, refl}
 use Rattle.vcd_way.specs.Events.{Hole, Resumed}
 use Rattle.vcd_course.specs.Told.{last_told}
 use Rattle.scope_check.specs.declared.judging.Judging.{Judging}
@@ -15,17 +15,17 @@ returns-in_ok-count_hole-in-Hole c m es s =
     let counted = c.in_ok-count_hole-in-Hole.ensures in
     let same = c.rest.ensures.rest in
     let checker : new.checker ≡ old.checker =
-        ap (λ (x : Judging). x.checker) same ∙ ap (λ (x : Judging). x.checker) counted in
+    ap (λ (x : Judging). x.checker) same ∙ ap (λ (x : Judging). x.checker) counted in
     let broken : new.broken ≡ old.broken =
-        ap (λ (x : Judging). x.broken) same ∙ ap (λ (x : Judging). x.broken) counted in
+    ap (λ (x : Judging). x.broken) same ∙ ap (λ (x : Judging). x.broken) counted in
     let judged : new.judged ≡ old.judged =
-        ap (λ (x : Judging). x.judged) same ∙ ap (λ (x : Judging). x.judged) counted in
+    ap (λ (x : Judging). x.judged) same ∙ ap (λ (x : Judging). x.judged) counted in
     let start : new.start ≡ old.start =
-        ap (λ (x : Judging). x.start) same ∙ ap (λ (x : Judging). x.start) counted in
+    ap (λ (x : Judging). x.start) same ∙ ap (λ (x : Judging). x.start) counted in
     let after : new.after ≡ old.after =
-        ap (λ (x : Judging). x.after) same ∙ ap (λ (x : Judging). x.after) counted in
+    ap (λ (x : Judging). x.after) same ∙ ap (λ (x : Judging). x.after) counted in
     let phase : new.phase ≡ rested old.phase =
-        c.rest.ensures.phase ∙ ap (λ (x : Judging). rested x.phase) counted in
+    c.rest.ensures.phase ∙ ap (λ (x : Judging). rested x.phase) counted in
     rw c.in-Hole.is (rests old new m es (Hole t) (λ xs. samples_hole xs t) refl refl phase
     (λ part h. judged_still old new m part checker broken judged h) start after s)
 
