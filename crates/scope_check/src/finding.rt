@@ -1,0 +1,32 @@
+use vcd_course::Stamp;
+
+/// What was found of the part that is judged.
+#[derive(Clone, Copy, Debug, PartialEq, Eq)]
+pub enum Verdict {
+    /// No clock was judged.
+    Nothing,
+    /// No rule is broken.
+    Accepted,
+    /// This rule is broken at this clock of the dump, from 0 on, and none before it. The stamp is that of the clock's edge.
+    Broken {
+        clock: u64,
+        rule: u8,
+        stamp: Option<Stamp>,
+    },
+}
+
+/// What was judged.
+#[derive(Clone, Copy, Debug, PartialEq, Eq)]
+pub struct Judged {
+    /// How many clocks the dump has.
+    pub clocks: u64,
+    /// The first clock that is judged; all of them, where none is.
+    pub start: u32,
+    /// How many clocks are judged, one after another.
+    pub judged: u32,
+    pub verdict: Verdict,
+    /// How many times the dump stops for a time.
+    pub holes: u32,
+    /// The stamp before the first of these times, if there is one.
+    pub first_hole: Option<Stamp>,
+}
