@@ -13,6 +13,7 @@ use vcd_read::{Reader, VcdCause, VcdFault, VcdStop, read_dump};
 
 mod calls;
 mod loads;
+mod marks;
 mod parity;
 mod table;
 mod texts;
@@ -282,11 +283,6 @@ fn gives(alloc: Global, bytes: &[u8], samples: &[Sample]) -> bool {
     says(alloc, bytes, Wanted::Samples(samples))
 }
 
-/// Whether a text is read, and has these marks, in whatever pieces it comes.
-fn is_marked(alloc: Global, bytes: &[u8], marks: Marks) -> bool {
-    says(alloc, bytes, Wanted::Marked(marks))
-}
-
 /// Whether the text of the row has its fault.
 fn has_fault(alloc: Global, row: &Bad) -> Result<bool, AllocError> {
     let &(start, text, place, cause) = row;
@@ -452,50 +448,6 @@ fn parity_of_a_load(rt: HostRuntime) -> Result<(), Fail> {
     let samples = load_with_parity(rt.alloc())?;
     assert!(rt; gives(rt.alloc(), PARITY_OF_A_LOAD.as_bytes(), &samples));
     Ok(())
-}
-
-/// Declarations behind those of the needed lines, and whether they are of the parity of the address and of the request.
-type Declared = (&'static str, bool, bool);
-
-const MARKED: [Declared; 7] = [
-    ("", false, false),
-    ("$var wire 2 5 AP_n [1:0] $end ", true, false),
-    ("$var wire 1 6 RP_n $end ", false, true),
-    (PARITY_LINES, true, true),
-    (
-        "$var reg 1 ! RP_n[0] $end $var wire 2 ! AP_n $end ",
-        true,
-        true,
-    ),
-    (
-        "$var real 64 5 AP_n $end $var wire 1 6 RP $end ",
-        false,
-        false,
-    ),
-    ("$comment $var wire 2 5 AP_n $end ", false, false),
-];
-
-/// Whether the declarations have those marks.
-fn is_declared(alloc: Global, row: &Declared) -> Result<bool, AllocError> {
-    let &(lines, ap, rp) = row;
-    let bytes = joined(alloc, &[LINES, lines, VALUES])?;
-    Ok(is_marked(alloc, &bytes, Marks { ap, rp }))
-}
-
-#[test]
-fn marks_of_each_dump(rt: HostRuntime) -> Result<(), Fail> {
-    for (at, row) in MARKED.iter().enumerate() {
-        assert!(rt; is_declared(rt.alloc(), row)?, "row {at}");
-    }
-    Ok(())
-}
-
-#[test]
-fn marks_of_each_dump_that_is_whole(rt: HostRuntime) {
-    assert!(rt; is_marked(rt.alloc(), NO_SAMPLES.as_bytes(), UNMARKED));
-    assert!(rt; is_marked(rt.alloc(), FALLING_VERILATOR.as_bytes(), UNMARKED));
-    let both = Marks { ap: true, rp: true };
-    assert!(rt; is_marked(rt.alloc(), PARITY_OF_A_LOAD.as_bytes(), both));
 }
 
 /// The marks that are told behind the first so many bytes of a text, and behind the rest, whether or not that is refused.

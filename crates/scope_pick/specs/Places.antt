@@ -6,6 +6,7 @@ use Rattle.scope_pick.specs.declared.variable.Written.{Written}
 use Rattle.scope_pick.specs.declared.variable.Written.TheVariants.{Absent, Numbers, Unreadable}
 use Rattle.scope_pick.specs.declared.place.Place.{Place}
 
+-- the width of an entry of the table of lines; 0 where there is none
 unfoldable pub entry_width : Option TableEntry → ℕ
 entry_width None = 0
 entry_width (Some e) = e.width
@@ -18,6 +19,7 @@ line_width line = entry_width (slice_get table line)
 unfoldable pub is_multi_bit : ℕ → Bool
 is_multi_bit line = nat_lt line 22 && nat_lt 1 (line_width line)
 
+-- the entry is of a line that a dump must declare
 unfoldable pub is_entry_needed : Option TableEntry → Bool
 is_entry_needed None = false
 is_entry_needed (Some e) = e.needed
@@ -30,6 +32,7 @@ is_line_needed line = is_entry_needed (slice_get table line)
 unfoldable pub lowest_index : ℕ → ℕ
 lowest_index line = if nat_eq line 10 then 3 else 0
 
+-- the index of the line's highest bit
 unfoldable pub highest_index : ℕ → ℕ
 highest_index line = lowest_index line + line_width line - 1
 

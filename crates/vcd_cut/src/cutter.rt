@@ -43,7 +43,8 @@ impl Cutter {
     /// none. A token counts at the white space after it, or at its byte 70,001.
     pub fn next(&mut self, bytes: &[u8]) -> Cut
         requires some { 0 < length bytes.now }
-        requires room { (fed : List ℕ) × Stands self.old fed × (length fed + length bytes.now < 2 ^ 64) }
+        requires room { (fed : List ℕ) × Stands self.old fed ×
+            (length fed + length bytes.now < 2 ^ 64) }
         ensures some { 0 < result.used }
         ensures within { result.used ≤ length bytes.now }
         ensures stands { (fed : List ℕ) → Stands self.old fed →

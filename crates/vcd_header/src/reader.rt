@@ -42,7 +42,8 @@ impl HeaderReader {
     /// good.
     pub fn feed(&mut self, piece: &[u8]) -> Result<usize, HeaderStop>
         // No `finish` has answered Ok, and the bytes fed are few enough to be counted.
-        requires { (fed : List ℕ) × Stands self.old fed × (length fed + length piece.now + 1 < 2 ^ 64) }
+        requires { (fed : List ℕ) × Stands self.old fed ×
+            (length fed + length piece.now + 1 < 2 ^ 64) }
         ensures within { IfOk result (λ used. used ≤ length piece.now) }
         ensures all { IfOk result (λ used. used < length piece.now → is_over_of self.new ≡ true) }
         ensures stands { (fed : List ℕ) → Stands self.old fed →
@@ -66,7 +67,8 @@ impl HeaderReader {
 
     /// The next piece, where nothing was refused.
     fn absorb(&mut self, piece: &[u8]) -> Result<usize, HeaderStop>
-        requires { (fed : List ℕ) × Works self.old fed × (length fed + length piece.now + 1 < 2 ^ 64) }
+        requires { (fed : List ℕ) × Works self.old fed ×
+            (length fed + length piece.now + 1 < 2 ^ 64) }
         ensures within { IfOk result (λ used. used ≤ length piece.now) }
         ensures all { IfOk result (λ used. used < length piece.now → is_over_of self.new ≡ true) }
         ensures works { (fed : List ℕ) → Works self.old fed →
@@ -95,7 +97,8 @@ impl HeaderReader {
     /// Tells how many.
     fn step(&mut self, bytes: &[u8]) -> Result<usize, AllocError>
         requires some { 0 < length bytes.now }
-        requires room { (fed : List ℕ) × Works self.old fed × (length fed + length bytes.now + 1 < 2 ^ 64) }
+        requires room { (fed : List ℕ) × Works self.old fed ×
+            (length fed + length bytes.now + 1 < 2 ^ 64) }
         requires open { is_over_of self.old ≡ false }
         ensures some { IfOk result (λ len. 0 < len) }
         ensures within { IfOk result (λ len. len ≤ length bytes.now) }
@@ -215,7 +218,8 @@ impl HeaderReader {
 
     /// The cutter that has read what this reader has, to read on with.
     pub fn into_cutter(self) -> Cutter
-        ensures { (fed : List ℕ) → Stands self fed → refusal_of self ≡ None → CutterStands result fed }
+        ensures { (fed : List ℕ) → Stands self fed → refusal_of self ≡ None →
+            CutterStands result fed }
     {
         self.cutter
     }

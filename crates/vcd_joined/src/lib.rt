@@ -46,8 +46,8 @@ pub fn a_header_is_gathered()
 /// that were taken knows, beside the scopes, the declarations and the sections of the header; and
 /// the same happens to the lines, which are unknown at first.
 pub fn a_value_reader_goes_on()
-    ensures known { (c : Choice) (m : ValueRules) (w : Wiring) (hs ts : List Token) → IsHeader m hs →
-        IsTaken c (gathered_in m hs).header w →
+    ensures known { (c : Choice) (m : ValueRules) (w : Wiring) (hs ts : List Token) →
+        IsHeader m hs → IsTaken c (gathered_in m hs).header w →
         state_of (choosing c m) (hs ++ ts)
         ≡ behind (gathered_in m hs) (known_after (of_values m) w ts) }
     ensures happened { (c : Choice) (m : ValueRules) (w : Wiring) (hs ts : List Token) →
