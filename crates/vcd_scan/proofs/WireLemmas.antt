@@ -76,3 +76,11 @@ first_more (v ∷ ws) w code =
     by false (Some i) c t k e rest = rw t (rw (rest, k) refl)
     by false None true t k e rest = rw t (rw (rest, k, e) refl)
     by false None false t k e rest = rw t (rw (rest, k, e) refl)
+
+pub first_put : (ws between now : List Wire) (w : Wire) (word code : List ℕ) (long : ℕ)
+    → now ≡ between ++ w ∷ [] → between ≡ ws → w.code.items ≡ word → long ≡ length ws
+    → first_of (first_place ws code) (same word code) long ≡ first_place now code
+first_put ws between now w word code long put kept is size =
+    (λ i. first_of (first_place ws code) (same (sym is i) code) (size i))
+    ∙ sym (first_more ws w code)
+    ∙ ap (λ vs. first_place vs code) (sym (put ∙ ap (λ vs. vs ++ w ∷ []) kept))

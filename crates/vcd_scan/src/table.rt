@@ -1,9 +1,8 @@
-ghost use Rattle.std.specs.Prelude.{◌≡◌, true, ℕ, List};
+ghost use Rattle.std.specs.Prelude.{◌≡◌, true};
 ghost use Rattle.std.specs.List.{list_all};
 ghost use Rattle.std.proofs.Props.{props};
 ghost use Rattle.vcd_way.specs.Lawful.{is_line};
-ghost use Rattle.vcd_scan.specs.CodePlaces.{place_by};
-ghost use Rattle.vcd_scan.specs.Placed.{first_place};
+ghost use Rattle.vcd_scan.specs.Placed.{FirstPlaces};
 
 use crate::places::CodePlaces;
 use crate::wire::Wire;
@@ -16,6 +15,5 @@ pub struct Wires {
     pub(crate) places: CodePlaces,
     pub(crate) lines: Vec<u8>,
     ghost of_table: { list_all is_line lines.items ≡ true },
-    ghost placed: { (code : List ℕ) → place_by places code ≡ first_place wires.items code }
-        by { Prim.hlevel props },
+    ghost placed: { FirstPlaces places wires.items } by { Prim.hlevel props },
 }
