@@ -1,9 +1,7 @@
 -- The wires of codes, by their places.
 use Rattle.std.proofs.Common.{◌≡◌, ℕ, suc, ◌<◌, Bool, true, false, List, [], ◌∷◌, ◌++◌, length, Option, Some, None}
-use Rattle.std.proofs.Common.{option_map, get_or, refl, sym, ap, ◌∙◌, arith, subst}
-use Rattle.std.specs.Cmp.Lexicographic.{same_text}
+use Rattle.std.proofs.Common.{get_or, refl, sym, ap, ◌∙◌, arith, subst}
 use Rattle.vcd_grammar.specs.Words.{same}
-use Rattle.vcd_way.specs.declared.tap.Tap.{Tap}
 use Rattle.vcd_scan.specs.declared.wire.Wire.{Wire}
 use Rattle.vcd_scan.specs.CodePlaces.{first_of}
 use Rattle.vcd_scan.specs.Placed.{first_place}
