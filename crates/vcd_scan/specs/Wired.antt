@@ -4,7 +4,7 @@ use Rattle.vcd_grammar.specs.Words.{same}
 use Rattle.vcd_way.specs.declared.tap.Tap.{Tap}
 use Rattle.vcd_way.specs.Ways.{Keeps, ValueRules, Way}
 use Rattle.vcd_scan.specs.declared.wire.Wire.{Wire}
-use Rattle.vcd_scan.specs.declared.wire.Wires.{Wires}
+use Rattle.vcd_scan.specs.declared.table.Wires.{Wires}
 
 -- a code, and the taps that it stands for
 pub record WireCode : Type 0 where

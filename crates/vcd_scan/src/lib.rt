@@ -9,12 +9,15 @@
 pub use machine::ScanRules;
 pub use reader::ValueReader;
 pub use stop::ScanStop;
-pub use wire::Wires;
+pub use table::Wires;
 
 mod digits;
 mod machine;
+mod numbers;
+mod places;
 mod reader;
 mod stop;
+mod table;
 mod wire;
 mod wires;
 mod words;

@@ -14,7 +14,7 @@ ghost use Rattle.vcd_scan.specs.Told.{values_by, rules_in, state_told, open_in, 
 ghost use Rattle.vcd_scan.specs.Begun.{begun};
 
 use crate::digits::{are_digits, digit_of, read_digits};
-use crate::wire::Wires;
+use crate::table::Wires;
 use crate::words::{is_off_word, is_on_word, is_read_past, is_unreadable, time_in};
 use std::alloc::{AllocError, Global};
 use std::mem;

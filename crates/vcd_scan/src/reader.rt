@@ -8,7 +8,7 @@ ghost use Rattle.vcd_scan.specs.Standing.{Works, Stands, Reads, Took, Keeps, Ans
 
 use crate::machine::{Machine, ScanRules};
 use crate::stop::ScanStop;
-use crate::wire::Wires;
+use crate::table::Wires;
 use std::alloc::{AllocError, Global};
 use vcd_course::{Course, CourseEvent};
 use vcd_cut::Cutter;

@@ -3,7 +3,9 @@ ghost use Rattle.std.specs.List.{list_all};
 ghost use Rattle.vcd_way.specs.Lawful.{is_line, is_lawful_tap};
 ghost use Rattle.vcd_scan.specs.Wired.{taps_in, wires_told, codes_told};
 
-use crate::wire::{Wire, Wires};
+use crate::places::CodePlaces;
+use crate::table::Wires;
+use crate::wire::Wire;
 use std::alloc::{AllocError, Global};
 use vcd_header::copy_of;
 use vcd_way::Tap;
@@ -16,6 +18,7 @@ impl Wires {
     {
         Wires {
             wires: Vec::new(alloc),
+            places: CodePlaces::new(alloc),
             lines,
         }
     }
@@ -27,8 +30,10 @@ impl Wires {
           codes = codes_told self.old.wires.items ++ record { code = code.now; taps = taps.items } ∷ [];
         }) }
     {
-        let code = copy_of(alloc, code)?;
-        self.wires.push(Wire { code, taps })?;
+        self.wires.reserve(1)?;
+        let word = copy_of(alloc, code)?;
+        self.places.add(alloc, code, self.wires.len())?;
+        self.wires.push_reserved(Wire { code: word, taps });
         Ok(())
     }
 
@@ -38,13 +43,7 @@ impl Wires {
             ≡ taps_in (codes_told self.now.wires.items) code.now }
         ensures lawful { IfSome result (λ taps. list_all is_lawful_tap taps.now ≡ true) }
     {
-        let mut rest = self.wires.as_slice();
-        while let Some((wire, more)) = rest.split_first() {
-            if wire.code.as_slice() == code {
-                return Some(wire.taps.as_slice());
-            }
-            rest = more;
-        }
-        None
+        let place = self.places.place(code)?;
+        Some(self.wires[place].taps.as_slice())
     }
 }
