@@ -1,0 +1,3 @@
+pub mod LineSights
+pub mod RuleForms
+pub mod Walks

@@ -1,0 +1,14 @@
+/// Which of the rules of snoop ends one breaks.
+#[derive(Clone, Copy, Debug, PartialEq, Eq)]
+pub struct Answered {
+    /// Rule 25, HITM# without an owner.
+    pub owner_lacking: bool,
+    /// Rule 26, HITM# missing.
+    pub owner_silent: bool,
+    /// Rule 27, HIT# missing.
+    pub holder_silent: bool,
+    /// Rule 28, HIT# without a holder.
+    pub holder_lacking: bool,
+    /// Rule 29, write-back of a line that its agent has no more.
+    pub written_when_lost: bool,
+}
