@@ -363,6 +363,52 @@ hit_agent v c j q l false g r h x y = and_off (r && h)
 hit_agent v c j q l true None r h x y = ap (λ k. r && h && k) (and_off (not (is_spoiled v l))) ∙ and_off (r && h)
 hit_agent v c j q l true (Some a) r h x y = rw (x, y) (turned_round (r && h) (not (is_spoiled v l)))
 
+hit_line : (v : Trace) (c j q : ℕ) (o : Option ℕ)
+    → (is_reply (live_request_of v j) && is_some_and (origin_of v j) (λ i. has_other_hit v c i)
+    && is_some_and o (λ line. names v line q && not (is_spoiled v line) && is_some_and (agent_at v q) (λ a. true)))
+    ≡ is_some_and (option_and_then (λ l. if names v l q then option_map (line_end_of v c j q l) (agent_at v q) else None) o)
+    (λ e. not (is_spoiled v e.line) && (e.is_reply && e.is_hit_wrong))
+unfolding is_some_and
+hit_line v c j q None = and_off (is_reply (live_request_of v j) && is_some_and (origin_of v j) (λ i. has_other_hit v c i))
+hit_line v c j q (Some l) =
+    hit_agent v c j q l (names v l q) (agent_at v q) (is_reply (live_request_of v j))
+    (is_some_and (origin_of v j) (λ i. has_other_hit v c i)) refl refl
+
+hit_clock : (v : Trace) (c j : ℕ) (o : Option ℕ)
+    → (is_reply (live_request_of v j) && is_some_and (origin_of v j) (λ i. has_other_hit v c i)
+    && is_some_and o (λ q. of_request v q (λ line a. true)))
+    ≡ is_some_and (option_and_then (line_end_by v c j) o) (λ e. not (is_spoiled v e.line) && (e.is_reply && e.is_hit_wrong))
+unfolding is_some_and of_request line_end_by
+hit_clock v c j None = and_off (is_reply (live_request_of v j) && is_some_and (origin_of v j) (λ i. has_other_hit v c i))
+hit_clock v c j (Some q) = hit_line v c j q (line_of v q)
+
+hit_number : (v : Trace) (c : ℕ) (o : Option ℕ)
+    → is_some_and o (λ j. is_reply (live_request_of v j) && is_some_and (origin_of v j) (λ i. has_other_hit v c i)
+    && is_some_and (origin_clock_of v j) (λ q. of_request v q (λ line a. true)))
+    ≡ is_some_and (option_and_then (λ j. option_and_then (line_end_by v c j) (origin_clock_of v j)) o)
+    (λ e. not (is_spoiled v e.line) && (e.is_reply && e.is_hit_wrong))
+unfolding is_some_and
+hit_number v c None = refl
+hit_number v c (Some j) = hit_clock v c j (origin_clock_of v j)
+
+pub hit-form : (first : List Joint) (v : Trace) (c : ℕ) → is_hit_of_reply_wrong first v c
+    ≡ is_some_and (line_end_at v c) (λ e. not (is_spoiled v e.line) && (e.is_reply && e.is_hit_wrong))
+unfolding is_hit_of_reply_wrong line_end_at
+hit-form first v c = hit_number v c (snooped_at v c)
+
+pub hit-none : (first : List Joint) (v : Trace) (c : ℕ) → line_end_at v c ≡ None → false ≡ is_hit_of_reply_wrong first v c
+unfolding is_some_and
+hit-none first v c h =
+    sym (hit-form first v c
+    ∙ ap (λ o. is_some_and o (λ e. not (is_spoiled v e.line) && (e.is_reply && e.is_hit_wrong))) h)
+
+pub hit-some : (first : List Joint) (v : Trace) (c : ℕ) (e : LineEnd) → line_end_at v c ≡ Some e
+    → (not (is_spoiled v e.line) && (e.is_reply && e.is_hit_wrong)) ≡ is_hit_of_reply_wrong first v c
+unfolding is_some_and
+hit-some first v c e h =
+    sym (hit-form first v c
+    ∙ ap (λ o. is_some_and o (λ e. not (is_spoiled v e.line) && (e.is_reply && e.is_hit_wrong))) h)
+
 pub rule-none : (first : List Joint) (v : Trace) (q : ℕ) → asking_at v q ≡ None → None ≡ begun_rule first v (q + 1)
 rule-none first v q e =
     sym (begun-rule first v q

@@ -1,5 +1,5 @@
 -- The rules of ownership, as a judge looks at them: by the request that is decoded, and by a snoop end.
-use Rattle.std.specs.Prelude.{ℕ, Bool, true, false, ◌&&◌, ◌||◌, not, if◌then◌else◌, List, Option, Some, None}
+use Rattle.std.specs.Prelude.{ℕ, ◌-◌, nat_lt, Bool, true, false, ◌&&◌, ◌||◌, not, if◌then◌else◌, List, Option, Some, None}
 use Rattle.fsb_signal.specs.declared.lines.TheConstants.Lines.{HIT, HITM}
 use Rattle.fsb_signal.specs.Samples.{line_at}
 use Rattle.fsb_trace.specs.At.{Trace}
@@ -73,3 +73,24 @@ unfoldable pub asking_rule : Asking → List Joint → Option ℕ
 asking_rule request set =
     if request.is_asked_twice then Some 21
     else unfit_rule request.kind (is_unfit_asking request set) request.is_held_back
+
+-- the rule that was found, or else this one where it is broken
+abbrev pub or_rule : Option ℕ → Bool → ℕ → Option ℕ
+or_rule None is_broken rule = if is_broken then Some rule else None
+or_rule (Some found) is_broken rule = Some found
+
+-- the least rule of those of the request, of the snoop ends now and a clock ago, and of the rules 30 and 31
+unfoldable pub rule_by : Option ℕ → Answered → Answered → Bool → Bool → Option ℕ
+rule_by begun now late is_hit_wrong is_given_again =
+    or_rule (or_rule (or_rule (or_rule (or_rule (or_rule (or_rule begun
+    (now.owner_lacking || late.owner_lacking) 25)
+    (now.owner_silent || late.owner_silent) 26)
+    (now.holder_silent || late.holder_silent) 27)
+    (now.holder_lacking || late.holder_lacking) 28)
+    (now.written_when_lost || late.written_when_lost) 29)
+    is_hit_wrong 30)
+    is_given_again 31
+
+-- which of the rules 25 to 29 the snoop end of the clock before c breaks, if there is such a clock
+unfoldable pub answered_before : List Joint → Trace → ℕ → Answered
+answered_before first v c = if nat_lt 0 c then answered_at first v (c - 1) else nothing_broken

@@ -1,18 +1,19 @@
 //! What is kept of all lines, and what a clock makes of it.
 
-ghost use Rattle.std.specs.Prelude.{◌≡◌, ◌<◌, ℕ, ◌+◌, ◌&&◌, not, true, false, List, nat_eq, if◌then◌else◌, Some, None, OnOk, OnErr};
+ghost use Rattle.std.specs.Prelude.{◌≡◌, ◌<◌, ℕ, ◌+◌, ◌&&◌, ◌||◌, not, true, false, List, nat_eq, if◌then◌else◌, Some, None, OnOk, OnErr};
+ghost use Rattle.fsb_count.specs.Options.{is_at};
 ghost use Rattle.fsb_trace.specs.At.{Trace};
 ghost use Rattle.fsb_owners.specs.Joint.{Joint};
 ghost use Rattle.fsb_owners.specs.Possible.{after_begin, after_clock, asking};
-ghost use Rattle.fsb_owners.specs.Rules.{is_none_left};
+ghost use Rattle.fsb_owners.specs.Rules.{is_hit_of_reply_wrong, is_none_left};
 ghost use Rattle.fsb_owners.specs.Shown.{is_spoiled};
 ghost use Rattle.fsb_joint.specs.LineClock.{BegunByOne, EndedByOne, begun_at, droppable_at, ended_at, ready_at};
 ghost use Rattle.fsb_joint.specs.Sets.{joints_of};
 ghost use Rattle.fsb_owner_judge.specs.Lines.{Follows, KnowsSpoiled, ShowsClock, is_kept_spoiled, is_waiting, kept_of, walked};
 ghost use Rattle.fsb_owner_judge.specs.Sights.{AsksAsOne, EndsAsOne, asking_at, begun_for, ended_for, line_end_at};
-ghost use Rattle.fsb_owner_judge.specs.Verdicts.{answered_at, asking_rule, begun_rule, nothing_broken, unfit_by, unfit_rule};
+ghost use Rattle.fsb_owner_judge.specs.Verdicts.{answered_at, asking_rule, begun_rule, unfit_by, unfit_rule};
 
-use crate::answered::Answered;
+use crate::answered::{Answered, nothing};
 use crate::sights::{Asking, LineEnd, Waiting, begun_for, ended_for};
 use fsb_joint::{Begun, JointSet, LineSets, SnoopEnd};
 use fsb_line::Purpose;
@@ -45,19 +46,6 @@ fn after_clock(
         .after_answer(ended)
         .after_snoop_end(ended)
         .after_unseen(waits.ready, waits.may_drop)
-}
-
-/// No rule is broken.
-fn nothing() -> Answered
-    ensures { result ≡ nothing_broken }
-{
-    Answered {
-        owner_lacking: false,
-        owner_silent: false,
-        holder_silent: false,
-        holder_lacking: false,
-        written_when_lost: false,
-    }
 }
 
 /// Which rule a snoop end breaks that fits none of these joint states.
@@ -129,6 +117,13 @@ fn asking_rule(request: &Asking, set: JointSet) -> Option<u8>
         let is_unfit = is_lost(set, set_asking(set, request));
         unfit_rule(request.kind, is_unfit, request.is_held_back)
     }
+}
+
+/// Whether the snoop end of a line, spoiled or not, is one of a reply with the wrong HIT#.
+fn has_wrong_hit(end: &LineEnd, is_spoiled: bool) -> bool
+    ensures { result ≡ (not is_spoiled && (end.now.is_reply && end.now.is_hit_wrong)) }
+{
+    !is_spoiled && (end.is_reply && end.is_hit_wrong)
 }
 
 impl OwnerLines {
@@ -217,6 +212,17 @@ impl OwnerLines {
         self.sets.get(line).after_begin(begun_for(line, begun))
     }
 
+    /// Whether this snoop end breaks rule 30.
+    pub fn is_hit_wrong(&self, ended: Option<LineEnd>) -> bool
+        ensures { (first : List Joint) (v : Trace) (c : ℕ) → KnowsSpoiled self.now v →
+            ended ≡ line_end_at v c → result ≡ is_hit_of_reply_wrong first v c }
+    {
+        match ended {
+            Some(end) => has_wrong_hit(&end, self.is_spoiled(end.line)),
+            None => false,
+        }
+    }
+
     /// Takes a clock at which this begins and that ends, and walks the lines on which somebody waits. Where memory lacks, some
     /// of them are not walked.
     pub fn close(
@@ -279,13 +285,26 @@ impl OwnerLines {
     }
 
     /// Marks the line as spoiled. Where memory lacks nothing changes.
-    pub fn spoil(&mut self, line: u64) -> Result<(), AllocError>
+    fn spoil(&mut self, line: u64) -> Result<(), AllocError>
         ensures spoiled { OnOk result ((other : ℕ) → is_kept_spoiled self.new other
-            ≡ (if nat_eq line other then true else is_kept_spoiled self.old other)) }
+            ≡ (nat_eq line other || is_kept_spoiled self.old other)) }
         ensures unchanged { OnErr result (self.new ≡ self.old) }
         ensures kept { (other : ℕ) → kept_of self.new other ≡ kept_of self.old other }
     {
         self.spoiled.insert(line, true)?;
         Ok(())
+    }
+
+    /// Marks the line as spoiled, if there is one. Where memory lacks nothing changes.
+    #[tactic(auto, unfolding(fsb_count::specs::Options::is_at, fsb_count::specs::Options::is_some_and))]
+    pub fn spoil_failed(&mut self, failed: Option<u64>) -> Result<(), AllocError>
+        ensures spoiled { OnOk result ((line : ℕ) → is_kept_spoiled self.new line
+            ≡ (is_at failed line || is_kept_spoiled self.old line)) }
+        ensures kept { (line : ℕ) → kept_of self.new line ≡ kept_of self.old line }
+    {
+        match failed {
+            Some(line) => self.spoil(line),
+            None => Ok(()),
+        }
     }
 }
