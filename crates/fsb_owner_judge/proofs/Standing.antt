@@ -1,5 +1,5 @@
 -- The verdict of a judge, one sample on.
-use Rattle.std.proofs.Common.{ℕ, ◌+◌, ◌≡◌, Bool, true, false, length, List, [], Option, Some, None, is_some, refl, sym, ap, ◌∙◌}
+use Rattle.std.proofs.Common.{ℕ, ◌+◌, ◌≡◌, Bool, true, false, length, List, [], Option, Some, None, is_some, refl, sym, ap, ◌∙◌, ◌≤◌, arith}
 use Rattle.std.proofs.Common.{Result, Ok, Err, IfOk, OnOk}
 use Rattle.std.proofs.lemmas.Bool.{both_ways}
 use Rattle.std.specs.Option.{option_map}
@@ -56,11 +56,13 @@ found-next first h x v rule m e r =
     ∙ ap (or_at (is_ownership_broken first v) 32 (length h)) (none_by (ownership_verdict first h) e)))
 
 -- where memory was lacking a judge stands for anything
-pub lacked : (judge : OwnerJudge) (first : List Joint) (v : Trace) → judge.has_lacked_memory ≡ true → Stands judge first v
-lacked judge first v t = record {
+pub lacked : (judge : OwnerJudge) (first : List Joint) (v : Trace) → judge.has_lacked_memory ≡ true → judge.clock ≤ length v
+    → Stands judge first v
+lacked judge first v t l = record {
   found = λ f. absurd (both_ways judge.has_lacked_memory f t);
   lines = λ f n. absurd (both_ways judge.has_lacked_memory f t);
   clock = λ f n. absurd (both_ways judge.has_lacked_memory f t);
+  few = l;
 }
 
 apart : (o : Option OwnerBroken) → is_some o ≡ true → o ≡ None → ⊥
@@ -79,6 +81,7 @@ kept judge first h x v m r t s = record {
   found = λ f. stays_of first h x v judge.found m t (s.found r);
   lines = λ f n. absurd (apart judge.found t n);
   clock = λ f n. absurd (apart judge.found t n);
+  few = let l = s.few in let n = m.size in omega (arith, l, n);
 }
 
 pub nothing-found : (o : Option OwnerBroken) → is_some o ≡ false → o ≡ None
@@ -101,6 +104,7 @@ stepped on first h x v clock m e f k c = record {
   found = λ _. f;
   lines = λ _ _. k;
   clock = λ _ _. c ∙ ap (λ d. d + 1) e ∙ sym m.size;
+  few = let n = m.size in omega (arith, c, e, n);
 }
 
 pub if_ok : {A E : Type 0} {P Q : A → Type 0} (r : Result A E) → ((a : A) → P a → Q a) → IfOk r P → IfOk r Q
@@ -120,4 +124,5 @@ at_start judge first s n k o c = record {
   found = λ _. n;
   lines = λ _ _. record { settled = s; follows = λ line. k line; spoiled = λ line. o line };
   clock = λ _ _. c;
+  few = omega (arith, c);
 }

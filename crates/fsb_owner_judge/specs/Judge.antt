@@ -1,5 +1,5 @@
 -- What a judge is told with a sample, and the samples for which it stands.
-use Rattle.std.specs.Prelude.{◌≡◌, ◌<◌, ℕ, ◌+◌, ◌-◌, Bool, true, false, ◌||◌, List, Option, Some, None, length}
+use Rattle.std.specs.Prelude.{◌≡◌, ◌<◌, ◌≤◌, ℕ, ◌+◌, ◌-◌, Bool, true, false, ◌||◌, List, Option, Some, None, length}
 use Rattle.std.specs.Option.{option_map}
 use Rattle.fsb_count.specs.Options.{is_at}
 use Rattle.fsb_trace.specs.At.{Trace}
@@ -56,9 +56,14 @@ pub record LinesStand (lines : OwnerLines) (first : List Joint) (h : Trace) : Ty
 abbrev pub has_lacked_memory : OwnerJudge → Bool
 has_lacked_memory judge = judge.has_lacked_memory
 
+-- how many samples it took, until it found something
+abbrev pub taken : OwnerJudge → ℕ
+taken judge = judge.clock
+
 -- the judge began with these joint states and was told of these samples: unless memory was lacking it found their verdict,
 -- and as long as there is none it keeps what is possible
 pub record Stands (judge : OwnerJudge) (first : List Joint) (h : Trace) : Type 0 where
   pub found : has_lacked_memory judge ≡ false → judge.found ≡ as_owner_broken (ownership_verdict first h)
   pub lines : has_lacked_memory judge ≡ false → judge.found ≡ None → LinesStand judge.lines first h
   pub clock : has_lacked_memory judge ≡ false → judge.found ≡ None → judge.clock ≡ length h
+  pub few : taken judge ≤ length h

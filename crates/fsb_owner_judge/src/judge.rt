@@ -1,13 +1,13 @@
 //! The judge, sample by sample.
 
-ghost use Rattle.std.specs.Prelude.{◌≡◌, ◌<◌, ◌+◌, ◌^◌, ◌∷◌, [], ℕ, true, false, length, List, IfOk, IsErr, OnOk, OnErr};
+ghost use Rattle.std.specs.Prelude.{◌≡◌, ◌<◌, ◌≤◌, ◌+◌, ◌^◌, ◌∷◌, [], ℕ, true, false, length, List, IfOk, IsErr, OnOk, OnErr};
 ghost use Rattle.std.specs.Option.{option_map};
 ghost use Rattle.fsb_trace.specs.At.{Trace};
 ghost use Rattle.fsb_owners.specs.Joint.{Joint, every_joint, unheld};
 ghost use Rattle.fsb_owners.specs.Least.{least_at};
 ghost use Rattle.fsb_owners.specs.Rules.{is_hit_of_reply_wrong, is_ownership_broken, ownership_verdict};
 ghost use Rattle.fsb_signal.specs.declared.sample.Sample.{Sample};
-ghost use Rattle.fsb_owner_judge.specs.Judge.{LinesStand, Shows, Stands, as_owner_broken, has_lacked_memory};
+ghost use Rattle.fsb_owner_judge.specs.Judge.{LinesStand, Shows, Stands, as_owner_broken, has_lacked_memory, taken};
 ghost use Rattle.fsb_owner_judge.specs.Lines.{Follows, KnowsSpoiled};
 ghost use Rattle.fsb_owner_judge.specs.Sights.{AsksAsOne, EndsAsOne, line_end_at};
 ghost use Rattle.fsb_owner_judge.specs.Verdicts.{answered_at, or_rule, rule_by};
@@ -176,6 +176,7 @@ impl OwnerJudge {
     pub fn from_reset(alloc: Global) -> OwnerJudge
         ensures stands { Stands result (unheld ∷ []) [] }
         ensures room { has_lacked_memory result ≡ false }
+        ensures taken { taken result ≡ 0 }
     {
         OwnerJudge {
             lines: OwnerLines::new(alloc, JointSet::unheld()),
@@ -189,6 +190,7 @@ impl OwnerJudge {
     pub fn from_within(alloc: Global) -> OwnerJudge
         ensures stands { Stands result every_joint [] }
         ensures room { has_lacked_memory result ≡ false }
+        ensures taken { taken result ≡ 0 }
     {
         OwnerJudge {
             lines: OwnerLines::new(alloc, JointSet::every()),
@@ -204,8 +206,7 @@ impl OwnerJudge {
         requires begun { AsksAsOne shown.now.begun }
         requires before { EndsAsOne shown.now.ended_before }
         requires ended { EndsAsOne shown.now.ended }
-        requires stands { (first : List Joint) × (h : Trace) × Stands self.old first h
-            × (length h < 2 ^ 32) }
+        requires few { taken self.old < 2 ^ 32 }
         ensures found { IfOk result (λ found. (first : List Joint) (h : Trace) (x : Sample)
             (v : Trace) → Stands self.old first h → Shows first h x v shown.now waits.now →
             found ≡ as_owner_broken (ownership_verdict first v)) }
@@ -215,6 +216,7 @@ impl OwnerJudge {
         ensures memory { has_lacked_memory self.old ≡ true → IsErr result }
         ensures full { OnErr result (has_lacked_memory self.new ≡ true) }
         ensures room { OnOk result (has_lacked_memory self.new ≡ false) }
+        ensures taken { taken self.new ≤ taken self.old + 1 }
     {
         if self.has_lacked_memory {
             return Err(Memory);

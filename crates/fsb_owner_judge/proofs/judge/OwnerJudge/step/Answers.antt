@@ -1,5 +1,5 @@
-use Rattle.std.proofs.Common.{◌+◌, sym, ap, ◌∙◌}
-use Rattle.fsb_owner_judge.proofs.Standing.{kept, nothing-found, stays_of, stepped, told-next}
+use Rattle.std.proofs.Common.{◌+◌, ◌≤◌, length, sym, ap, ◌∙◌, arith}
+use Rattle.fsb_owner_judge.proofs.Standing.{kept, lacked, nothing-found, stays_of, stepped, told-next}
 use Rattle.fsb_owner_judge.proofs.judge.OwnerJudge.step.Goals as goal
 
 pub returns-then-is_some-clause-found : goal.returns-then-is_some-clause-found
@@ -28,3 +28,7 @@ returns-clause-stands c = λ first h x v s w.
     (c.in-Ok.ensures.rule first h x v (s.lines c.if-self.false none) clock w))
     (c.in-Ok.ensures.stands first h x v (s.lines c.if-self.false none) clock w)
     (ap (λ d. d + 1) c.from.ensures)
+
+pub returns-then-self-clause-stands : goal.returns-then-self-clause-stands
+returns-then-self-clause-stands c = λ first h x v s w.
+    lacked c.args.self.now first v c.if-self.true (let l = s.few in let n = w.more.size in omega (arith, l, n))
