@@ -300,6 +300,7 @@ impl OwnerLines {
     pub fn spoil_failed(&mut self, failed: Option<u64>) -> Result<(), AllocError>
         ensures spoiled { OnOk result ((line : ℕ) → is_kept_spoiled self.new line
             ≡ (is_at failed line || is_kept_spoiled self.old line)) }
+        ensures unchanged { OnErr result (self.new ≡ self.old) }
         ensures kept { (line : ℕ) → kept_of self.new line ≡ kept_of self.old line }
     {
         match failed {
