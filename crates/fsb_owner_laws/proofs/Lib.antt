@@ -13,3 +13,4 @@ pub mod Replies
 pub mod OneMore
 pub mod Untouched
 pub mod Sound
+pub mod Interface

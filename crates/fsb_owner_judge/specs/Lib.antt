@@ -1,0 +1,4 @@
+pub mod Sights
+pub mod Lines
+pub mod Verdicts
+pub mod Judge
