@@ -43,9 +43,11 @@ fn check<'a>(alloc: Global) -> Result<Command<'a>, AllocError> {
     with_judged(alloc, verb(alloc, "check", about))
 }
 
+// It is read, and not offered yet.
 fn pick<'a>(alloc: Global) -> Result<Command<'a>, AllocError> {
     let about = "Writes the lines of the bus as a dump of its own, for p6bench and any viewer";
-    with_judged(alloc, verb(alloc, "pick", about))
+    let pick = command(alloc, "pick").about(about).hide(true);
+    with_judged(alloc, pick.display_name("p6scope"))
 }
 
 fn rule<'a>(alloc: Global) -> Result<Command<'a>, AllocError> {
@@ -136,11 +138,12 @@ fn wires<'a>(alloc: Global, name: &'a str, value: &'a str, help: &'a str) -> Arg
         .help_heading(WIRES)
 }
 
-// An option of the part, with a value.
+// An option of the part, with a value. It is read, and not offered yet.
 fn part<'a>(alloc: Global, name: &'a str, value: &'a str, help: &'a str) -> Arg<'a> {
     option(alloc, name, help)
         .value_name(value)
         .help_heading(PART)
+        .hide(true)
 }
 
 // An option that may stand more than once.
