@@ -1,0 +1,4 @@
+pub mod Stops
+pub mod Heading
+pub mod Buses
+pub mod Watching
