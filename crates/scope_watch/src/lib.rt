@@ -10,6 +10,7 @@
 
 pub use begin::read_header;
 pub use bus::{Bus, Picked, marks_of, pick_bus};
+pub use check::{Checked, Finding, check_dump, judge_values};
 pub use header::{Begun, Behind, Header};
 pub use stop::{ScopeStop, WatchStop};
 pub use values::{Sampling, watch_values};
@@ -17,6 +18,7 @@ pub use watcher::EventWatcher;
 
 mod begin;
 mod bus;
+mod check;
 mod feed;
 mod header;
 mod parts;
