@@ -42,14 +42,14 @@ static TEXTS: [(&'static str, &'static str, Found); 10] = [
 ];
 
 /// Whether this is what is found.
-fn is_found(found: &Found, result: &Result<Checked, ScopeStop>) -> bool {
-    match (found, result) {
+fn is_found(found: &Found, answer: &Result<Checked, ScopeStop>) -> bool {
+    match (found, answer) {
         (Found::Judged(clocks, start, judged, broken), Ok(checked)) => match &checked.finding {
-            Finding::Judged(_, answer) => {
-                answer.clocks == *clocks
-                    && answer.start == *start
-                    && answer.judged == *judged
-                    && is_verdict(*judged, *broken, answer)
+            Finding::Judged(_, judged_now) => {
+                judged_now.clocks == *clocks
+                    && judged_now.start == *start
+                    && judged_now.judged == *judged
+                    && is_verdict(*judged, *broken, judged_now)
             }
             Finding::Refused(_) => false,
         },
@@ -83,8 +83,8 @@ fn findings_whatever_the_pieces(rt: HostRuntime) {
     for (header, values, found) in TEXTS.iter() {
         let text = joined(alloc, &[header, values]).ok().expect(&rt, "memory");
         for size in [1, 7, 4096] {
-            let result = checked(alloc, &text, size, &[]);
-            assert!(rt; is_found(found, &result));
+            let answer = checked(alloc, &text, size, &[]);
+            assert!(rt; is_found(found, &answer));
         }
     }
 }

@@ -1,6 +1,6 @@
 -- The end of a header among the bytes that are read.
 use Rattle.std.proofs.Common.{◌≡◌, ℕ, ◌+◌, ◌-◌, Bool, true, false, ◌||◌, ◌&&◌, ◌==◌, nat_le, if◌then◌else◌, List, [], ◌∷◌, ◌++◌, length, take}
-use Rattle.std.proofs.Common.{◌⊎◌, inl, inr, Option, Some, None, refl, sym, ap, subst, ◌∙◌, append-nil, arith, suc, zero, ◌≤◌, ◌<◌}
+use Rattle.std.proofs.Common.{◌⊎◌, inl, inr, Option, Some, None, Ok, refl, sym, ap, subst, ◌∙◌, append-nil, arith, suc, zero, ◌≤◌, ◌<◌}
 use Rattle.vcd_grammar.specs.declared.fault.VcdFault.{VcdFault}
 use Rattle.vcd_grammar.specs.Tokens.{Token, is_white, is_long, longest, ended_at, grown_at, counted, tokens_so_far, tokens_of, open_run}
 use Rattle.vcd_way.specs.Declarations.{Declaration}
@@ -15,9 +15,9 @@ use Rattle.vcd_header.specs.declared.declared.Section.{Section}
 use Rattle.vcd_header.specs.declared.reader.HeaderReader.{HeaderReader}
 use Rattle.vcd_header.specs.Told.{spot_told, is_over}
 use Rattle.vcd_header.specs.Gathering.{FitsRules, gathered_so_far, gathered_of, header_fault_of}
-use Rattle.vcd_header.specs.Standing.{is_over_of, rules_of}
+use Rattle.vcd_header.specs.Standing.{Stands, is_over_of, rules_of, refusal_of}
 use Rattle.vcd_joined.specs.Behind.{IsHeader, gathered_in}
-use Rattle.scope_watch.specs.Heading.{any_header, Opens, Closes, FedByte}
+use Rattle.scope_watch.specs.Heading.{any_header, Holds, Opens, Closes, FedByte}
 
 -- ---- one more token
 
@@ -138,3 +138,35 @@ byte-used m fed b zero over few all e early =
     (all (omega arith)))
 byte-used m fed b (suc zero) over few all e early = refl
 byte-used m fed b (suc (suc n)) over few all e early = absurd (omega (arith, few))
+
+-- a reader of a header that is not over, after one more byte
+pub byte-read : (new : HeaderReader) (fed : List ℕ) (b used : ℕ) (over : Bool)
+    → ((m : ValueRules) → FitsRules m any_header → is_past_header_at (gathered_so_far m fed).spot ≡ false)
+    → Stands new (fed ++ take used (b ∷ [])) → refusal_of new ≡ None → rules_of new ≡ any_header
+    → used ≤ 1 → (used < 1 → over ≡ true)
+    → ((m : ValueRules) → FitsRules m any_header
+    → over ≡ is_past_header_at (gathered_so_far m (fed ++ take used (b ∷ []))).spot)
+    → FedByte (Ok over) new (fed ++ b ∷ [])
+byte-read new fed b used over early stands fresh rules few all told = by over refl
+  where
+    any : FitsRules wide_rules any_header
+    any = record { widest = refl; skips_preface = refl }
+
+    one : used ≡ 1
+    one = byte-used wide_rules fed b used over few all (told wide_rules any) (early wide_rules any)
+
+    same : fed ++ take used (b ∷ []) ≡ fed ++ b ∷ []
+    same = ap (λ n. fed ++ take n (b ∷ [])) one
+
+    holds : Holds new (fed ++ b ∷ [])
+    holds = record { stands = subst (λ x. Stands new x) same stands; fresh = fresh; rules = rules }
+
+    past : (m : ValueRules) → FitsRules m any_header → over ≡ is_past_header_at (gathered_so_far m (fed ++ b ∷ [])).spot
+    past m f = told m f ∙ ap (λ x. is_past_header_at (gathered_so_far m x).spot) same
+
+    by : (o : Bool) → over ≡ o → FedByte (Ok o) new (fed ++ b ∷ [])
+    by true e = record {
+      holds = holds;
+      header = λ m f. header-byte m fed b (early m f) (sym (past m f) ∙ e);
+    }
+    by false e = record { holds = holds; early = λ m f. sym (past m f) ∙ e }

@@ -129,10 +129,10 @@ IsHeaded (Err watched.WriteFault) text left = ⊥
 -- ---- parts of it
 
 -- the header is these bytes, and these stand behind it in its piece
-pub record HasBegun (b : Begun) (head rest : List ℕ) (taken : ℕ) : Type 0 where
+pub record HasBegun (b : Begun) (head piece : List ℕ) (count : ℕ) : Type 0 where
   pub cutter : CutterStands b.behind.cutter head
-  pub rest : b.behind.rest.items ≡ rest
-  pub taken : b.behind.taken ≡ taken
+  pub rest : b.behind.rest.items ≡ piece
+  pub taken : b.behind.taken ≡ count
   pub header : (m : ValueRules) → FitsRules m any_header → IsHeader m (tokens_so_far head)
   pub shows : (m : ValueRules) → FitsRules m any_header → Shows b.header (gathered_so_far m head)
 
@@ -143,10 +143,10 @@ IsBegunWith (Err watched.Memory) head rest taken = Unit {0}
 IsBegunWith (Err _) head rest taken = ⊥
 
 -- the header is the whole text
-pub record HasEnded (b : Begun) (text : List ℕ) (taken : ℕ) : Type 0 where
+pub record HasEnded (b : Begun) (text : List ℕ) (count : ℕ) : Type 0 where
   pub cutter : CutterStands b.behind.cutter []
   pub rest : b.behind.rest.items ≡ []
-  pub taken : b.behind.taken ≡ taken
+  pub taken : b.behind.taken ≡ count
   pub header : (m : ValueRules) → FitsRules m any_header → IsHeader m (tokens_of text)
   pub shows : (m : ValueRules) → FitsRules m any_header → Shows b.header (gathered_of m text)
 
