@@ -1,6 +1,9 @@
 -- The end of a header among the bytes that are read.
-use Rattle.std.proofs.Common.{◌≡◌, ℕ, ◌+◌, ◌-◌, Bool, true, false, ◌||◌, ◌&&◌, ◌==◌, nat_le, if◌then◌else◌, List, [], ◌∷◌, ◌++◌, length, take}
-use Rattle.std.proofs.Common.{◌⊎◌, inl, inr, Option, Some, None, Ok, refl, sym, ap, subst, ◌∙◌, append-nil, arith, suc, zero, ◌≤◌, ◌<◌}
+use Rattle.std.proofs.Common.{◌≡◌, ℕ, ◌+◌, ◌-◌, Bool, true, false, ◌||◌, ◌&&◌, ◌==◌, nat_le, if◌then◌else◌, List, [], ◌∷◌, ◌++◌, length, take, drop, get_or, ◌^◌}
+use Rattle.std.proofs.Common.{◌⊎◌, inl, inr, Option, Some, None, Result, Ok, Err, refl, sym, ap, subst, ◌∙◌}
+use Rattle.std.proofs.Common.{append-nil, append_assoc, length-append, arith, suc, zero, ◌≤◌, ◌<◌}
+use Rattle.std.proofs.Math.Seq.{take-suc}
+use Rattle.std.proofs.lemmas.List.{take-append-drop, drop-take}
 use Rattle.vcd_grammar.specs.declared.fault.VcdFault.{VcdFault}
 use Rattle.vcd_grammar.specs.Tokens.{Token, is_white, is_long, longest, ended_at, grown_at, counted, tokens_so_far, tokens_of, open_run}
 use Rattle.vcd_way.specs.Declarations.{Declaration}
@@ -17,7 +20,14 @@ use Rattle.vcd_header.specs.Told.{spot_told, is_over}
 use Rattle.vcd_header.specs.Gathering.{FitsRules, gathered_so_far, gathered_of, header_fault_of}
 use Rattle.vcd_header.specs.Standing.{Stands, is_over_of, rules_of, refusal_of}
 use Rattle.vcd_joined.specs.Behind.{IsHeader, gathered_in}
-use Rattle.scope_watch.specs.Heading.{any_header, Holds, Opens, Closes, FedByte}
+use Rattle.vcd_header.specs.declared.stop.HeaderStop.{HeaderStop}
+use Rattle.vcd_header.specs.declared.stop.HeaderStop.TheVariants as stops
+use Rattle.scope_watch.specs.declared.header.Begun.{Begun}
+use Rattle.scope_watch.specs.declared.stop.ScopeStop.{ScopeStop}
+use Rattle.scope_watch.specs.declared.stop.ScopeStop.TheVariants as watched
+use Rattle.scope_watch.specs.Stops.{IsStopOfReading}
+use Rattle.scope_watch.specs.Heading.{any_header, Holds, Opens, Closes, FedByte, Fed, ShowsFault, HasEnded, IsEnded}
+use Rattle.scope_watch.specs.Heading.{HasBegun, IsBegunWith, BeginsBy, IsHeaderFault, IsHeaded}
 
 -- ---- one more token
 
@@ -170,3 +180,124 @@ byte-read new fed b used over early stands fresh rules few all told = by over re
       header = λ m f. header-byte m fed b (early m f) (sym (past m f) ∙ e);
     }
     by false e = record { holds = holds; early = λ m f. sym (past m f) ∙ e }
+
+-- ---- a piece
+
+-- a fault with one of the bytes of a piece
+pub byte-fault : (e : HeaderStop) (r : HeaderReader) (fed piece : List ℕ) (at b d : ℕ) → at < length piece
+    → b ≡ get_or piece at d → FedByte (Err e) r ((fed ++ take at piece) ++ b ∷ []) → Fed (Err e) r fed piece
+byte-fault stops.Memory r fed piece at b d less same h = tt
+byte-fault (stops.Bad fault) r fed piece at b d less same h =
+    let now : take (suc at) piece ≡ take at piece ++ b ∷ [] =
+    take-suc piece at d less ∙ ap (λ x. take at piece ++ x ∷ []) (sym same) in
+    record {
+      some = (fed ++ take at piece) ++ b ∷ [];
+      more = drop (suc at) piece;
+      whole = ap (λ x. fed ++ x) (sym (take-append-drop (suc at) piece) ∙ ap (λ x. x ++ drop (suc at) piece) now)
+          ∙ sym (append_assoc fed (take at piece ++ b ∷ []) (drop (suc at) piece))
+          ∙ ap (λ x. x ++ drop (suc at) piece) (sym (append_assoc fed (take at piece) (b ∷ [])));
+      first = h;
+    }
+
+-- ---- a source
+
+-- a stop of a source
+pub headed-stop : (stop : ScopeStop) (text left : List ℕ) → IsStopOfReading stop
+    → (stop ≡ watched.TooLong → 2 ^ 40 < length text) → IsHeaded (Err stop) text left
+headed-stop (watched.Bad fault) text left h long = absurd h
+headed-stop watched.ReadFault text left h long = tt
+headed-stop watched.TooLong text left h long = long refl
+headed-stop watched.TooMany text left h long = h
+headed-stop watched.WriteFault text left h long = h
+headed-stop watched.Memory text left h long = absurd h
+
+-- more bytes came than are taken
+pub long-text : (text fed left : List ℕ) (taken : ℕ) → text ≡ fed ++ left → length fed ≡ taken
+    → 2 ^ 40 < taken + length left → 2 ^ 40 < length text
+long-text text fed left taken e size long =
+    let sum : length text ≡ length fed + length left = ap length e ∙ length-append fed left in
+    omega (arith, long, size, sum)
+
+-- ---- the end of a header
+
+ended-by : (b : Begun) (text : List ℕ) (taken : ℕ) (m : ValueRules) → FitsRules m any_header → taken ≡ length text
+    → HasEnded b text taken → BeginsBy m b text []
+ended-by b text taken m f size h = record {
+  tokens = tokens_of text;
+  stands = record {
+    header = h.header m f;
+    head = [];
+    cutter = h.cutter;
+    place = inr (record { tokens = refl; none = refl; no_rest = h.rest; nothing = refl });
+    taken = omega (arith, h.taken, size);
+  };
+  shows = h.shows m f;
+}
+
+ended-in : (answer : Result Begun ScopeStop) (text : List ℕ) (taken : ℕ) → IsEnded answer text taken → taken ≡ length text
+    → IsHeaded answer text []
+ended-in (Ok b) text taken h size = λ m f. ended-by b text taken m f size h
+ended-in (Err (watched.Bad fault)) text taken h size = inr h
+ended-in (Err watched.ReadFault) text taken h size = tt
+ended-in (Err watched.TooLong) text taken h size = absurd h
+ended-in (Err watched.TooMany) text taken h size = h
+ended-in (Err watched.WriteFault) text taken h size = h
+ended-in (Err watched.Memory) text taken h size = tt
+
+-- the header of a text that was read to its end
+pub headed-end : (answer : Result Begun ScopeStop) (fed text left : List ℕ) (taken : ℕ) → IsEnded answer fed taken
+    → text ≡ fed → left ≡ [] → taken ≡ length fed → IsHeaded answer text left
+headed-end answer fed text left taken h e none size =
+    subst (λ x. IsHeaded answer x left) (sym e) (subst (λ x. IsHeaded answer fed x) (sym none)
+    (ended-in answer fed taken h size))
+
+begun-by : (b : Begun) (head rest text left : List ℕ) (taken : ℕ) (m : ValueRules) → FitsRules m any_header
+    → text ≡ head ++ (rest ++ left) → taken + length left ≡ length text → HasBegun b head rest taken
+    → BeginsBy m b text left
+begun-by b head rest text left taken m f e size h = record {
+  tokens = tokens_so_far head;
+  stands = record {
+    header = h.header m f;
+    head = head;
+    cutter = h.cutter;
+    place = inl (record { tokens = refl; whole = e ∙ ap (λ x. head ++ (x ++ left)) (sym h.rest) });
+    taken = ap (λ n. n + length left) h.taken ∙ size;
+  };
+  shows = h.shows m f;
+}
+
+-- the header of a text that goes on behind it
+pub headed-inside : (answer : Result Begun ScopeStop) (head rest text left : List ℕ) (taken : ℕ)
+    → IsBegunWith answer head rest taken → text ≡ head ++ (rest ++ left) → taken + length left ≡ length text
+    → IsHeaded answer text left
+headed-inside (Ok b) head rest text left taken h e size =
+    λ m f. begun-by b head rest text left taken m f e size h
+headed-inside (Err watched.Memory) head rest text left taken h e size = tt
+headed-inside (Err (watched.Bad fault)) head rest text left taken h e size = absurd h
+headed-inside (Err watched.ReadFault) head rest text left taken h e size = tt
+headed-inside (Err watched.TooLong) head rest text left taken h e size = absurd h
+headed-inside (Err watched.TooMany) head rest text left taken h e size = h
+headed-inside (Err watched.WriteFault) head rest text left taken h e size = h
+
+-- a fault that a piece shows
+pub headed-fault : (fed piece text left : List ℕ) (fault : VcdFault) → ShowsFault (fed ++ piece) fault
+    → text ≡ (fed ++ piece) ++ left → IsHeaderFault text fault
+headed-fault fed piece text left fault h e = inl (record {
+  some = h.some;
+  more = h.more ++ left;
+  whole = e ∙ ap (λ x. x ++ left) h.whole ∙ append_assoc h.some h.more left;
+  first = h.first;
+})
+
+-- one more piece of a source
+pub piece-taken : (text fed old piece new : List ℕ) → text ≡ fed ++ old → old ≡ piece ++ new → text ≡ (fed ++ piece) ++ new
+piece-taken text fed old piece new e f = e ∙ ap (λ x. fed ++ x) f ∙ sym (append_assoc fed piece new)
+
+-- a piece that is cut in two
+pub piece-cut : (room : List ℕ) (count used : ℕ) → used ≤ count
+    → take count room ≡ take used (take count room) ++ take (count - used) (drop used room)
+piece-cut room count used few =
+    let sum : count ≡ used + (count - used) = omega (arith, few) in
+    sym (take-append-drop used (take count room))
+    ∙ ap (λ x. take used (take count room) ++ x)
+    (ap (λ n. drop used (take n room)) sum ∙ drop-take used (count - used) room)

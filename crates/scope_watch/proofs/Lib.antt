@@ -1,2 +1,6 @@
 mod Headers
 mod Wiring
+mod Steps
+mod Texts
+mod Picks
+mod Stopping

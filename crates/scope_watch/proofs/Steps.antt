@@ -1,5 +1,5 @@
 -- One more piece of the values.
-use Rattle.std.proofs.Common.{◌≡◌, ℕ, ◌⊎◌, inl, inr, List, [], ◌∷◌, ◌++◌, length, Option, Some, None, Result, Ok, Err}
+use Rattle.std.proofs.Common.{◌≡◌, ℕ, true, false, ◌⊎◌, inl, inr, List, [], ◌∷◌, ◌++◌, length, Option, Some, None, Result, Ok, Err}
 use Rattle.std.proofs.Common.{refl, sym, ap, subst, ◌∙◌, append_assoc, append-nil}
 use Rattle.vcd_grammar.specs.declared.fault.VcdFault.{VcdFault}
 use Rattle.vcd_way.specs.Ways.{ValueRules}
@@ -10,7 +10,13 @@ use Rattle.vcd_scan.specs.declared.stop.ScanStop.TheVariants as scans
 use Rattle.vcd_scan.specs.Wired.{Wiring}
 use Rattle.vcd_scan.specs.Standing.{Stands, Keeps, Answers, Appends, AppendsBy, refusal_of, refusal_in, rules_of, wiring_of, events_of}
 use Rattle.vcd_scan.specs.Standing.{tokens_after, last_tokens_after, known_after, told_after, all_told_after, fault_behind}
-use Rattle.scope_watch.specs.Watching.{Seen, ShowsFaultBehind, Refuses, EndsWell, EndsBadly}
+use Rattle.vcd_course.specs.declared.course.Course.{Course}
+use Rattle.vcd_course.specs.declared.course.CourseRules.{CourseRules}
+use Rattle.vcd_course.specs.Told.{rules_of as course_rules_of, late_of}
+use Rattle.vcd_scan.specs.Told.{values_by}
+use Rattle.vcd_joined.specs.Choosing.{of_values}
+use Rattle.scope_watch.specs.declared.values.Sampling.{Sampling}
+use Rattle.scope_watch.specs.Watching.{rules_for, Seen, ShowsFaultBehind, Refuses, EndsWell, EndsBadly}
 
 -- a reader that answers Ok had not refused
 pub not-refused : (o : Option ScanStop) (result : Result Unit ScanStop) → result ≡ Ok tt
@@ -124,7 +130,7 @@ seen-fault before after m w old new head fed piece fault result s k stands refus
 -- at the end of a text
 pub ends-well : (before after : List DumpEvent → Type 0) (m : ValueRules) (w : Wiring) (old : ValueReader)
     (head fed : List ℕ) → Seen before m w old head fed
-    → Answers (Ok tt) (fault_behind (rules_of old) (wiring_of old) (last_tokens_after head fed) (length (head ++ fed)))
+    → fault_behind (rules_of old) (wiring_of old) (last_tokens_after head fed) (length (head ++ fed)) ≡ None
     → after (all_told_after m w (last_tokens_after head fed)) → EndsWell after m w head fed
 ends-well before after m w old head fed s answer shown = record {
   none = (λ i. fault_behind (sym s.rules i) (sym s.wiring i) (last_tokens_after head fed) (length (head ++ fed))) ∙ answer;
@@ -145,3 +151,29 @@ ends-badly before m w old head fed fault result s answer e again = by (refusal_o
     by (Some scans.Memory) o r = absurd r
     by (Some (scans.Bad seen)) o r =
         inl (subst (λ x. Refuses m w head fed (Some x)) (same-stop result _ _ (again (scans.Bad seen) o) e) r)
+
+-- ---- before the first byte
+
+-- the rules of a reader by these rules
+pub rules-same : (s : Sampling) (c : Course) (rules : CourseRules) → course_rules_of c ≡ rules → rules.edge ≡ s.edge
+    → rules.takes_first ≡ s.takes_first → late_of c ≡ s.late.items
+    → values_by (record { has_wide_digits = true; takes_any = true; tells_holes = true; ends_early = false }) c
+    ≡ of_values (rules_for s)
+rules-same s c rules e f g h = (λ i. record (of_values (rules_for s)) {
+  edge = (ap (λ (x : CourseRules). x.edge) e ∙ f) i;
+  takes_first = (ap (λ (x : CourseRules). x.takes_first) e ∙ g) i;
+  late = h i;
+})
+
+-- a reader before the first byte behind a header has told nothing
+pub seen-first : (seen : List DumpEvent → Type 0) (m : ValueRules) (w : Wiring) (r : ValueReader) (head : List ℕ)
+    → rules_of r ≡ m → wiring_of r ≡ w → Stands r head [] → refusal_of r ≡ None → events_of r ≡ [] → seen []
+    → Seen seen m w r head []
+seen-first seen m w r head rules wiring stands fresh events shown = record {
+  rules = rules;
+  wiring = wiring;
+  stands = stands;
+  taken = λ none. events;
+  shown = λ none. shown;
+  refused = subst (λ x. Refuses m w head [] x) (sym fresh) tt;
+}

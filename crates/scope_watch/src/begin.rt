@@ -68,7 +68,7 @@ fn read_left<S: Source>(
     'pieces: loop {
         let count = read_piece(source, taken, room)?;
         if count == 0 {
-            return at_end(alloc, reader, taken);
+            return at_end(alloc, &mut reader, taken);
         }
         taken += count as u64;
         match feed(&mut reader, &room[..count]) {
@@ -109,18 +109,17 @@ fn inside(
 }
 
 /// The header of a text of so many bytes that ends before its header is over, or with it.
-fn at_end(alloc: Global, reader: HeaderReader, taken: u64) -> Result<Begun, ScopeStop>
-    requires { (fed : List ℕ) × Opens reader fed × (length fed ≤ taken) × (taken ≤ 2 ^ 40) }
+fn at_end(alloc: Global, reader: &mut HeaderReader, taken: u64) -> Result<Begun, ScopeStop>
+    requires { (fed : List ℕ) × Opens reader.old fed × (length fed ≤ taken) × (taken ≤ 2 ^ 40) }
     ensures ready { IfOk result (λ begun. IsReady begun.behind) }
-    ensures ended { (fed : List ℕ) → Opens reader fed → IsEnded result fed taken }
+    ensures ended { (fed : List ℕ) → Opens reader.old fed → IsEnded result fed taken }
 {
-    let mut reader = reader;
     match reader.finish() {
         Ok(()) => {}
         Err(HeaderStop::Memory) => return Err(ScopeStop::Memory),
         Err(HeaderStop::Bad(fault)) => return Err(ScopeStop::Bad(fault)),
     }
-    let header = header_of(alloc, &reader)?;
+    let header = header_of(alloc, reader)?;
     let cutter = Cutter::new(alloc)?;
     Ok(Begun {
         header,

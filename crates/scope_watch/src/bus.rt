@@ -1,10 +1,10 @@
 //! The wires that are picked of a header, as a reader of values takes them.
-ghost use Rattle.std.specs.Prelude.{◌≡◌, map, List, IfOk};
-ghost use Rattle.std.specs.List.{filter_map};
+ghost use Rattle.std.specs.Prelude.{◌≡◌, map, option_map, List, IfOk};
+ghost use Rattle.vcd_scan.specs.Wired.{wires_told};
 ghost use Rattle.fsb_signal.specs.declared.marks.Marks.{Marks};
 ghost use Rattle.vcd_grammar.specs.Judging.{marks_of_lines};
 ghost use Rattle.scope_way.specs.Wired.{AreLawfulWires, wired_lines};
-ghost use Rattle.scope_watch.specs.Buses.{codes_of, taps_at, tap_at, HasWires, IsPicked};
+ghost use Rattle.scope_watch.specs.Buses.{codes_of, coded, taps_at, tap_at, tap_if, IsPicked};
 
 use fsb_signal::Marks;
 use scope_pick::Variable;
@@ -51,7 +51,9 @@ pub fn pick_bus(
 /// The codes of these variables, each with the taps that it stands for.
 fn wires_of(alloc: Global, variables: &[Variable], picked: &[Wire]) -> Result<Wires, AllocError>
     requires { AreLawfulWires picked.now }
-    ensures { IfOk result (HasWires picked.now variables.now) }
+    ensures lines { IfOk result (λ w. (wires_told w).lines ≡ wired_lines picked.now) }
+    ensures codes { IfOk result (λ w.
+        (wires_told w).codes ≡ map (coded picked.now variables.now) (codes_of variables.now)) }
 {
     let lines = lines_of(alloc, picked)?;
     let mut wires = Wires::new(alloc, lines);
@@ -65,6 +67,7 @@ fn wires_of(alloc: Global, variables: &[Variable], picked: &[Wire]) -> Result<Wi
 }
 
 /// The lines that have wires.
+#[tactic(auto, unfolding(scope_way::specs::Wired::wired_lines))]
 fn lines_of(alloc: Global, picked: &[Wire]) -> Result<Vec<u8>, AllocError>
     ensures { IfOk result (λ lines. lines.items ≡ wired_lines picked.now) }
 {
@@ -78,7 +81,7 @@ fn taps_of(
     picked: &[Wire],
     code: &[u8],
 ) -> Result<Vec<Tap>, AllocError>
-    ensures { IfOk result (λ taps. taps.items ≡ taps_at (codes_of variables.now) code.now picked.now) }
+    ensures { IfOk result (λ taps. taps.items ≡ taps_at variables.now code.now picked.now) }
 {
     picked
         .iter()
@@ -87,14 +90,23 @@ fn taps_of(
 }
 
 /// The tap of a wire, if its variable has the code.
+#[tactic(auto, unfolding(crate::specs::Buses::tap_at))]
 fn tap_of(variables: &[Variable], code: &[u8], wire: &Wire) -> Option<Tap>
-    ensures { result ≡ tap_at (codes_of variables.now) code.now wire.now }
+    ensures { result ≡ tap_at variables.now code.now wire.now }
 {
-    match variables.get(wire.index) {
+    tap_if(code, wire.tap, variables.get(wire.index))
+}
+
+/// The tap, if the variable has the code.
+#[tactic(auto, unfolding(crate::specs::Buses::tap_if))]
+fn tap_if(code: &[u8], tap: Tap, variable: Option<&Variable>) -> Option<Tap>
+    ensures { result ≡ tap_if code.now tap (option_map (λ v. v.now) variable.entry) }
+{
+    match variable {
         None => None,
         Some(variable) => {
             if code == variable.code.as_slice() {
-                Some(wire.tap)
+                Some(tap)
             } else {
                 None
             }

@@ -21,6 +21,7 @@ mod bus;
 mod check;
 mod feed;
 mod header;
+mod laws;
 mod parts;
 mod piece;
 mod stop;

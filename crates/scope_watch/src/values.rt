@@ -14,6 +14,7 @@ ghost use Rattle.scope_watch.specs.Heading.{IsReady, StandsBehind};
 ghost use Rattle.scope_watch.specs.Watching.{IsWatched, Seen, Finishes, IsStopOfWatching, IsStopOfEnd, rules_for};
 
 use crate::header::Behind;
+use crate::laws::faults_stay;
 use crate::piece::read_piece;
 use crate::stop::{ScopeStop, WatchStop};
 use crate::watcher::EventWatcher;
@@ -74,6 +75,7 @@ pub fn watch_values<S: Source, W: EventWatcher>(
 {
     texts_end_as_the_readers_say();
     headers_may_be_all();
+    faults_stay();
     let rules = CourseRules {
         edge: sampling.edge,
         takes_first: sampling.takes_first,
@@ -81,26 +83,26 @@ pub fn watch_values<S: Source, W: EventWatcher>(
     let course = Course::new(rules, sampling.late);
     let mut reader = ValueReader::new(alloc, VALUE_RULES, wires, behind.cutter, course);
     take(&mut reader, &behind.rest, watcher)?;
-    watch_left(source, room, reader, behind.taken, watcher)
+    watch_left(source, room, &mut reader, behind.taken, watcher)
 }
 
 /// Reads what is left of the source, of which so many bytes were taken before.
 fn watch_left<S: Source, W: EventWatcher>(
     source: &mut S,
     room: &mut [u8],
-    reader: ValueReader,
+    reader: &mut ValueReader,
     taken: u64,
     watcher: &mut W,
 ) -> Result<(), ScopeStop>
     requires some { 0 < length room.old }
     requires at { (first : W) × (h : List DumpEvent) × (m : ValueRules) × (w : Wiring)
         × (head fed : List ℕ)
-        × Seen (λ es. W.has_seen first watcher.old (h ++ es)) m w reader head fed
+        × Seen (λ es. W.has_seen first watcher.old (h ++ es)) m w reader.old head fed
         × (length (head ++ fed) ≤ taken) × (taken ≤ 2 ^ 40) }
     ensures len { length room.new ≡ length room.old }
     ensures read { IsTrue S.tells → (first : W) (h : List DumpEvent) (m : ValueRules) (w : Wiring)
         (head fed : List ℕ) →
-        Seen (λ es. W.has_seen first watcher.old (h ++ es)) m w reader head fed →
+        Seen (λ es. W.has_seen first watcher.old (h ++ es)) m w reader.old head fed →
         Finishes result (λ es. W.has_seen first watcher.new (h ++ es)) m w head
         (fed ++ S.left source.old) }
     ensures too_long { IsTrue S.tells → result ≡ Err ScopeStop.TooLong →
@@ -111,7 +113,6 @@ fn watch_left<S: Source, W: EventWatcher>(
     ensures name_stays { IsTrue S.tells → S.begun_as source.new ≡ S.begun_as source.old }
     ensures holds_stays { IsTrue S.tells → S.holds source.new ≡ S.holds source.old }
 {
-    let mut reader = reader;
     let mut all = taken;
     'pieces: loop {
         let count = read_piece(source, all, room)?;
@@ -119,7 +120,7 @@ fn watch_left<S: Source, W: EventWatcher>(
             return end(reader, watcher);
         }
         all += count as u64;
-        take(&mut reader, &room[..count], watcher)?;
+        take(reader, &room[..count], watcher)?;
     }
 }
 
@@ -148,20 +149,19 @@ fn take<W: EventWatcher>(
 }
 
 /// Reads the end, and shows the last events.
-fn end<W: EventWatcher>(reader: ValueReader, watcher: &mut W) -> Result<(), ScopeStop>
+fn end<W: EventWatcher>(reader: &mut ValueReader, watcher: &mut W) -> Result<(), ScopeStop>
     requires { (first : W) × (h : List DumpEvent) × (m : ValueRules) × (w : Wiring)
         × (head fed : List ℕ)
-        × Seen (λ es. W.has_seen first watcher.old (h ++ es)) m w reader head fed
+        × Seen (λ es. W.has_seen first watcher.old (h ++ es)) m w reader.old head fed
         × (length (head ++ fed) + 1 < 2 ^ 64) }
     ensures finishes { (first : W) (h : List DumpEvent) (m : ValueRules) (w : Wiring)
         (head fed : List ℕ) →
-        Seen (λ es. W.has_seen first watcher.old (h ++ es)) m w reader head fed →
+        Seen (λ es. W.has_seen first watcher.old (h ++ es)) m w reader.old head fed →
         Finishes result (λ es. W.has_seen first watcher.new (h ++ es)) m w head fed }
     ensures stop { (stop : ScopeStop) → result ≡ Err stop → IsStopOfEnd stop }
 {
-    let mut reader = reader;
     match reader.finish() {
-        Ok(()) => Ok(show(&mut reader, watcher)?),
+        Ok(()) => Ok(show(reader, watcher)?),
         Err(ScanStop::Memory) => Err(ScopeStop::Memory),
         Err(ScanStop::Bad(fault)) => Err(ScopeStop::Bad(fault)),
     }
