@@ -7,6 +7,8 @@ use Rattle.vcd_way.specs.declared.tap.Tap.{Tap}
 use Rattle.vcd_way.specs.Lawful.{is_line, is_lawful_tap}
 use Rattle.scope_wiring.specs.declared.wire.Wire.{Wire}
 use Rattle.scope_pick.specs.declared.variable.Variable.{Variable}
+use Rattle.vcd_grammar.specs.Judging.{is_declared}
+use Rattle.scope_wiring.specs.Wirings.{is_wired}
 use Rattle.scope_way.specs.Wired.{wired_lines, AreLawfulWires}
 use Rattle.scope_watch.specs.Buses.{tap_if, tap_at, taps_at}
 
@@ -42,3 +44,9 @@ lawful-lines [] k = refl
 lawful-lines (w ∷ ws) k =
     let parts = and_parts (is_lawful_tap w.tap) (list_all (λ (v : Wire). is_lawful_tap v.tap) ws) k in
     and_from _ _ (and_parts _ _ parts.0).0 (lawful-lines ws parts.1)
+
+-- a line is wired where it is among the lines of wires
+pub lines-wired : (ws : List Wire) (line : ℕ) → is_wired ws line ≡ is_declared (wired_lines ws) line
+unfolding is_wired wired_lines
+lines-wired [] line = refl
+lines-wired (w ∷ ws) line = ap (λ b. nat_eq w.tap.line line || b) (lines-wired ws line)
