@@ -37,7 +37,11 @@ static TEXTS: [(&'static str, &'static str, Found); 10] = [
         "$enddefinitions $end ",
         Found::Bad(0, VcdCause::Header),
     ),
-    (HEADER, "\n#4 0a #5 1a #3 0a ", Found::Bad(513, VcdCause::TimeBack)),
+    (
+        HEADER,
+        "\n#4 0a #5 1a #3 0a ",
+        Found::Bad(513, VcdCause::TimeBack),
+    ),
     (HEADER, "\n#4 1y ", Found::Bad(504, VcdCause::Code)),
 ];
 

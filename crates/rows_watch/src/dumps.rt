@@ -79,5 +79,12 @@ pub(crate) fn checked(
         lines: Vec::new(alloc),
         without: Vec::new(alloc),
     };
-    check_dump(alloc, "a.vcd", &mut source, &mut room, &choice, rising(alloc))
+    check_dump(
+        alloc,
+        "a.vcd",
+        &mut source,
+        &mut room,
+        &choice,
+        rising(alloc),
+    )
 }

@@ -71,7 +71,11 @@ fn counted(alloc: Global, text: &[u8], size: usize, left: u32) -> Result<Counter
 #[test]
 fn each_event_is_shown_once(rt: HostRuntime) {
     let alloc = rt.alloc();
-    let parts = [HEADER, QUIET, "$dumpoff xa $end #40 $dumpon 0a $end #45 1a #50 "];
+    let parts = [
+        HEADER,
+        QUIET,
+        "$dumpoff xa $end #40 $dumpon 0a $end #45 1a #50 ",
+    ];
     let text = joined(alloc, &parts).ok().expect(&rt, "memory");
     for size in [1, 4096] {
         let counter = counted(alloc, &text, size, 100).ok().expect(&rt, "watched");
@@ -95,7 +99,9 @@ fn a_watcher_stops_the_reading(rt: HostRuntime) {
 #[test]
 fn a_source_that_fails_is_told_before_a_fault(rt: HostRuntime) {
     let alloc = rt.alloc();
-    let text = joined(alloc, &[HEADER, "\n#4 1y #5 #6 "]).ok().expect(&rt, "memory");
+    let text = joined(alloc, &[HEADER, "\n#4 1y #5 #6 "])
+        .ok()
+        .expect(&rt, "memory");
     for fails in [0, 1, 2, 3] {
         match checked(alloc, &text, 512, &[fails]) {
             Err(ScopeStop::ReadFault) => {}

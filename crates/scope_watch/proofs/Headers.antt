@@ -1,5 +1,5 @@
 -- The end of a header among the bytes that are read.
-use Rattle.std.proofs.Common.{◌≡◌, ℕ, ◌+◌, ◌-◌, Bool, true, false, ◌||◌, ◌&&◌, ◌==◌, nat_le, if◌then◌else◌, List, [], ◌∷◌, ◌++◌, length, take, drop, get_or, ◌^◌}
+use Rattle.std.proofs.Common.{◌≡◌, ℕ, ◌+◌, ◌-◌, Bool, true, false, ◌||◌, ◌==◌, if◌then◌else◌, List, [], ◌∷◌, ◌++◌, length, take, drop, get_or, ◌^◌}
 use Rattle.std.proofs.Common.{◌⊎◌, inl, inr, Option, Some, None, Result, Ok, Err, refl, sym, ap, subst, ◌∙◌}
 use Rattle.std.proofs.Common.{append-nil, append_assoc, length-append, arith, suc, zero, ◌≤◌, ◌<◌}
 use Rattle.std.proofs.Math.Seq.{take-suc}
@@ -26,7 +26,7 @@ use Rattle.scope_watch.specs.declared.header.Begun.{Begun}
 use Rattle.scope_watch.specs.declared.stop.ScopeStop.{ScopeStop}
 use Rattle.scope_watch.specs.declared.stop.ScopeStop.TheVariants as watched
 use Rattle.scope_watch.specs.Stops.{IsStopOfReading}
-use Rattle.scope_watch.specs.Heading.{any_header, Holds, Opens, Closes, FedByte, Fed, ShowsFault, HasEnded, IsEnded}
+use Rattle.scope_watch.specs.Heading.{any_header, Holds, Opens, FedByte, Fed, ShowsFault, HasEnded, IsEnded}
 use Rattle.scope_watch.specs.Heading.{HasBegun, IsBegunWith, BeginsBy, IsHeaderFault, IsHeaded}
 
 -- ---- one more token

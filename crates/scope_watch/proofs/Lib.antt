@@ -4,3 +4,4 @@ mod Steps
 mod Texts
 mod Picks
 mod Stopping
+mod Checks

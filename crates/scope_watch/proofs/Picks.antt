@@ -1,5 +1,5 @@
 -- The wires that are picked of variables are what is taken of the declarations.
-use Rattle.std.proofs.Common.{◌≡◌, ◌∙◌, ℕ, Bool, true, false, ◌||◌, ◌&&◌, nat_eq, List, [], ◌∷◌, map, Option, Some, None, option_map, slice_get, refl, sym, ap, if◌then◌else◌}
+use Rattle.std.proofs.Common.{◌≡◌, ◌∙◌, ℕ, Bool, true, false, ◌||◌, nat_eq, List, [], ◌∷◌, map, Option, Some, None, option_map, slice_get, refl, sym, ap, if◌then◌else◌}
 use Rattle.std.specs.List.{filter_map, cons_option, list_any}
 use Rattle.std.proofs.lemmas.Bool.{and_parts, and_from, eqb-true, eq-eqb}
 use Rattle.std.proofs.lemmas.Option.{slice_get-map}
@@ -9,7 +9,7 @@ use Rattle.vcd_way.specs.Declarations.{Declaration}
 use Rattle.scope_pick.specs.declared.variable.Variable.{Variable}
 use Rattle.scope_wiring.specs.declared.wire.Wire.{Wire}
 use Rattle.scope_way.specs.Variables.{Shown, shown_by, shown_from}
-use Rattle.scope_way.specs.Wired.{tap_if_coded, tap_by_code, taps_by_code, wired_lines}
+use Rattle.scope_way.specs.Wired.{tap_if_coded, tap_by_code, taps_by_code}
 use Rattle.vcd_scan.specs.declared.wire.Wires.{Wires}
 use Rattle.vcd_scan.specs.Wired.{taps_in, wires_told}
 use Rattle.vcd_joined.specs.Choosing.{IsTaken}
@@ -59,13 +59,13 @@ coded-taps ws vs (c ∷ cs) code =
 
 -- ---- variables and declarations
 
-code-of : Declaration → List ℕ
+abbrev code-of : Declaration → List ℕ
 code-of d = d.code
 
-code-held : Variable → List ℕ
+abbrev code-held : Variable → List ℕ
 code-held v = v.code.items
 
-code-shown : Shown → List ℕ
+abbrev code-shown : Shown → List ℕ
 code-shown s = s.code
 
 codes-by : (vs : List Variable) → map code-shown (map shown_by vs) ≡ map code-held vs
@@ -82,7 +82,7 @@ any-code code [] = refl
 any-code code (d ∷ ds) = ap (λ b. same code d.code || b) (any-code code ds)
 
 -- the tap, if this is the code
-tap-coded : List ℕ → Tap → Option (List ℕ) → Option Tap
+abbrev tap-coded : List ℕ → Tap → Option (List ℕ) → Option Tap
 tap-coded code tap None = None
 tap-coded code tap (Some c) = if same code c then Some tap else None
 

@@ -1,5 +1,5 @@
 -- One more piece of the values.
-use Rattle.std.proofs.Common.{◌≡◌, ℕ, true, false, ◌⊎◌, inl, inr, List, [], ◌∷◌, ◌++◌, length, Option, Some, None, Result, Ok, Err}
+use Rattle.std.proofs.Common.{◌≡◌, ℕ, true, false, inl, inr, List, [], ◌++◌, length, Option, Some, None, Result, Ok, Err}
 use Rattle.std.proofs.Common.{refl, sym, ap, subst, ◌∙◌, append_assoc, append-nil}
 use Rattle.vcd_grammar.specs.declared.fault.VcdFault.{VcdFault}
 use Rattle.vcd_way.specs.Ways.{ValueRules}
@@ -8,7 +8,7 @@ use Rattle.vcd_scan.specs.declared.reader.ValueReader.{ValueReader}
 use Rattle.vcd_scan.specs.declared.stop.ScanStop.{ScanStop}
 use Rattle.vcd_scan.specs.declared.stop.ScanStop.TheVariants as scans
 use Rattle.vcd_scan.specs.Wired.{Wiring}
-use Rattle.vcd_scan.specs.Standing.{Stands, Keeps, Answers, Appends, AppendsBy, refusal_of, refusal_in, rules_of, wiring_of, events_of}
+use Rattle.vcd_scan.specs.Standing.{Stands, Keeps, Answers, Appends, refusal_of, refusal_in, rules_of, wiring_of, events_of}
 use Rattle.vcd_scan.specs.Standing.{tokens_after, last_tokens_after, known_after, told_after, all_told_after, fault_behind}
 use Rattle.vcd_course.specs.declared.course.Course.{Course}
 use Rattle.vcd_course.specs.declared.course.CourseRules.{CourseRules}
@@ -42,7 +42,7 @@ pub more-shown : (m : ValueRules) (w : Wiring) (old mid : ValueReader) (head fed
     ≡ h ++ told_after m w (tokens_after head (fed ++ piece))
 more-shown m w old mid head fed piece h r v e a =
     let same : (fed : List ℕ) → told_after (rules_of old) (wiring_of old) (tokens_after head fed)
-        ≡ told_after m w (tokens_after head fed) = λ fed i. told_after (r i) (v i) (tokens_after head fed) in
+    ≡ told_after m w (tokens_after head fed) = λ fed i. told_after (r i) (v i) (tokens_after head fed) in
     ap (λ x. (h ++ x) ++ events_of mid) (sym (same fed))
     ∙ joined _ _ _ _ h e a
     ∙ ap (λ x. h ++ x) (same (fed ++ piece))
@@ -153,6 +153,10 @@ ends-badly before m w old head fed fault result s answer e again = by (refusal_o
         inl (subst (λ x. Refuses m w head fed (Some x)) (same-stop result _ _ (again (scans.Bad seen) o) e) r)
 
 -- ---- before the first byte
+
+-- when a course samples
+abbrev pub sampled_at : Sampling → CourseRules
+sampled_at s = record { edge = s.edge; takes_first = s.takes_first }
 
 -- the rules of a reader by these rules
 pub rules-same : (s : Sampling) (c : Course) (rules : CourseRules) → course_rules_of c ≡ rules → rules.edge ≡ s.edge

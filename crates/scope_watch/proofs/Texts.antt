@@ -1,8 +1,8 @@
 -- What a reader of values answers is what the whole text tells.
-use Rattle.std.proofs.Common.{◌≡◌, ℕ, Bool, true, false, ◌⊎◌, inl, inr, if◌then◌else◌, List, [], ◌∷◌, ◌++◌, length, Option, Some, None, Result, Ok, Err}
+use Rattle.std.proofs.Common.{◌≡◌, ◌<◌, ◌^◌, ℕ, ◌⊎◌, inl, inr, if◌then◌else◌, List, [], ◌∷◌, ◌++◌, length, Some, None, Result, Ok, Err}
 use Rattle.std.proofs.Common.{refl, sym, ap, subst, ◌∙◌, append_assoc}
 use Rattle.vcd_grammar.specs.declared.fault.VcdFault.{VcdFault}
-use Rattle.vcd_grammar.specs.Tokens.{Token, tokens_so_far, tokens_of, open_run, ended_at}
+use Rattle.vcd_grammar.specs.Tokens.{Token, tokens_of, ended_at}
 use Rattle.vcd_way.specs.Declarations.{Declaration}
 use Rattle.vcd_way.specs.Ways.{ValueRules, Way}
 use Rattle.vcd_way.specs.Events.{DumpEvent}
@@ -17,7 +17,7 @@ use Rattle.scope_watch.specs.declared.stop.ScopeStop.{ScopeStop}
 use Rattle.scope_watch.specs.declared.stop.ScopeStop.TheVariants as stops
 use Rattle.scope_watch.specs.declared.values.Sampling.{Sampling}
 use Rattle.scope_watch.specs.Heading.{StandsBehind, IsInside, IsWhole}
-use Rattle.scope_watch.specs.Watching.{rules_for, ShowsFaultBehind, EndsWell, EndsBadly, Finishes, IsWatched}
+use Rattle.scope_watch.specs.Watching.{rules_for, EndsBadly, Finishes, IsWatched}
 
 -- the laws of vcd_joined and vcd_way that are drawn on
 pub record Laws : Type 0 where
@@ -52,7 +52,7 @@ fault-inside laws c s w head fed fault h (inr e) = laws.fault c (rules_for s) w 
 
 inside : (laws : Laws) (c : Choice) (s : Sampling) (w : Wiring) (head fed : List ℕ) (seen : List DumpEvent → Type 0)
     (result : Result Unit ScopeStop) → IsHeadWith c (rules_for s) w head
-    → (result ≡ Err stops.TooLong → IsWatched result seen (choosing c (rules_for s)) (head ++ fed))
+    → (result ≡ Err stops.TooLong → 2 ^ 40 < length (head ++ fed))
     → Finishes result seen (of_values (rules_for s)) w head fed
     → IsWatched result seen (choosing c (rules_for s)) (head ++ fed)
 inside laws c s w head fed seen (Ok u) h long f = (
@@ -88,7 +88,7 @@ no-bad m w fault (inr e) = no-end m w (last_tokens_after [] []) fault none-last 
 
 whole : (laws : Laws) (c : Choice) (s : Sampling) (w : Wiring) (text : List ℕ) (seen : List DumpEvent → Type 0)
     (result : Result Unit ScopeStop) → IsWholeWith c (rules_for s) w text
-    → (result ≡ Err stops.TooLong → IsWatched result seen (choosing c (rules_for s)) text)
+    → (result ≡ Err stops.TooLong → 2 ^ 40 < length text)
     → Finishes result seen (of_values (rules_for s)) w [] []
     → IsWatched result seen (choosing c (rules_for s)) text
 whole laws c s w text seen (Ok u) h long f = (
@@ -109,7 +109,7 @@ whole laws c s w text seen (Err stops.Memory) h long f = tt
 pub watched : (laws : Laws) (c : Choice) (s : Sampling) (w : Wiring) (b : Behind) (ts : List Token) (text left : List ℕ)
     (seen : List DumpEvent → Type 0) (result : Result Unit ScopeStop)
     → (at : StandsBehind (rules_for s) b ts text left) → IsTaken c (gathered_in (rules_for s) ts).header w
-    → (result ≡ Err stops.TooLong → IsWatched result seen (choosing c (rules_for s)) text)
+    → (result ≡ Err stops.TooLong → 2 ^ 40 < length text)
     → Finishes result seen (of_values (rules_for s)) w at.head (b.rest.items ++ left)
     → IsWatched result seen (choosing c (rules_for s)) text
 watched laws c s w b ts text left seen result at k long f = by at.place
@@ -124,7 +124,7 @@ watched laws c s w b ts text left seen result at k long f = by at.place
         } in
         subst (λ x. IsWatched result seen (choosing c (rules_for s)) x) (sym p.whole)
         (inside laws c s w at.head fed seen result h
-        (λ e. subst (λ x. IsWatched result seen (choosing c (rules_for s)) x) p.whole (long e)) f)
+        (λ e. subst (λ x. 2 ^ 40 < length x) p.whole (long e)) f)
     by (inr p) =
         let h : IsWholeWith c (rules_for s) w text = record {
           header = subst (λ x. IsHeader (rules_for s) x) p.tokens at.header;

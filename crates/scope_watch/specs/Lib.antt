@@ -2,3 +2,4 @@ pub mod Stops
 pub mod Heading
 pub mod Buses
 pub mod Watching
+pub mod Checking

@@ -48,11 +48,7 @@ pub fn read_header<S: Source>(
 }
 
 /// The header of what is left of the source.
-fn read_left<S: Source>(
-    alloc: Global,
-    source: &mut S,
-    room: &mut [u8],
-) -> Result<Begun, ScopeStop>
+fn read_left<S: Source>(alloc: Global, source: &mut S, room: &mut [u8]) -> Result<Begun, ScopeStop>
     requires some { 0 < length room.old }
     ensures ready { IfOk result (λ begun. IsReady begun.behind) }
     ensures read { IsTrue S.tells → IsHeaded result (S.left source.old) (S.left source.new) }
@@ -84,12 +80,7 @@ fn read_left<S: Source>(
 }
 
 /// The header, where these bytes of its piece stand behind it.
-fn inside(
-    alloc: Global,
-    reader: HeaderReader,
-    rest: &[u8],
-    taken: u64,
-) -> Result<Begun, ScopeStop>
+fn inside(alloc: Global, reader: HeaderReader, rest: &[u8], taken: u64) -> Result<Begun, ScopeStop>
     requires { (head : List ℕ) × Closes reader head
         × (length head + length rest.now ≤ taken) × (taken ≤ 2 ^ 40) }
     ensures ready { IfOk result (λ begun. IsReady begun.behind) }

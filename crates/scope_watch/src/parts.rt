@@ -35,10 +35,7 @@ pub(crate) fn variables_of(
 }
 
 /// The same sections.
-pub(crate) fn sections_of(
-    alloc: Global,
-    sections: &[Section],
-) -> Result<Vec<Section>, AllocError>
+pub(crate) fn sections_of(alloc: Global, sections: &[Section]) -> Result<Vec<Section>, AllocError>
     ensures { IfOk result (λ v. sections_told v.items ≡ sections_told sections.now) }
 {
     let mut copies = Vec::new(alloc);

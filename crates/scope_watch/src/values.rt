@@ -21,8 +21,8 @@ use crate::watcher::EventWatcher;
 use fsb_io::Source;
 use std::alloc::Global;
 use vcd_course::{Course, CourseEvent, CourseRules};
-use vcd_scan::{ScanRules, ScanStop, ValueReader, Wires};
 use vcd_joined::{headers_may_be_all, texts_end_as_the_readers_say};
+use vcd_scan::{ScanRules, ScanStop, ValueReader, Wires};
 use vcd_way::Edge;
 
 /// What is let pass among the values of any tool's dump. A text that ends early is refused.

@@ -1,4 +1,4 @@
-use Rattle.std.proofs.Common.{rules, append_assoc, ◌≡◌, ◌≤◌, ◌-◌, ◌+◌, ◌++◌, Ok, Err, Some, None, take, drop, length, length-append, refl, sym, ap, subst, ◌∙◌, arith}
+use Rattle.std.proofs.Common.{rules, append_assoc, ◌≡◌, ◌≤◌, ◌-◌, ◌+◌, ◌++◌, Ok, Err, take, drop, length, length-append, refl, sym, ap, subst, ◌∙◌, arith}
 use Rattle.std.proofs.lemmas.List.{length-take, append-nil}
 use Rattle.scope_watch.specs.Heading.{Fed}
 use Rattle.scope_watch.proofs.Headers.{headed-stop, long-text, headed-end, headed-inside, headed-fault, piece-taken, piece-cut}
@@ -51,7 +51,7 @@ inside-requires g c =
     let room = c.read_piece.new.room in
     let piece = take count room in
     let fed = subst (λ x. Fed (Ok x) c.feed.new.reader at.0 piece) c.in-Ok-Some.field-0-is
-        (c.in-Ok-Some.ensures at.0 at.1) in (
+    (c.in-Ok-Some.ensures at.0 at.1) in (
       at.0 ++ take used piece,
       fed.1,
       (let size = length-append at.0 (take used piece) in
@@ -73,16 +73,16 @@ returns-in-Ok-Some-clause-read g c = λ tells.
     let rest = take (count - used) (drop used room) in
     let left = g.S.Source.left c.read_piece.new.source in
     let fed = subst (λ x. Fed (Ok x) c.feed.new.reader at.0 piece) c.in-Ok-Some.field-0-is
-        (c.in-Ok-Some.ensures at.0 at.1) in
+    (c.in-Ok-Some.ensures at.0 at.1) in
     let part = length-take count room in
     let few : used ≤ count = omega (arith, fed.0, part) in
     let whole = piece-taken _ at.0 _ piece left (at.3 tells) (now.bytes tells) in
     let cut = whole ∙ ap (λ x. (at.0 ++ x) ++ left) (piece-cut room count used few) in
     let size : c.pieces.taken + count + length left ≡ length (g.S.Source.left c.args.source.now) =
-        (let sum = ap length whole in
-        let one = length-append (at.0 ++ piece) left in
-        let two = length-append at.0 piece in
-        omega (arith, sum, one, two, part, at.2, now.within, now.len)) in
+    (let sum = ap length whole in
+    let one = length-append (at.0 ++ piece) left in
+    let two = length-append at.0 piece in
+    omega (arith, sum, one, two, part, at.2, now.within, now.len)) in
     headed-inside c.inside.result (at.0 ++ take used piece) rest _ left _
     (c.inside.ensures.begun (at.0 ++ take used piece) fed.1)
     (cut ∙ ap (λ x. x ++ left) (sym (append_assoc at.0 (take used piece) rest))

@@ -1,4 +1,4 @@
-use Rattle.std.proofs.Common.{◌++◌, Err, refl, ap, subst, ◌∙◌}
+use Rattle.std.proofs.Common.{◌++◌, Err, refl, ap, subst}
 use Rattle.vcd_scan.specs.Standing.{tokens_after, told_after}
 use Rattle.scope_watch.proofs.Steps.{not-refused, last-shown, ends-well, ends-badly}
 use Rattle.scope_watch.proofs.values.end.Goals as goal

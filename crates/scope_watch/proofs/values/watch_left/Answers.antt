@@ -1,4 +1,4 @@
-use Rattle.std.proofs.Common.{rules, append_assoc, append-nil, ◌≡◌, ◌≤◌, ◌-◌, ◌+◌, ◌++◌, [], Err, take, length, length-append, refl, sym, ap, subst, ◌∙◌, arith}
+use Rattle.std.proofs.Common.{rules, append_assoc, append-nil, ◌≡◌, ◌++◌, [], Err, take, length, length-append, refl, sym, ap, subst, ◌∙◌, arith}
 use Rattle.std.proofs.lemmas.List.{length-take}
 use Rattle.scope_watch.specs.declared.stop.ScopeStop.TheVariants as stops
 use Rattle.scope_watch.specs.Watching.{Seen, Finishes}
@@ -60,7 +60,7 @@ returns-then-count-eq0-clause-read g c = λ tells first h m w head fed s.
     let zero : c.in_ok-count.count ≡ 0 = omega (arith, c.if-count-eq0.true) in
     let none = c.in_ok-count.ensures.end tells zero in
     let all = at.2 tells ∙ ap (λ x. at.0 ++ x) (c.in_ok-count.ensures.bytes tells
-        ∙ (λ i. take (zero i) c.read_piece.new.room ++ none i)) ∙ append-nil at.0 in
+    ∙ (λ i. take (zero i) c.read_piece.new.room ++ none i)) ∙ append-nil at.0 in
     subst (λ x. Finishes c.end.result (λ es. g.W.EventWatcher.has_seen first c.end.new.watcher (h ++ es)) m w head
     (fed ++ x)) (sym all) (c.end.ensures.finishes first h m w head (fed ++ at.0) (at.3 first h m w head fed s))
 

@@ -1,9 +1,9 @@
-use Rattle.std.proofs.Common.{rules, List, append-nil, ◌≡◌, ◌++◌, [], Err, length-append, refl, sym, ap, subst, ◌∙◌, arith}
+use Rattle.std.proofs.Common.{rules, List, append-nil, ◌≡◌, ◌++◌, [], Err, length-append, refl, sym, subst, ◌∙◌, arith}
 use Rattle.vcd_way.specs.Events.{DumpEvent}
 use Rattle.vcd_scan.specs.Wired.{wires_told}
 use Rattle.vcd_joined.specs.Choosing.{of_values}
-use Rattle.scope_watch.specs.Watching.{rules_for, IsWatched}
-use Rattle.scope_watch.proofs.Steps.{rules-same, seen-first}
+use Rattle.scope_watch.specs.Watching.{rules_for, Seen}
+use Rattle.scope_watch.proofs.Steps.{sampled_at, rules-same, seen-first}
 use Rattle.scope_watch.proofs.Stopping.{watched-stop, not-fault}
 use Rattle.scope_watch.proofs.Texts.{Laws, watched}
 use Rattle.scope_watch.proofs.values.watch_values.Goals as goal
@@ -21,7 +21,7 @@ take-requires g c =
       b.head,
       [],
       seen-first seen _ _ c.new-reader.result b.head
-          (now.rules ∙ rules-same c.args.sampling _ _ c.new-course.ensures.rules refl refl c.new-course.ensures.late)
+          (now.rules ∙ rules-same c.args.sampling c.new-course.result (sampled_at c.args.sampling) c.new-course.ensures.rules refl refl c.new-course.ensures.late)
           now.wiring (now.stands b.head b.cutter) now.fresh now.events (subst (λ x. g.W.EventWatcher.has_seen r.0 c.args.watcher.now x)
           (sym (append-nil r.1)) r.2),
       (let size = length-append b.head [] in
@@ -41,14 +41,14 @@ watch_left-requires-clause-at g c =
       m,
       w,
       b.head,
-      c.args.behind.rest.items,
+      c.deref.result.now,
       c.in_ok-take.ensures.seen r.0 r.1 m w b.head []
           (seen-first seen _ _ c.new-reader.result b.head
-          (now.rules ∙ rules-same c.args.sampling _ _ c.new-course.ensures.rules refl refl c.new-course.ensures.late)
+          (now.rules ∙ rules-same c.args.sampling c.new-course.result (sampled_at c.args.sampling) c.new-course.ensures.rules refl refl c.new-course.ensures.late)
           now.wiring (now.stands b.head b.cutter) now.fresh now.events
           (subst (λ x. g.W.EventWatcher.has_seen r.0 c.args.watcher.now x) (sym (append-nil r.1)) r.2)),
-      (let size = length-append b.head c.args.behind.rest.items in
-          omega (arith, size, b.few)),
+      (let size = length-append b.head c.deref.result.now in
+          omega (arith, size, b.few, c.deref.ensures.len)),
       b.limit,
     )
 
@@ -73,14 +73,14 @@ returns-clause-read g c = λ tells first h choice ts text has at taken.
       stays = c.faults_stay.ensures;
     } in
     watched laws choice c.args.sampling w c.args.behind ts text left _ c.watch_left.result at taken
-    (λ e. subst (λ x. IsWatched x _ _ text) (sym e) (let long = c.watch_left.ensures.too_long tells e in
-    omega (arith, long, at.taken)))
+    (λ e. let long = c.watch_left.ensures.too_long tells e in omega (arith, long, at.taken))
     (c.watch_left.ensures.read tells first h m w at.head c.args.behind.rest.items
-    (c.in_ok-take.ensures.seen first h m w at.head []
+    (subst (λ x. Seen (λ es. g.W.EventWatcher.has_seen first c.take.new.watcher (h ++ es)) m w c.take.new.reader at.head x)
+    c.deref.ensures.value (c.in_ok-take.ensures.seen first h m w at.head []
     (seen-first before _ _ c.new-reader.result at.head
-    (now.rules ∙ rules-same c.args.sampling _ _ c.new-course.ensures.rules refl refl c.new-course.ensures.late)
+    (now.rules ∙ rules-same c.args.sampling c.new-course.result (sampled_at c.args.sampling) c.new-course.ensures.rules refl refl c.new-course.ensures.late)
     now.wiring (now.stands at.head at.cutter) now.fresh now.events
-    (subst (λ x. g.W.EventWatcher.has_seen first c.args.watcher.now x) (sym (append-nil h)) has))))
+    (subst (λ x. g.W.EventWatcher.has_seen first c.args.watcher.now x) (sym (append-nil h)) has)))))
 
 pub returns-in_err-take-clause-read_fault : goal.returns-in_err-take-clause-read_fault
 returns-in_err-take-clause-read_fault g c = λ e.
