@@ -1,7 +1,7 @@
 -- What is found of a dump, from what was read of it.
-use Rattle.std.proofs.Common.{◌≡◌, ℕ, ◌⊎◌, inl, inr, List, [], ◌++◌, length, Result, Ok, Err, refl, sym, ap, subst, ◌∙◌, append_assoc, append-nil}
+use Rattle.std.proofs.Common.{◌≡◌, ℕ, ◌⊎◌, inl, inr, List, [], ◌++◌, length, Result, Err, sym, ap, subst, ◌∙◌, append_assoc, append-nil}
 use Rattle.fsb_signal.specs.declared.marks.Marks.{Marks}
-use Rattle.vcd_grammar.specs.Tokens.{Token, tokens_so_far, tokens_of, tokens_from, open_run, ended_at}
+use Rattle.vcd_grammar.specs.Tokens.{tokens_so_far, tokens_from, open_run, ended_at}
 use Rattle.vcd_way.specs.Declarations.{Declaration}
 use Rattle.vcd_way.specs.Ways.{ValueRules, Way}
 use Rattle.vcd_way.specs.Events.{DumpEvent}
@@ -15,7 +15,6 @@ use Rattle.scope_watch.specs.declared.header.Begun.{Begun}
 use Rattle.scope_watch.specs.declared.stop.ScopeStop.{ScopeStop}
 use Rattle.scope_watch.specs.declared.stop.ScopeStop.TheVariants as stops
 use Rattle.scope_watch.specs.declared.values.Sampling.{Sampling}
-use Rattle.scope_watch.specs.declared.check.Checked.{Checked}
 use Rattle.vcd_scan.specs.Wired.{wires_told}
 use Rattle.vcd_joined.specs.Behind.{gathered_in}
 use Rattle.vcd_joined.specs.Choosing.{IsTaken}
@@ -23,7 +22,7 @@ use Rattle.vcd_joined.specs.Picking.{picking}
 use Rattle.scope_watch.specs.declared.bus.Bus.{Bus}
 use Rattle.scope_watch.specs.Buses.{IsBus}
 use Rattle.scope_watch.proofs.Picks.{taken}
-use Rattle.scope_watch.specs.Heading.{IsInside, IsWhole, StandsBehind, BeginsBy, IsHeaded}
+use Rattle.scope_watch.specs.Heading.{IsInside, IsWhole, BeginsBy, IsHeaded}
 use Rattle.scope_watch.specs.Watching.{rules_for, IsWatched}
 use Rattle.scope_watch.specs.Checking.{IsJudgedAs, Declares, IsWiredBy, IsChecked}
 

@@ -27,7 +27,7 @@ use Rattle.scope_watch.specs.declared.stop.ScopeStop.{ScopeStop}
 use Rattle.scope_watch.specs.declared.stop.ScopeStop.TheVariants as watched
 use Rattle.scope_watch.specs.Stops.{IsStopOfReading}
 use Rattle.scope_watch.specs.Heading.{any_header, Holds, Opens, FedByte, Fed, ShowsFault, HasEnded, IsEnded}
-use Rattle.scope_watch.specs.Heading.{HasBegun, IsBegunWith, BeginsBy, IsHeaderFault, IsHeaded}
+use Rattle.scope_watch.specs.Heading.{HasBegun, IsBegunWith, BeginsBy, ShowsInHeader, IsReadUp}
 
 -- ---- one more token
 
@@ -203,7 +203,7 @@ byte-fault (stops.Bad fault) r fed piece at b d less same h =
 
 -- a stop of a source
 pub headed-stop : (stop : ScopeStop) (text left : List ℕ) → IsStopOfReading stop
-    → (stop ≡ watched.TooLong → 2 ^ 40 < length text) → IsHeaded (Err stop) text left
+    → (stop ≡ watched.TooLong → 2 ^ 40 < length text) → IsReadUp (Err stop) text left
 headed-stop (watched.Bad fault) text left h long = absurd h
 headed-stop watched.ReadFault text left h long = tt
 headed-stop watched.TooLong text left h long = long refl
@@ -235,7 +235,7 @@ ended-by b text taken m f size h = record {
 }
 
 ended-in : (answer : Result Begun ScopeStop) (text : List ℕ) (taken : ℕ) → IsEnded answer text taken → taken ≡ length text
-    → IsHeaded answer text []
+    → IsReadUp answer text []
 ended-in (Ok b) text taken h size = λ m f. ended-by b text taken m f size h
 ended-in (Err (watched.Bad fault)) text taken h size = inr h
 ended-in (Err watched.ReadFault) text taken h size = tt
@@ -246,9 +246,9 @@ ended-in (Err watched.Memory) text taken h size = tt
 
 -- the header of a text that was read to its end
 pub headed-end : (answer : Result Begun ScopeStop) (fed text left : List ℕ) (taken : ℕ) → IsEnded answer fed taken
-    → text ≡ fed → left ≡ [] → taken ≡ length fed → IsHeaded answer text left
+    → text ≡ fed → left ≡ [] → taken ≡ length fed → IsReadUp answer text left
 headed-end answer fed text left taken h e none size =
-    subst (λ x. IsHeaded answer x left) (sym e) (subst (λ x. IsHeaded answer fed x) (sym none)
+    subst (λ x. IsReadUp answer x left) (sym e) (subst (λ x. IsReadUp answer fed x) (sym none)
     (ended-in answer fed taken h size))
 
 begun-by : (b : Begun) (head rest text left : List ℕ) (taken : ℕ) (m : ValueRules) → FitsRules m any_header
@@ -269,7 +269,7 @@ begun-by b head rest text left taken m f e size h = record {
 -- the header of a text that goes on behind it
 pub headed-inside : (answer : Result Begun ScopeStop) (head rest text left : List ℕ) (taken : ℕ)
     → IsBegunWith answer head rest taken → text ≡ head ++ (rest ++ left) → taken + length left ≡ length text
-    → IsHeaded answer text left
+    → IsReadUp answer text left
 headed-inside (Ok b) head rest text left taken h e size =
     λ m f. begun-by b head rest text left taken m f e size h
 headed-inside (Err watched.Memory) head rest text left taken h e size = tt
@@ -281,7 +281,7 @@ headed-inside (Err watched.WriteFault) head rest text left taken h e size = h
 
 -- a fault that a piece shows
 pub headed-fault : (fed piece text left : List ℕ) (fault : VcdFault) → ShowsFault (fed ++ piece) fault
-    → text ≡ (fed ++ piece) ++ left → IsHeaderFault text fault
+    → text ≡ (fed ++ piece) ++ left → ShowsInHeader text fault
 headed-fault fed piece text left fault h e = inl (record {
   some = h.some;
   more = h.more ++ left;

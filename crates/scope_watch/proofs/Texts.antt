@@ -1,8 +1,8 @@
 -- What a reader of values answers is what the whole text tells.
-use Rattle.std.proofs.Common.{◌≡◌, ◌<◌, ◌^◌, ℕ, ◌⊎◌, inl, inr, if◌then◌else◌, List, [], ◌∷◌, ◌++◌, length, Some, None, Result, Ok, Err}
+use Rattle.std.proofs.Common.{◌≡◌, Bool, true, false, Option, ◌<◌, ◌^◌, ℕ, ◌⊎◌, inl, inr, if◌then◌else◌, List, [], ◌∷◌, ◌++◌, length, Some, None, Result, Ok, Err}
 use Rattle.std.proofs.Common.{refl, sym, ap, subst, ◌∙◌, append_assoc}
 use Rattle.vcd_grammar.specs.declared.fault.VcdFault.{VcdFault}
-use Rattle.vcd_grammar.specs.Tokens.{Token, tokens_of, ended_at}
+use Rattle.vcd_grammar.specs.Tokens.{Token, tokens_so_far, tokens_of, ended_at}
 use Rattle.vcd_way.specs.Declarations.{Declaration}
 use Rattle.vcd_way.specs.Ways.{ValueRules, Way}
 use Rattle.vcd_way.specs.Events.{DumpEvent}
@@ -12,11 +12,14 @@ use Rattle.vcd_scan.specs.Standing.{known_after, tokens_after, last_tokens_after
 use Rattle.vcd_joined.specs.Choosing.{Choice, choosing, IsTaken, of_values}
 use Rattle.vcd_joined.specs.Behind.{gathered_in, IsHeader}
 use Rattle.vcd_joined.specs.Texts.{IsHeadWith, IsWholeWith, is_early_behind}
+use Rattle.vcd_way.specs.Steps.{is_past_header_at}
+use Rattle.vcd_header.specs.Gathering.{header_fault_so_far, header_fault_of}
 use Rattle.scope_watch.specs.declared.header.Behind.{Behind}
+use Rattle.scope_watch.specs.declared.header.Begun.{Begun}
 use Rattle.scope_watch.specs.declared.stop.ScopeStop.{ScopeStop}
 use Rattle.scope_watch.specs.declared.stop.ScopeStop.TheVariants as stops
 use Rattle.scope_watch.specs.declared.values.Sampling.{Sampling}
-use Rattle.scope_watch.specs.Heading.{StandsBehind, IsInside, IsWhole}
+use Rattle.scope_watch.specs.Heading.{StandsBehind, IsInside, IsWhole, ShowsInHeader, IsHeaderFault, IsReadUp, IsHeaded}
 use Rattle.scope_watch.specs.Watching.{rules_for, EndsBadly, Finishes, IsWatched}
 
 -- the laws of vcd_joined and vcd_way that are drawn on
@@ -134,3 +137,41 @@ watched laws c s w b ts text left seen result at k long f = by at.place
         whole laws c s w text seen result h long
         (subst (λ x. Finishes result seen (of_values (rules_for s)) w [] x) none
         (subst (λ x. Finishes result seen (of_values (rules_for s)) w x (b.rest.items ++ left)) p.none f))
+
+-- ---- a fault in a header
+
+-- laws on headers that are drawn on
+pub record HeaderLaws : Type 0 where
+  pub so_far : (c : Choice) (m : ValueRules) (fed : List ℕ)
+      → is_past_header_at (gathered_in m (tokens_so_far fed)).spot ≡ false
+      → fault_so_far_by (choosing c m) fed ≡ header_fault_so_far m fed
+  pub whole : (c : Choice) (m : ValueRules) (text : List ℕ)
+      → is_past_header_at (gathered_in m (tokens_of text)).spot ≡ false
+      → first_fault_by (choosing c m) text ≡ header_fault_of m text
+  pub stays : (way : Way (List Declaration)) (fed more : List ℕ) (f : VcdFault) → fault_so_far_by way fed ≡ Some f
+      → first_fault_by way (fed ++ more) ≡ Some f
+
+not-past : (b : Bool) (o : Option VcdFault) (fault : VcdFault) → (if b then None else o) ≡ Some fault → b ≡ false
+not-past true o fault e = absurd (let no : ⊥ = cc in no)
+not-past false o fault e = refl
+
+-- it is the first fault in each way that keeps declarations
+pub header-bad : (laws : HeaderLaws) (text : List ℕ) (fault : VcdFault) → ShowsInHeader text fault
+    → IsHeaderFault text fault
+header-bad laws text fault (inl shown) = λ c m f.
+    let early = not-past _ (gathered_in m (tokens_so_far shown.some)).fault fault (shown.first m f) in
+    ap (first_fault_by (choosing c m)) shown.whole
+    ∙ laws.stays (choosing c m) shown.some shown.more fault
+    (laws.so_far c m shown.some early ∙ shown.first m f)
+header-bad laws text fault (inr e) = λ c m f. laws.whole c m text (not-past _ _ fault (e m f)) ∙ e m f
+
+-- what was read up to the end of a header
+pub headed : (laws : HeaderLaws) (answer : Result Begun ScopeStop) (text left : List ℕ) → IsReadUp answer text left
+    → IsHeaded answer text left
+headed laws (Ok b) text left h = h
+headed laws (Err (stops.Bad fault)) text left h = header-bad laws text fault h
+headed laws (Err stops.ReadFault) text left h = tt
+headed laws (Err stops.TooLong) text left h = h
+headed laws (Err stops.TooMany) text left h = h
+headed laws (Err stops.WriteFault) text left h = h
+headed laws (Err stops.Memory) text left h = tt

@@ -5,6 +5,8 @@ use Rattle.vcd_grammar.specs.declared.fault.VcdFault.{VcdFault}
 use Rattle.vcd_grammar.specs.Tokens.{Token, tokens_so_far, tokens_of}
 use Rattle.vcd_way.specs.Ways.{ValueRules}
 use Rattle.vcd_way.specs.Declarations.{Declaration}
+use Rattle.vcd_joined.specs.Choosing.{Choice, choosing}
+use Rattle.vcd_way.specs.Answers.{first_fault_by}
 use Rattle.vcd_joined.specs.Behind.{IsHeader, gathered_in}
 use Rattle.vcd_way.specs.Steps.{DumpState, is_past_header_at}
 use Rattle.vcd_header.specs.declared.rules.HeaderRules.{HeaderRules}
@@ -112,11 +114,26 @@ pub record BeginsBy (m : ValueRules) (b : Begun) (text left : List ℕ) : Type 0
   pub shows : Shows b.header (gathered_in m tokens)
 
 -- the text has this fault in its header: some of its first bytes show it, or it ends there
-abbrev pub IsHeaderFault : List ℕ → VcdFault → Type 0
-IsHeaderFault text fault =
+abbrev pub ShowsInHeader : List ℕ → VcdFault → Type 0
+ShowsInHeader text fault =
     ShowsFault text fault ⊎ ((m : ValueRules) → FitsRules m any_header → header_fault_of m text ≡ Some fault)
 
 -- what was answered of the header of a text, of which these bytes are left in the source
+abbrev pub IsReadUp : Result Begun ScopeStop → List ℕ → List ℕ → Type 0
+IsReadUp (Ok begun) text left = (m : ValueRules) → FitsRules m any_header → BeginsBy m begun text left
+IsReadUp (Err (watched.Bad fault)) text left = ShowsInHeader text fault
+IsReadUp (Err watched.TooLong) text left = 2 ^ 40 < length text
+IsReadUp (Err watched.ReadFault) text left = Unit {0}
+IsReadUp (Err watched.Memory) text left = Unit {0}
+IsReadUp (Err watched.TooMany) text left = ⊥
+IsReadUp (Err watched.WriteFault) text left = ⊥
+
+-- the text has this fault in its header: in each way that keeps declarations it is the first one
+abbrev pub IsHeaderFault : List ℕ → VcdFault → Type 0
+IsHeaderFault text fault =
+    (c : Choice) (m : ValueRules) → FitsRules m any_header → first_fault_by (choosing c m) text ≡ Some fault
+
+-- what is told of the header of a text, of which these bytes are left in the source
 abbrev pub IsHeaded : Result Begun ScopeStop → List ℕ → List ℕ → Type 0
 IsHeaded (Ok begun) text left = (m : ValueRules) → FitsRules m any_header → BeginsBy m begun text left
 IsHeaded (Err (watched.Bad fault)) text left = IsHeaderFault text fault

@@ -4,10 +4,11 @@ ghost use Rattle.fsb_io.specs.Faults.{Rose};
 ghost use Rattle.scope_way.specs.Variables.{shown_by, shown_from};
 ghost use Rattle.vcd_header.specs.Standing.{declared_of, remarks_of};
 ghost use Rattle.vcd_header.specs.Told.{sections_told};
-ghost use Rattle.scope_watch.specs.Heading.{Opens, Closes, IsReady, IsHeaded, IsEnded, IsBegunWith, HasCopied};
+ghost use Rattle.scope_watch.specs.Heading.{Opens, Closes, IsReady, IsHeaded, IsReadUp, IsEnded, IsBegunWith, HasCopied};
 
 use crate::feed::feed;
 use crate::header::{Begun, Behind, Header};
+use crate::laws::faults_stay;
 use crate::parts::{sections_of, variables_of};
 use crate::piece::{read_piece, read_rest};
 use crate::stop::ScopeStop;
@@ -15,6 +16,7 @@ use fsb_io::{Failed, Source};
 use std::alloc::{AllocError, Global};
 use vcd_cut::Cutter;
 use vcd_header::{HeaderReader, HeaderRules, HeaderStop};
+use vcd_joined::texts_end_as_the_readers_say;
 
 /// What is let pass in the header of any tool's dump.
 const HEADER_RULES: HeaderRules = HeaderRules {
@@ -41,6 +43,8 @@ pub fn read_header<S: Source>(
     ensures later { S.faults source.old ≤ S.faults source.new }
     ensures holds_stays { IsTrue S.tells → S.holds source.new ≡ S.holds source.old }
 {
+    texts_end_as_the_readers_say();
+    faults_stay();
     match source.begin(name) {
         Ok(()) => read_left(alloc, source, room),
         Err(Failed) => Err(ScopeStop::ReadFault),
@@ -51,7 +55,7 @@ pub fn read_header<S: Source>(
 fn read_left<S: Source>(alloc: Global, source: &mut S, room: &mut [u8]) -> Result<Begun, ScopeStop>
     requires some { 0 < length room.old }
     ensures ready { IfOk result (λ begun. IsReady begun.behind) }
-    ensures read { IsTrue S.tells → IsHeaded result (S.left source.old) (S.left source.new) }
+    ensures read { IsTrue S.tells → IsReadUp result (S.left source.old) (S.left source.new) }
     ensures len { length room.new ≡ length room.old }
     ensures read_fault { result ≡ Err ScopeStop.ReadFault →
         Rose (S.faults source.old) (S.faults source.new) }
