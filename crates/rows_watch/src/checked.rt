@@ -1,0 +1,118 @@
+//! What is found of dumps.
+
+use crate::dumps::{HEADER, QUIET, checked, joined};
+use scope_check::{Judged, Verdict};
+use scope_watch::{Checked, Finding, ScopeStop};
+use scope_wiring::Cause;
+use vcd_grammar::{VcdCause, VcdFault};
+
+/// What is found of a text.
+enum Found {
+    /// How many clocks it has, which is the first that is judged, how many are, and the first broken rule.
+    Judged(u64, u32, u32, Option<(u64, u8)>),
+    Refused(Cause),
+    /// The place of its first fault, and the cause.
+    Bad(u64, VcdCause),
+}
+
+/// Texts in two parts, and what is found of each.
+static TEXTS: [(&'static str, &'static str, Found); 10] = [
+    (HEADER, QUIET, Found::Judged(3, 1, 2, None)),
+    (HEADER, "", Found::Judged(0, 0, 0, None)),
+    (HEADER, " #0 0a #5 1a #6", Found::Judged(1, 1, 0, None)),
+    (
+        HEADER,
+        "\n#0 0a 1b 1c b11111 d 1f 1g b111 h 0i 1j 1k #5 1a #10 0a #15 1a ",
+        Found::Judged(2, 0, 2, Some((0, 15))),
+    ),
+    (
+        "$var wire 1 ! clk $end $enddefinitions $end ",
+        "#0 0! #5 1! ",
+        Found::Refused(Cause::NoneWhole),
+    ),
+    ("", "", Found::Bad(0, VcdCause::Cut)),
+    ("no dump", " at all", Found::Bad(14, VcdCause::Cut)),
+    (
+        "$var wire 1 ! $end ",
+        "$enddefinitions $end ",
+        Found::Bad(0, VcdCause::Header),
+    ),
+    (
+        HEADER,
+        "\n#4 0a #5 1a #3 0a ",
+        Found::Bad(513, VcdCause::TimeBack),
+    ),
+    (HEADER, "\n#4 1y ", Found::Bad(504, VcdCause::Code)),
+];
+
+/// Whether this is what is found.
+fn is_found(found: &Found, answer: &Result<Checked, ScopeStop>) -> bool {
+    match (found, answer) {
+        (Found::Judged(clocks, start, judged, broken), Ok(checked)) => match &checked.finding {
+            Finding::Judged(_, judged_now) => {
+                judged_now.clocks == *clocks
+                    && judged_now.start == *start
+                    && judged_now.judged == *judged
+                    && is_verdict(*judged, *broken, judged_now)
+            }
+            Finding::Refused(_) => false,
+        },
+        (Found::Refused(cause), Ok(checked)) => match &checked.finding {
+            Finding::Refused(refusal) => refusal.cause == *cause,
+            Finding::Judged(_, _) => false,
+        },
+        (Found::Bad(place, cause), Err(ScopeStop::Bad(fault))) => {
+            *fault
+                == VcdFault {
+                    place: *place,
+                    cause: *cause,
+                }
+        }
+        _ => false,
+    }
+}
+
+/// Whether the verdict on so many judged clocks says this.
+fn is_verdict(judged: u32, broken: Option<(u64, u8)>, answer: &Judged) -> bool {
+    match answer.verdict {
+        Verdict::Nothing => broken.is_none() && judged == 0,
+        Verdict::Accepted => broken.is_none() && judged != 0,
+        Verdict::Broken { clock, rule, .. } => broken == Some((clock, rule)),
+    }
+}
+
+#[test]
+fn findings_whatever_the_pieces(rt: HostRuntime) {
+    let alloc = rt.alloc();
+    for (header, values, found) in TEXTS.iter() {
+        let text = joined(alloc, &[header, values]).ok().expect(&rt, "memory");
+        for size in [1, 7, 4096] {
+            let answer = checked(alloc, &text, size, &[]);
+            assert!(rt; is_found(found, &answer));
+        }
+    }
+}
+
+#[test]
+fn headers_tell_variables_and_sections(rt: HostRuntime) {
+    let alloc = rt.alloc();
+    let text = joined(alloc, &[HEADER, QUIET]).ok().expect(&rt, "memory");
+    let found = checked(alloc, &text, 64, &[]).ok().expect(&rt, "checked");
+    let variables = found.header.variables.as_slice();
+    assert!(rt; variables.len() == 13);
+    let ads = variables.get(3).expect(&rt, "ads");
+    assert_eq!(rt; ads.scope.as_slice(), b"tb.dut.bus".as_slice());
+    assert_eq!(rt; ads.name.as_slice(), b"ads_l".as_slice());
+    let remarks = found.header.remarks.as_slice();
+    let first = remarks.get(0).expect(&rt, "timescale");
+    assert_eq!(rt; first.keyword.as_slice(), b"$timescale".as_slice());
+    assert!(rt; first.words.len() == 1);
+    assert!(rt; remarks.len() == 7);
+    match &found.finding {
+        Finding::Judged(wiring, _) => {
+            assert!(rt; wiring.wires.len() == 12);
+            assert!(rt; wiring.absent.len() == 10);
+        }
+        Finding::Refused(_) => assert!(rt; false),
+    }
+}

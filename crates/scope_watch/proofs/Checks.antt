@@ -1,0 +1,110 @@
+-- What is found of a dump, from what was read of it.
+use Rattle.std.proofs.Common.{◌≡◌, ℕ, ◌⊎◌, inl, inr, List, [], ◌++◌, length, Result, Err, sym, ap, subst, ◌∙◌, append_assoc, append-nil}
+use Rattle.fsb_signal.specs.declared.marks.Marks.{Marks}
+use Rattle.vcd_grammar.specs.Tokens.{tokens_so_far, tokens_from, open_run, ended_at}
+use Rattle.vcd_way.specs.Declarations.{Declaration}
+use Rattle.vcd_way.specs.Ways.{ValueRules, Way}
+use Rattle.vcd_way.specs.Events.{DumpEvent}
+use Rattle.vcd_way.proofs.Interface.{tokens_longer}
+use Rattle.scope_check.specs.declared.finding.Judged.{Judged}
+use Rattle.scope_wiring.specs.declared.wiring.Choice.{Choice}
+use Rattle.scope_wiring.specs.declared.wiring.Wiring.{Wiring}
+use Rattle.scope_way.specs.Wired.{wired_way}
+use Rattle.scope_watch.specs.declared.header.Header.{Header}
+use Rattle.scope_watch.specs.declared.header.Begun.{Begun}
+use Rattle.scope_watch.specs.declared.stop.ScopeStop.{ScopeStop}
+use Rattle.scope_watch.specs.declared.stop.ScopeStop.TheVariants as stops
+use Rattle.scope_watch.specs.declared.values.Sampling.{Sampling}
+use Rattle.vcd_scan.specs.Wired.{wires_told}
+use Rattle.vcd_joined.specs.Behind.{gathered_in}
+use Rattle.vcd_joined.specs.Choosing.{IsTaken}
+use Rattle.vcd_joined.specs.Picking.{picking}
+use Rattle.scope_watch.specs.declared.bus.Bus.{Bus}
+use Rattle.scope_watch.specs.Buses.{IsBus}
+use Rattle.scope_watch.proofs.Picks.{taken}
+use Rattle.scope_watch.specs.Heading.{IsInside, IsWhole, BeginsBy, IsHeaded}
+use Rattle.scope_watch.specs.Watching.{rules_for, IsWatched}
+use Rattle.scope_watch.specs.Checking.{IsJudgedAs, Declares, IsWiredBy, IsChecked}
+
+-- ---- the header of a text
+
+pub declares-of : (m : ValueRules) (b : Begun) (text left : List ℕ) → BeginsBy m b text left → Declares m b.header text
+declares-of m b text left h = by h.stands.place
+  where
+    by : IsInside b.behind h.tokens text left h.stands.head ⊎ IsWhole b.behind h.tokens text left h.stands.head
+        → Declares m b.header text
+    by (inl p) =
+        let head = h.stands.head in
+        let fed = b.behind.rest.items ++ left in
+        let behind = tokens_from (length head) (open_run head) fed in
+        let last = ended_at (length text) (open_run text) in
+        record {
+          tokens = h.tokens;
+          more = behind ++ last;
+          header = h.stands.header;
+          first = ap (λ x. x ++ last) (ap tokens_so_far p.whole ∙ tokens_longer head fed
+              ∙ ap (λ x. x ++ behind) (sym p.tokens)) ∙ append_assoc h.tokens behind last;
+          shows = h.shows;
+        }
+    by (inr p) = record {
+      tokens = h.tokens;
+      more = [];
+      header = h.stands.header;
+      first = sym p.tokens ∙ sym (append-nil h.tokens);
+      shows = h.shows;
+    }
+
+-- ---- stops
+
+pub judged-stop : (stop : ScopeStop) (seen : List DumpEvent → Type 0) (marks : Marks) (way : Way (List Declaration))
+    (text : List ℕ) → IsWatched (Err stop) seen way text → IsJudgedAs (Err stop) marks way text
+judged-stop (stops.Bad fault) seen marks way text h = h
+judged-stop stops.ReadFault seen marks way text h = tt
+judged-stop stops.TooLong seen marks way text h = h
+judged-stop stops.TooMany seen marks way text h = tt
+judged-stop stops.WriteFault seen marks way text h = tt
+judged-stop stops.Memory seen marks way text h = tt
+
+pub checked-header : (stop : ScopeStop) (choice : Choice) (s : Sampling) (text left : List ℕ)
+    → IsHeaded (Err stop) text left → IsChecked (Err stop) choice s text
+checked-header (stops.Bad fault) choice s text left h = inl h
+checked-header stops.ReadFault choice s text left h = tt
+checked-header stops.TooLong choice s text left h = h
+checked-header stops.TooMany choice s text left h = tt
+checked-header stops.WriteFault choice s text left h = tt
+checked-header stops.Memory choice s text left h = tt
+
+pub checked-values : (stop : ScopeStop) (choice : Choice) (s : Sampling) (h : Header) (w : Wiring) (marks : Marks)
+    (text : List ℕ) → IsWiredBy choice s h w text
+    → IsJudgedAs (Err stop) marks (wired_way w.wires.items (rules_for s)) text → IsChecked (Err stop) choice s text
+checked-values (stops.Bad fault) choice s h w marks text wired e =
+    inr (record { header = h; wiring = w; wired = wired; fault_is = e })
+checked-values stops.ReadFault choice s h w marks text wired e = tt
+checked-values stops.TooLong choice s h w marks text wired e = e
+checked-values stops.TooMany choice s h w marks text wired e = tt
+checked-values stops.WriteFault choice s h w marks text wired e = tt
+checked-values stops.Memory choice s h w marks text wired e = tt
+
+-- ---- the wires
+
+pub wired-by : (choice : Choice) (s : Sampling) (b : Begun) (text left : List ℕ) (bus : Bus)
+    → BeginsBy (rules_for s) b text left → IsBus b.header.variables.items choice bus
+    → IsWiredBy choice s b.header bus.wiring text
+wired-by choice s b text left bus h k = record {
+  declares = declares-of (rules_for s) b text left h;
+  picked = k.picked;
+}
+
+pub taken-by : (choice : Choice) (s : Sampling) (b : Begun) (text left : List ℕ) (bus : Bus)
+    → (h : BeginsBy (rules_for s) b text left) → IsBus b.header.variables.items choice bus
+    → IsTaken (picking (λ all. bus.wiring.wires.items)) (gathered_in (rules_for s) h.tokens).header (wires_told bus.wires)
+taken-by choice s b text left bus h k =
+    taken bus.wiring.wires.items b.header.variables.items (gathered_in (rules_for s) h.tokens).header bus.wires k.wires
+    h.shows.variables
+
+-- the same with the marks and the way of the wires
+pub judged-by : (answer : Result Judged ScopeStop) (marks known : Marks) (way wired : Way (List Declaration))
+    (text : List ℕ) → marks ≡ known → wired ≡ way → IsJudgedAs answer marks way text
+    → IsJudgedAs answer known wired text
+judged-by answer marks known way wired text e f h =
+    subst (λ x. IsJudgedAs answer x wired text) e (subst (λ x. IsJudgedAs answer marks x text) (sym f) h)

@@ -1,0 +1,7 @@
+mod Headers
+mod Wiring
+mod Steps
+mod Texts
+mod Picks
+mod Stopping
+mod Checks

@@ -1,0 +1,177 @@
+-- What a reader of values answers is what the whole text tells.
+use Rattle.std.proofs.Common.{◌≡◌, Bool, true, false, Option, ◌<◌, ◌^◌, ℕ, ◌⊎◌, inl, inr, if◌then◌else◌, List, [], ◌∷◌, ◌++◌, length, Some, None, Result, Ok, Err}
+use Rattle.std.proofs.Common.{refl, sym, ap, subst, ◌∙◌, append_assoc}
+use Rattle.vcd_grammar.specs.declared.fault.VcdFault.{VcdFault}
+use Rattle.vcd_grammar.specs.Tokens.{Token, tokens_so_far, tokens_of, ended_at}
+use Rattle.vcd_way.specs.Declarations.{Declaration}
+use Rattle.vcd_way.specs.Ways.{ValueRules, Way}
+use Rattle.vcd_way.specs.Events.{DumpEvent}
+use Rattle.vcd_way.specs.Answers.{fault_so_far_by, first_fault_by, events_by}
+use Rattle.vcd_scan.specs.Wired.{Wiring}
+use Rattle.vcd_scan.specs.Standing.{known_after, tokens_after, last_tokens_after, all_told_after, told_after, fault_behind}
+use Rattle.vcd_joined.specs.Choosing.{Choice, choosing, IsTaken, of_values}
+use Rattle.vcd_joined.specs.Behind.{gathered_in, IsHeader}
+use Rattle.vcd_joined.specs.Texts.{IsHeadWith, IsWholeWith, is_early_behind}
+use Rattle.vcd_way.specs.Steps.{is_past_header_at}
+use Rattle.vcd_header.specs.Gathering.{header_fault_so_far, header_fault_of}
+use Rattle.scope_watch.specs.declared.header.Behind.{Behind}
+use Rattle.scope_watch.specs.declared.header.Begun.{Begun}
+use Rattle.scope_watch.specs.declared.stop.ScopeStop.{ScopeStop}
+use Rattle.scope_watch.specs.declared.stop.ScopeStop.TheVariants as stops
+use Rattle.scope_watch.specs.declared.values.Sampling.{Sampling}
+use Rattle.scope_watch.specs.Heading.{StandsBehind, IsInside, IsWhole, ShowsInHeader, IsHeaderFault, IsReadUp, IsHeaded}
+use Rattle.scope_watch.specs.Watching.{rules_for, EndsBadly, Finishes, IsWatched}
+
+-- the laws of vcd_joined and vcd_way that are drawn on
+pub record Laws : Type 0 where
+  pub so_far : (c : Choice) (m : ValueRules) (w : Wiring) (head fed : List ℕ) → IsHeadWith c m w head
+      → fault_so_far_by (choosing c m) (head ++ fed) ≡ (known_after (of_values m) w (tokens_after head fed)).fault
+  pub fault : (c : Choice) (m : ValueRules) (w : Wiring) (head fed : List ℕ) → IsHeadWith c m w head
+      → first_fault_by (choosing c m) (head ++ fed)
+      ≡ (if is_early_behind m w head fed then None
+      else fault_behind (of_values m) w (last_tokens_after head fed) (length (head ++ fed)))
+  pub events : (c : Choice) (m : ValueRules) (w : Wiring) (head fed : List ℕ) → IsHeadWith c m w head
+      → events_by (choosing c m) (head ++ fed)
+      ≡ (if is_early_behind m w head fed then told_after (of_values m) w (tokens_after head fed)
+      else all_told_after (of_values m) w (last_tokens_after head fed))
+  pub none : (c : Choice) (m : ValueRules) (text : List ℕ) → IsHeader m (tokens_of text)
+      → first_fault_by (choosing c m) text ≡ None
+  pub all : (c : Choice) (m : ValueRules) (w : Wiring) (text : List ℕ) → IsWholeWith c m w text
+      → events_by (choosing c m) text ≡ all_told_after (of_values m) w []
+  pub stays : (way : Way (List Declaration)) (fed more : List ℕ) (f : VcdFault) → fault_so_far_by way fed ≡ Some f
+      → first_fault_by way (fed ++ more) ≡ Some f
+
+-- ---- behind a header
+
+fault-inside : (laws : Laws) (c : Choice) (s : Sampling) (w : Wiring) (head fed : List ℕ) (fault : VcdFault)
+    → IsHeadWith c (rules_for s) w head → EndsBadly (of_values (rules_for s)) w head fed fault
+    → first_fault_by (choosing c (rules_for s)) (head ++ fed) ≡ Some fault
+fault-inside laws c s w head fed fault h (inl shown) =
+    ap (first_fault_by (choosing c (rules_for s)))
+    (ap (λ x. head ++ x) shown.whole ∙ sym (append_assoc head shown.some shown.more))
+    ∙ laws.stays (choosing c (rules_for s)) (head ++ shown.some) shown.more fault
+    (laws.so_far c (rules_for s) w head shown.some h ∙ shown.first)
+fault-inside laws c s w head fed fault h (inr e) = laws.fault c (rules_for s) w head fed h ∙ e
+
+inside : (laws : Laws) (c : Choice) (s : Sampling) (w : Wiring) (head fed : List ℕ) (seen : List DumpEvent → Type 0)
+    (result : Result Unit ScopeStop) → IsHeadWith c (rules_for s) w head
+    → (result ≡ Err stops.TooLong → 2 ^ 40 < length (head ++ fed))
+    → Finishes result seen (of_values (rules_for s)) w head fed
+    → IsWatched result seen (choosing c (rules_for s)) (head ++ fed)
+inside laws c s w head fed seen (Ok u) h long f = (
+  laws.fault c (rules_for s) w head fed h ∙ f.none,
+  subst (λ x. seen x) (sym (laws.events c (rules_for s) w head fed h)) f.shown,
+)
+inside laws c s w head fed seen (Err (stops.Bad fault)) h long f = fault-inside laws c s w head fed fault h f
+inside laws c s w head fed seen (Err stops.TooLong) h long f = long refl
+inside laws c s w head fed seen (Err stops.ReadFault) h long f = tt
+inside laws c s w head fed seen (Err stops.TooMany) h long f = tt
+inside laws c s w head fed seen (Err stops.WriteFault) h long f = tt
+inside laws c s w head fed seen (Err stops.Memory) h long f = tt
+
+-- ---- a text that is its header
+
+none-last : last_tokens_after [] [] ≡ []
+unfolding ended_at
+none-last = refl
+
+no-fault : (m : ValueRules) (w : Wiring) (some more : List ℕ) (fault : VcdFault) → [] ≡ some ++ more
+    → (known_after m w (tokens_after [] some)).fault ≡ Some fault → ⊥
+no-fault m w [] more fault e h = cc
+no-fault m w (b ∷ some) more fault e h = cc
+
+no-end : (m : ValueRules) (w : Wiring) (ts : List Token) (fault : VcdFault) → ts ≡ []
+    → fault_behind m w ts 0 ≡ Some fault → ⊥
+no-end m w [] fault e h = cc
+no-end m w (t ∷ ts) fault e h = cc
+
+no-bad : (m : ValueRules) (w : Wiring) (fault : VcdFault) → EndsBadly m w [] [] fault → ⊥
+no-bad m w fault (inl shown) = no-fault m w shown.some shown.more fault shown.whole shown.first
+no-bad m w fault (inr e) = no-end m w (last_tokens_after [] []) fault none-last e
+
+whole : (laws : Laws) (c : Choice) (s : Sampling) (w : Wiring) (text : List ℕ) (seen : List DumpEvent → Type 0)
+    (result : Result Unit ScopeStop) → IsWholeWith c (rules_for s) w text
+    → (result ≡ Err stops.TooLong → 2 ^ 40 < length text)
+    → Finishes result seen (of_values (rules_for s)) w [] []
+    → IsWatched result seen (choosing c (rules_for s)) text
+whole laws c s w text seen (Ok u) h long f = (
+  laws.none c (rules_for s) text h.header,
+  subst (λ x. seen x) (ap (λ ts. all_told_after (of_values (rules_for s)) w ts) none-last
+      ∙ sym (laws.all c (rules_for s) w text h)) f.shown,
+)
+whole laws c s w text seen (Err (stops.Bad fault)) h long f = absurd (no-bad (of_values (rules_for s)) w fault f)
+whole laws c s w text seen (Err stops.TooLong) h long f = long refl
+whole laws c s w text seen (Err stops.ReadFault) h long f = tt
+whole laws c s w text seen (Err stops.TooMany) h long f = tt
+whole laws c s w text seen (Err stops.WriteFault) h long f = tt
+whole laws c s w text seen (Err stops.Memory) h long f = tt
+
+-- ---- both
+
+-- what is answered of the values is right of the whole text
+pub watched : (laws : Laws) (c : Choice) (s : Sampling) (w : Wiring) (b : Behind) (ts : List Token) (text left : List ℕ)
+    (seen : List DumpEvent → Type 0) (result : Result Unit ScopeStop)
+    → (at : StandsBehind (rules_for s) b ts text left) → IsTaken c (gathered_in (rules_for s) ts).header w
+    → (result ≡ Err stops.TooLong → 2 ^ 40 < length text)
+    → Finishes result seen (of_values (rules_for s)) w at.head (b.rest.items ++ left)
+    → IsWatched result seen (choosing c (rules_for s)) text
+watched laws c s w b ts text left seen result at k long f = by at.place
+  where
+    by : IsInside b ts text left at.head ⊎ IsWhole b ts text left at.head
+        → IsWatched result seen (choosing c (rules_for s)) text
+    by (inl p) =
+        let fed = b.rest.items ++ left in
+        let h : IsHeadWith c (rules_for s) w at.head = record {
+          header = subst (λ x. IsHeader (rules_for s) x) p.tokens at.header;
+          taken = subst (λ x. IsTaken c (gathered_in (rules_for s) x).header w) p.tokens k;
+        } in
+        subst (λ x. IsWatched result seen (choosing c (rules_for s)) x) (sym p.whole)
+        (inside laws c s w at.head fed seen result h
+        (λ e. subst (λ x. 2 ^ 40 < length x) p.whole (long e)) f)
+    by (inr p) =
+        let h : IsWholeWith c (rules_for s) w text = record {
+          header = subst (λ x. IsHeader (rules_for s) x) p.tokens at.header;
+          taken = subst (λ x. IsTaken c (gathered_in (rules_for s) x).header w) p.tokens k;
+        } in
+        let none : b.rest.items ++ left ≡ [] = (λ i. p.no_rest i ++ p.nothing i) in
+        whole laws c s w text seen result h long
+        (subst (λ x. Finishes result seen (of_values (rules_for s)) w [] x) none
+        (subst (λ x. Finishes result seen (of_values (rules_for s)) w x (b.rest.items ++ left)) p.none f))
+
+-- ---- a fault in a header
+
+-- laws on headers that are drawn on
+pub record HeaderLaws : Type 0 where
+  pub so_far : (c : Choice) (m : ValueRules) (fed : List ℕ)
+      → is_past_header_at (gathered_in m (tokens_so_far fed)).spot ≡ false
+      → fault_so_far_by (choosing c m) fed ≡ header_fault_so_far m fed
+  pub whole : (c : Choice) (m : ValueRules) (text : List ℕ)
+      → is_past_header_at (gathered_in m (tokens_of text)).spot ≡ false
+      → first_fault_by (choosing c m) text ≡ header_fault_of m text
+  pub stays : (way : Way (List Declaration)) (fed more : List ℕ) (f : VcdFault) → fault_so_far_by way fed ≡ Some f
+      → first_fault_by way (fed ++ more) ≡ Some f
+
+not-past : (b : Bool) (o : Option VcdFault) (fault : VcdFault) → (if b then None else o) ≡ Some fault → b ≡ false
+not-past true o fault e = absurd (let no : ⊥ = cc in no)
+not-past false o fault e = refl
+
+-- it is the first fault in each way that keeps declarations
+pub header-bad : (laws : HeaderLaws) (text : List ℕ) (fault : VcdFault) → ShowsInHeader text fault
+    → IsHeaderFault text fault
+header-bad laws text fault (inl shown) = λ c m f.
+    let early = not-past _ (gathered_in m (tokens_so_far shown.some)).fault fault (shown.first m f) in
+    ap (first_fault_by (choosing c m)) shown.whole
+    ∙ laws.stays (choosing c m) shown.some shown.more fault
+    (laws.so_far c m shown.some early ∙ shown.first m f)
+header-bad laws text fault (inr e) = λ c m f. laws.whole c m text (not-past _ _ fault (e m f)) ∙ e m f
+
+-- what was read up to the end of a header
+pub headed : (laws : HeaderLaws) (answer : Result Begun ScopeStop) (text left : List ℕ) → IsReadUp answer text left
+    → IsHeaded answer text left
+headed laws (Ok b) text left h = h
+headed laws (Err (stops.Bad fault)) text left h = header-bad laws text fault h
+headed laws (Err stops.ReadFault) text left h = tt
+headed laws (Err stops.TooLong) text left h = h
+headed laws (Err stops.TooMany) text left h = h
+headed laws (Err stops.WriteFault) text left h = h
+headed laws (Err stops.Memory) text left h = tt

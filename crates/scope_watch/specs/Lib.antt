@@ -1,0 +1,5 @@
+pub mod Stops
+pub mod Heading
+pub mod Buses
+pub mod Watching
+pub mod Checking

@@ -1,0 +1,98 @@
+-- What was read of values, and shown.
+use Rattle.std.specs.Prelude.{◌≡◌, ◌<◌, ◌^◌, ◌⊎◌, ℕ, false, List, [], ◌++◌, length, Option, Some, None, Result, Ok, Err}
+use Rattle.vcd_grammar.specs.declared.fault.VcdFault.{VcdFault}
+use Rattle.vcd_way.specs.Declarations.{Declaration}
+use Rattle.vcd_way.specs.Ways.{ValueRules, Way}
+use Rattle.vcd_way.specs.Answers.{first_fault_by, events_by}
+use Rattle.vcd_way.specs.Wide.{wide_rules}
+use Rattle.vcd_way.specs.Events.{DumpEvent}
+use Rattle.vcd_scan.specs.declared.reader.ValueReader.{ValueReader}
+use Rattle.vcd_scan.specs.declared.stop.ScanStop.{ScanStop}
+use Rattle.vcd_scan.specs.declared.stop.ScanStop.TheVariants as scans
+use Rattle.vcd_scan.specs.Wired.{Wiring}
+use Rattle.vcd_scan.specs.Standing.{Stands, refusal_of, rules_of, wiring_of, events_of}
+use Rattle.vcd_scan.specs.Standing.{tokens_after, last_tokens_after, known_after, told_after, all_told_after, fault_behind}
+use Rattle.scope_watch.specs.declared.stop.ScopeStop.{ScopeStop}
+use Rattle.scope_watch.specs.declared.stop.ScopeStop.TheVariants as stops
+use Rattle.scope_watch.specs.declared.values.Sampling.{Sampling}
+
+-- the rules by which a dump of any tool is read, where it is sampled so; one that ends early is refused
+abbrev pub rules_for : Sampling → ValueRules
+rules_for s = record wide_rules {
+  edge = s.edge;
+  takes_first = s.takes_first;
+  late = s.late.items;
+  ends_early = false;
+}
+
+-- some of the first bytes behind a header show this fault to a reader of these wires
+pub record ShowsFaultBehind (m : ValueRules) (w : Wiring) (head fed : List ℕ) (fault : VcdFault) : Type 0 where
+  pub some : List ℕ
+  pub more : List ℕ
+  pub whole : fed ≡ some ++ more
+  pub first : (known_after m w (tokens_after head some)).fault ≡ Some fault
+
+-- a reader that has refused so has read a fault
+abbrev pub Refuses : ValueRules → Wiring → List ℕ → List ℕ → Option ScanStop → Type 0
+Refuses m w head fed None = Unit {0}
+Refuses m w head fed (Some (scans.Bad fault)) = ShowsFaultBehind m w head fed fault
+Refuses m w head fed (Some scans.Memory) = ⊥
+
+-- a reader by these rules and wires stands for these bytes behind a header; what they tell was seen and taken away, and
+-- a fault is one of them
+pub record Seen (seen : List DumpEvent → Type 0) (m : ValueRules) (w : Wiring) (r : ValueReader) (head fed : List ℕ) : Type 0 where
+  pub rules : rules_of r ≡ m
+  pub wiring : wiring_of r ≡ w
+  pub stands : Stands r head fed
+  pub taken : refusal_of r ≡ None → events_of r ≡ []
+  pub shown : refusal_of r ≡ None → seen (told_after m w (tokens_after head fed))
+  pub refused : Refuses m w head fed (refusal_of r)
+
+-- a stop of the watcher, or for want of memory
+abbrev pub IsStopOfWatching : ScopeStop → Type 0
+IsStopOfWatching (stops.Bad fault) = ⊥
+IsStopOfWatching stops.ReadFault = ⊥
+IsStopOfWatching stops.TooLong = ⊥
+IsStopOfWatching stops.TooMany = Unit {0}
+IsStopOfWatching stops.WriteFault = Unit {0}
+IsStopOfWatching stops.Memory = Unit {0}
+
+-- the text ends well behind these bytes, and all that it tells was seen
+pub record EndsWell (seen : List DumpEvent → Type 0) (m : ValueRules) (w : Wiring) (head fed : List ℕ) : Type 0 where
+  pub none : fault_behind m w (last_tokens_after head fed) (length (head ++ fed)) ≡ None
+  pub shown : seen (all_told_after m w (last_tokens_after head fed))
+
+-- the text has a fault behind its header: some of its bytes show it, or it ends there
+abbrev pub EndsBadly : ValueRules → Wiring → List ℕ → List ℕ → VcdFault → Type 0
+EndsBadly m w head fed fault =
+    ShowsFaultBehind m w head fed fault
+    ⊎ (fault_behind m w (last_tokens_after head fed) (length (head ++ fed)) ≡ Some fault)
+
+-- what is answered of a text that ends behind these bytes
+abbrev pub Finishes : Result Unit ScopeStop → (List DumpEvent → Type 0) → ValueRules → Wiring → List ℕ → List ℕ → Type 0
+Finishes (Ok u) seen m w head fed = EndsWell seen m w head fed
+Finishes (Err (stops.Bad fault)) seen m w head fed = EndsBadly m w head fed fault
+Finishes (Err stops.TooMany) seen m w head fed = Unit {0}
+Finishes (Err stops.WriteFault) seen m w head fed = Unit {0}
+Finishes (Err stops.Memory) seen m w head fed = Unit {0}
+Finishes (Err stops.ReadFault) seen m w head fed = Unit {0}
+Finishes (Err stops.TooLong) seen m w head fed = Unit {0}
+
+-- a stop at the end of a text
+abbrev pub IsStopOfEnd : ScopeStop → Type 0
+IsStopOfEnd (stops.Bad fault) = Unit {0}
+IsStopOfEnd stops.ReadFault = ⊥
+IsStopOfEnd stops.TooLong = ⊥
+IsStopOfEnd stops.TooMany = Unit {0}
+IsStopOfEnd stops.WriteFault = Unit {0}
+IsStopOfEnd stops.Memory = Unit {0}
+
+-- what is answered of a whole text, read in a way whose events are shown
+abbrev pub IsWatched : Result Unit ScopeStop → (List DumpEvent → Type 0) → Way (List Declaration) → List ℕ → Type 0
+IsWatched (Ok u) seen way text = (first_fault_by way text ≡ None) × seen (events_by way text)
+IsWatched (Err (stops.Bad fault)) seen way text = first_fault_by way text ≡ Some fault
+IsWatched (Err stops.TooLong) seen way text = 2 ^ 40 < length text
+IsWatched (Err stops.TooMany) seen way text = Unit {0}
+IsWatched (Err stops.WriteFault) seen way text = Unit {0}
+IsWatched (Err stops.Memory) seen way text = Unit {0}
+IsWatched (Err stops.ReadFault) seen way text = Unit {0}

@@ -1,0 +1,130 @@
+//! The check of a dump: its events are judged as they come.
+ghost use Rattle.std.specs.Prelude.{◌≡◌, ◌≤◌, ◌<◌, ℕ, List, Err, Some, IsTrue, OnOk, length};
+ghost use Rattle.fsb_io.specs.Faults.{Rose};
+ghost use Rattle.vcd_grammar.specs.Tokens.{Token};
+ghost use Rattle.vcd_scan.specs.Wired.{wires_told};
+ghost use Rattle.vcd_joined.specs.Behind.{gathered_in};
+ghost use Rattle.vcd_joined.specs.Choosing.{Choice as Taking, choosing, IsTaken};
+ghost use Rattle.scope_watch.specs.Heading.{IsReady, StandsBehind};
+ghost use Rattle.scope_watch.specs.Watching.{rules_for};
+ghost use Rattle.scope_watch.specs.Checking.{IsJudgedAs, IsChecked};
+
+use crate::begin::read_header;
+use crate::bus::{Picked, marks_of, pick_bus};
+use crate::header::{Behind, Header};
+use crate::stop::{ScopeStop, WatchStop};
+use crate::values::{Sampling, watch_values};
+use crate::watcher::EventWatcher;
+use fsb_io::Source;
+use fsb_signal::Marks;
+use scope_check::{Judged, Judging, TooMany};
+use scope_wiring::{Choice, Refusal, Wiring};
+use std::alloc::Global;
+use vcd_course::CourseEvent;
+use vcd_joined::picked_wires_choose;
+use vcd_scan::Wires;
+
+/// What is found of a dump.
+#[derive(Debug, Drop)]
+pub enum Finding {
+    /// The wires of the bus are not picked.
+    Refused(Refusal),
+    /// They are these, and this was judged of them.
+    Judged(Wiring, Judged),
+}
+
+/// A dump that was checked.
+#[derive(Debug, Drop)]
+pub struct Checked {
+    pub header: Header,
+    pub finding: Finding,
+}
+
+/// The judge of the events of a dump with these marks.
+#[derive(Drop)]
+struct Judge {
+    judging: Judging,
+    marks: Marks,
+}
+
+impl EventWatcher for Judge {
+    ghost use Rattle.scope_check.specs.Standing.{Stands};
+
+    ghost has_seen = { λ first now events. Stands now.judging first.marks events };
+
+    fn see(&mut self, event: &CourseEvent) -> Result<(), WatchStop> {
+        match self.judging.take(event) {
+            Ok(()) => Ok(()),
+            Err(TooMany) => Err(WatchStop::TooMany),
+        }
+    }
+}
+
+/// Reads on behind a header to the end of the source, and judges the values of the wires, which have these marks.
+pub fn judge_values<S: Source>(
+    alloc: Global,
+    source: &mut S,
+    room: &mut [u8],
+    behind: Behind,
+    wires: Wires,
+    marks: Marks,
+    sampling: Sampling,
+) -> Result<Judged, ScopeStop>
+    requires some { 0 < length room.old }
+    requires begun { IsReady behind }
+    ensures judged { IsTrue S.tells → (c : Taking) (ts : List Token) (text : List ℕ) →
+        StandsBehind (rules_for sampling) behind ts text (S.left source.old) →
+        IsTaken c (gathered_in (rules_for sampling) ts).header (wires_told wires) →
+        IsJudgedAs result marks (choosing c (rules_for sampling)) text }
+    ensures read_fault { result ≡ Err ScopeStop.ReadFault →
+        Rose (S.faults source.old) (S.faults source.new) }
+    ensures later { S.faults source.old ≤ S.faults source.new }
+    ensures name_stays { IsTrue S.tells → S.begun_as source.new ≡ S.begun_as source.old }
+    ensures holds_stays { IsTrue S.tells → S.holds source.new ≡ S.holds source.old }
+{
+    let mut judge = Judge {
+        judging: Judging::new(marks),
+        marks,
+    };
+    watch_values(alloc, source, room, behind, wires, sampling, &mut judge)?;
+    Ok(judge.judging.judged())
+}
+
+/// Begins the source under the name, picks the wires of the bus in its header, and judges their values. Where they are
+/// not picked, nothing is read behind the piece in which the header ends.
+pub fn check_dump<S: Source>(
+    alloc: Global,
+    name: &str,
+    source: &mut S,
+    room: &mut [u8],
+    choice: &Choice,
+    sampling: Sampling,
+) -> Result<Checked, ScopeStop>
+    requires named { length name.now ≤ 4096 }
+    requires some { 0 < length room.old }
+    ensures checked { IsTrue S.tells →
+        IsChecked result choice.now sampling (S.holds source.old) }
+    ensures named { IsTrue S.tells → OnOk result (S.begun_as source.new ≡ Some name.now) }
+    ensures read_fault { result ≡ Err ScopeStop.ReadFault →
+        Rose (S.faults source.old) (S.faults source.new) }
+    ensures later { S.faults source.old ≤ S.faults source.new }
+    ensures holds_stays { IsTrue S.tells → S.holds source.new ≡ S.holds source.old }
+{
+    picked_wires_choose();
+    let begun = read_header(alloc, name, source, room)?;
+    match pick_bus(alloc, &begun.header.variables, choice)? {
+        Picked::Refused(refusal) => Ok(Checked {
+            header: begun.header,
+            finding: Finding::Refused(refusal),
+        }),
+        Picked::Wired(bus) => {
+            let marks = marks_of(&bus.wiring.wires);
+            let behind = begun.behind;
+            let judged = judge_values(alloc, source, room, behind, bus.wires, marks, sampling)?;
+            Ok(Checked {
+                header: begun.header,
+                finding: Finding::Judged(bus.wiring, judged),
+            })
+        }
+    }
+}
