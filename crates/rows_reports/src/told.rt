@@ -1,0 +1,60 @@
+//! What `lines` and `rule` tell.
+
+use crate::dumps::{BUS, END, came};
+use std::test::Fail;
+
+#[test]
+fn lines_tells_the_scope_that_is_judged(rt: HostRuntime) {
+    let alloc = rt.alloc();
+    let mon = "$upscope $end\n$scope module mon $end\n$var wire 1 z bclk $end\n";
+    let more = "$var wire 1 y ads_l $end\n$var wire 2 x ap_n [2:0] $end\n";
+    let text = format!(in alloc; "{BUS}{more}{mon}{END}").expect(&rt, "memory");
+    let came = came(alloc, "lines|x.vcd", text.as_str(), "").expect(&rt, "memory");
+    assert_eq!(rt; came.out.as_str(), WHOLE);
+    assert_eq!(rt; came.status, 0);
+}
+
+const WHOLE: &str = "\
+x.vcd: 15 variables, time in steps of 1 ns
+tb.dut: all 12 needed lines
+";
+
+#[test]
+fn lines_tells_why_a_check_would_refuse(rt: HostRuntime) {
+    let alloc = rt.alloc();
+    let text = "$var wire 1 ! clk $end $var wire 1 a ads $end $enddefinitions $end\n";
+    let came = came(alloc, "lines|x.vcd", text, "").expect(&rt, "memory");
+    assert_eq!(rt; came.out.as_str(), REFUSED);
+    assert_eq!(rt; came.err.as_str(), "");
+    assert_eq!(rt; came.status, 3);
+}
+
+const REFUSED: &str = "\
+x.vcd: 2 variables, no $timescale
+  perhaps: --line BCLK=clk
+  perhaps: --line ADS_n=!ads
+p6scope check x.vcd: refused, since no variable is named like a line of the bus
+";
+
+#[test]
+fn rule_tells_a_text_or_all_titles(rt: HostRuntime) {
+    let alloc = rt.alloc();
+    let one = came(alloc, "rule|15", "", "").expect(&rt, "memory");
+    assert!(rt;
+        one.out.as_str().starts_with("rule 15: target ready\n\n"),
+        "{one:?}"
+    );
+    assert_eq!(rt; one.status, 0);
+    let all = came(alloc, "rule", "", "").expect(&rt, "memory");
+    assert_eq!(rt; all.out.as_str().lines().count(), 31);
+    assert!(rt;
+        all.out
+            .as_str()
+            .starts_with(" 1  known control lines\n 2  request spacing\n")
+    );
+    assert!(rt;
+        all.out.as_str().ends_with("\n31  pending line kept back\n"),
+        "{all:?}"
+    );
+    assert_eq!(rt; all.status, 0);
+}
