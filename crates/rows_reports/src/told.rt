@@ -7,7 +7,7 @@ use std::test::Fail;
 fn lines_tells_the_scope_that_is_judged(rt: HostRuntime) {
     let alloc = rt.alloc();
     let mon = "$upscope $end\n$scope module mon $end\n$var wire 1 z bclk $end\n";
-    let more = "$var wire 1 y ads_l $end\n$var wire 2 x ap_n [2:0] $end\n";
+    let more = "$var wire 1 y bus_ok $end\n$var wire 3 x ap_n [2:0] $end\n";
     let text = format!(in alloc; "{BUS}{more}{mon}{END}").expect(&rt, "memory");
     let came = came(alloc, "lines|x.vcd", text.as_str(), "").expect(&rt, "memory");
     assert_eq!(rt; came.out.as_str(), WHOLE);
@@ -17,6 +17,22 @@ fn lines_tells_the_scope_that_is_judged(rt: HostRuntime) {
 const WHOLE: &str = "\
 x.vcd: 15 variables, time in steps of 1 ns
 tb.dut: all 12 needed lines
+  BCLK = bclk (wire, 1 bit)
+  BREQ0_n = breq0_n (wire, 1 bit)
+  ADS_n = ads_n (wire, 1 bit)
+  REQ_n = req_n[4:0] (wire, 5 bits)
+  A_n = a_n[35:3] (wire, 33 bits)
+  HIT_n = hit_n (wire, 1 bit)
+  HITM_n = hitm_n (wire, 1 bit)
+  RS_n = rs_n[2:0] (wire, 3 bits)
+  TRDY_n = trdy_n (wire, 1 bit)
+  DBSY_n = dbsy_n (wire, 1 bit)
+  DRDY_n = drdy_n (wire, 1 bit)
+  D_n = d_n[63:0] (wire, 64 bits)
+  not there: BREQ1_n BREQ2_n BREQ3_n BPRI_n LOCK_n BNR_n AERR_n DEFER_n AP_n RP_n
+  ap_n[2:0] (wire, 3 bits) is named like AP_n, and cannot be it
+tb.mon: 1 of 12 needed lines
+p6scope check x.vcd: judges tb.dut
 ";
 
 #[test]

@@ -20,28 +20,38 @@ pub fn lines_text(
     choice: &Choice,
     picking: &Picking,
 ) -> Result<Vec<u8>, AllocError> {
-    let heading = Heading::new(alloc, file, variables)?;
+    let heading = Heading::new(alloc, variables)?;
+    let scale = Scale::of(alloc, remarks)?;
     let mut text = Vec::new(alloc);
     put_bytes(&mut text, file.as_bytes())?;
     put(&mut text, ": ")?;
     put_count(&mut text, variables.len() as u64, "variable")?;
-    put_step(&mut text, Scale::of(alloc, remarks)?)?;
+    put_step(&mut text, scale)?;
     put_scopes(&mut text, &heading)?;
     put(&mut text, "p6scope check ")?;
     put_bytes(&mut text, file.as_bytes())?;
+    put_end(&mut text, &heading, choice, picking)?;
+    put(&mut text, "\n")?;
+    Ok(text)
+}
+
+// What a check takes.
+fn put_end(
+    text: &mut Vec<u8>,
+    heading: &Heading<'_>,
+    choice: &Choice,
+    picking: &Picking,
+) -> Result<(), AllocError> {
     match picking {
         Picking::Wired(wiring) => {
-            put(&mut text, ": judges ")?;
-            put_home(&mut text, variables, wiring.home)?;
-            put(&mut text, "\n")?;
+            put(text, ": judges ")?;
+            put_home(text, heading.variables, wiring.home)
         }
         Picking::Refused(refusal) => {
-            put(&mut text, ": refused, since ")?;
-            put_cause(&mut text, &heading, choice, refusal)?;
-            put(&mut text, "\n")?;
+            put(text, ": refused, since ")?;
+            put_cause(text, heading, choice, refusal)
         }
     }
-    Ok(text)
 }
 
 fn put_step(text: &mut Vec<u8>, scale: Option<Scale>) -> Result<(), AllocError> {
@@ -69,19 +79,35 @@ pub(crate) fn put_home(
 
 fn put_scopes(text: &mut Vec<u8>, heading: &Heading<'_>) -> Result<(), AllocError> {
     let scopes = heads(heading.alloc, &heading.names)?;
-    let most = most_found(heading, &scopes);
-    for scope in &scopes {
-        heading.put_counts(text, scope.scope)?;
-        if found_count(&heading.names, &[], scope.scope) == most {
-            heading.put_found(text, scope.scope)?;
-            heading.put_absent(text, scope.scope)?;
-            heading.put_gaps(text, &[], scope.scope)?;
-        }
-    }
     if scopes.is_empty() {
-        heading.put_all_near(text)?;
+        heading.put_all_near(text)
+    } else {
+        put_each(text, heading, &scopes)
+    }
+}
+
+fn put_each(text: &mut Vec<u8>, heading: &Heading<'_>, scopes: &[Named]) -> Result<(), AllocError> {
+    let most = most_found(heading, scopes);
+    for scope in scopes {
+        heading.put_counts(text, scope.scope)?;
+        put_whole(text, heading, scope.scope, most)?;
     }
     Ok(())
+}
+
+// The lines of a scope that has so many.
+fn put_whole(
+    text: &mut Vec<u8>,
+    heading: &Heading<'_>,
+    scope: usize,
+    most: usize,
+) -> Result<(), AllocError> {
+    if found_count(&heading.names, &[], scope) < most {
+        return Ok(());
+    }
+    heading.put_found(text, scope)?;
+    heading.put_absent(text, scope)?;
+    heading.put_gaps(text, &[], scope)
 }
 
 fn most_found(heading: &Heading<'_>, scopes: &[Named]) -> usize {

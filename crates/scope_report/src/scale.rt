@@ -19,17 +19,33 @@ pub struct Scale {
 impl Scale {
     /// What the first `$timescale` of a header says; `None` where there is none or it says nothing.
     pub fn of(alloc: Global, remarks: &[Section]) -> Result<Option<Scale>, AllocError> {
-        for remark in remarks {
-            if remark.keyword.as_slice() == b"$timescale".as_slice() {
-                let mut words = Vec::new(alloc);
-                for word in &remark.words {
-                    words.extend_from_slice(word)?;
-                }
-                return Ok(scale_in(&words));
-            }
+        match remarks.iter().position(|remark| is_scale(remark)) {
+            None => Ok(None),
+            Some(place) => scale_at(alloc, remarks.get(place)),
         }
-        Ok(None)
     }
+}
+
+fn is_scale(remark: &Section) -> bool {
+    remark.keyword.as_slice() == b"$timescale".as_slice()
+}
+
+fn scale_at(alloc: Global, remark: Option<&Section>) -> Result<Option<Scale>, AllocError> {
+    match remark {
+        None => Ok(None),
+        Some(remark) => {
+            let words = joined(alloc, &remark.words)?;
+            Ok(scale_in(&words))
+        }
+    }
+}
+
+fn joined(alloc: Global, words: &[Vec<u8>]) -> Result<Vec<u8>, AllocError> {
+    let mut text = Vec::new(alloc);
+    for word in words {
+        text.extend_from_slice(word)?;
+    }
+    Ok(text)
 }
 
 fn scale_in(word: &[u8]) -> Option<Scale> {
@@ -65,16 +81,30 @@ fn put_steps(text: &mut Vec<u8>, time: u64) -> Result<(), AllocError> {
 }
 
 fn put_scaled(text: &mut Vec<u8>, count: u64, unit: usize) -> Result<(), AllocError> {
-    let mut count = count;
-    let mut unit = unit;
-    while unit > 0 && count > 0 && count % 1000 == 0 {
-        count /= 1000;
-        unit -= 1;
-    }
+    let (count, unit) = scaled(count, unit);
     put_number(text, count)?;
     put(text, " ")?;
+    put(text, unit_name(unit))
+}
+
+// The same time in the largest unit in which it is whole.
+fn scaled(count: u64, unit: usize) -> (u64, usize) {
+    let mut count = count;
+    let mut unit = unit;
+    while is_larger_whole(count, unit) {
+        count /= 1000;
+        unit = unit.saturating_sub(1);
+    }
+    (count, unit)
+}
+
+fn is_larger_whole(count: u64, unit: usize) -> bool {
+    unit > 0 && count > 0 && count % 1000 == 0
+}
+
+fn unit_name(unit: usize) -> &'static str {
     match UNITS.get(unit) {
-        None => Ok(()),
-        Some(name) => put(text, *name),
+        None => "",
+        Some(name) => *name,
     }
 }

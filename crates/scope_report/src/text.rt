@@ -28,14 +28,13 @@ pub(crate) fn put_number(text: &mut Vec<u8>, number: u64) -> Result<(), AllocErr
 /// Appends bytes of a dump. What a terminal would obey is a question mark.
 pub(crate) fn put_bytes(text: &mut Vec<u8>, bytes: &[u8]) -> Result<(), AllocError> {
     for byte in bytes {
-        let shown = if *byte < 32 || *byte == 127 {
-            63
-        } else {
-            *byte
-        };
-        text.push(shown)?;
+        text.push(shown_byte(*byte))?;
     }
     Ok(())
+}
+
+fn shown_byte(byte: u8) -> u8 {
+    if byte < 32 || byte == 127 { 63 } else { byte }
 }
 
 /// Appends a number and the word for what is counted, which gets an s unless there is one.
@@ -43,7 +42,11 @@ pub(crate) fn put_count(text: &mut Vec<u8>, number: u64, word: &str) -> Result<(
     put_number(text, number)?;
     put(text, " ")?;
     put(text, word)?;
-    put(text, if number == 1 { "" } else { "s" })
+    put(text, plural(number))
+}
+
+fn plural(number: u64) -> &'static str {
+    if number == 1 { "" } else { "s" }
 }
 
 /// Appends the name of a line of the bus.
@@ -58,10 +61,14 @@ pub(crate) fn put_line(text: &mut Vec<u8>, line: u8) -> Result<(), AllocError> {
 /// Appends names of lines, each with a space before it.
 pub(crate) fn put_lines(text: &mut Vec<u8>, lines: &[u8]) -> Result<(), AllocError> {
     for line in lines {
-        put(text, " ")?;
-        put_line(text, *line)?;
+        put_next(text, *line)?;
     }
     Ok(())
+}
+
+fn put_next(text: &mut Vec<u8>, line: u8) -> Result<(), AllocError> {
+    put(text, " ")?;
+    put_line(text, line)
 }
 
 /// Appends the path of a scope; the root is a dot.
@@ -72,33 +79,38 @@ pub(crate) fn put_scope(
 ) -> Result<(), AllocError> {
     match variables.get(scope) {
         None => Ok(()),
-        Some(variable) => {
-            if variable.scope.is_empty() {
-                put(text, ".")
-            } else {
-                put_bytes(text, &variable.scope)
-            }
-        }
+        Some(variable) => put_bytes(text, path_shown(variable)),
     }
 }
 
-/// Appends the path of a variable, its range, its type and how many bits it has.
-pub(crate) fn put_variable(
-    text: &mut Vec<u8>,
-    variables: &[Variable],
-    index: usize,
-) -> Result<(), AllocError> {
-    let Some(variable) = variables.get(index) else {
-        return Ok(());
-    };
-    if !variable.scope.is_empty() {
-        put_bytes(text, &variable.scope)?;
-        put(text, ".")?;
+fn path_shown(variable: &Variable) -> &[u8] {
+    if variable.scope.is_empty() {
+        b"."
+    } else {
+        &variable.scope
     }
-    put_shape(text, variable)
 }
 
-/// Appends a variable without its scope.
+/// Appends the path of a variable.
+pub(crate) fn put_path(text: &mut Vec<u8>, variable: &Variable) -> Result<(), AllocError> {
+    put_parent(text, variable)?;
+    put_bytes(text, &variable.name)
+}
+
+fn put_parent(text: &mut Vec<u8>, variable: &Variable) -> Result<(), AllocError> {
+    if variable.scope.is_empty() {
+        Ok(())
+    } else {
+        put_dotted(text, &variable.scope)
+    }
+}
+
+fn put_dotted(text: &mut Vec<u8>, path: &[u8]) -> Result<(), AllocError> {
+    put_bytes(text, path)?;
+    put(text, ".")
+}
+
+/// Appends a variable without its scope: its name, its range, its type and how many bits it has.
 pub(crate) fn put_shape(text: &mut Vec<u8>, variable: &Variable) -> Result<(), AllocError> {
     put_bytes(text, &variable.name)?;
     put_range(text, variable.range)?;
@@ -109,18 +121,69 @@ pub(crate) fn put_shape(text: &mut Vec<u8>, variable: &Variable) -> Result<(), A
     put(text, ")")
 }
 
+/// Appends a variable with its scope, in a line of its own.
+pub(crate) fn put_variable(
+    text: &mut Vec<u8>,
+    variables: &[Variable],
+    index: usize,
+) -> Result<(), AllocError> {
+    match variables.get(index) {
+        None => Ok(()),
+        Some(variable) => put_row(text, variable),
+    }
+}
+
+fn put_row(text: &mut Vec<u8>, variable: &Variable) -> Result<(), AllocError> {
+    put(text, "  ")?;
+    put_parent(text, variable)?;
+    put_shape(text, variable)?;
+    put(text, "\n")
+}
+
 fn put_range(text: &mut Vec<u8>, written: Written) -> Result<(), AllocError> {
     match written {
         Written::Absent => Ok(()),
         Written::Unreadable => put(text, "[?]"),
-        Written::Numbers(Range { left, right }) => {
-            put(text, "[")?;
-            put_number(text, u64::from(left))?;
-            if left != right {
-                put(text, ":")?;
-                put_number(text, u64::from(right))?;
-            }
-            put(text, "]")
-        }
+        Written::Numbers(range) => put_numbers(text, range),
     }
+}
+
+fn put_numbers(text: &mut Vec<u8>, range: Range) -> Result<(), AllocError> {
+    put(text, "[")?;
+    put_number(text, u64::from(range.left))?;
+    put_right(text, range)?;
+    put(text, "]")
+}
+
+fn put_right(text: &mut Vec<u8>, range: Range) -> Result<(), AllocError> {
+    if range.left == range.right {
+        Ok(())
+    } else {
+        put_colon(text, range.right)
+    }
+}
+
+fn put_colon(text: &mut Vec<u8>, right: u32) -> Result<(), AllocError> {
+    put(text, ":")?;
+    put_number(text, u64::from(right))
+}
+
+/// Appends what a list is, its lines and the end; nothing where there is none.
+pub(crate) fn put_listed(
+    text: &mut Vec<u8>,
+    what: &str,
+    lines: &[u8],
+    end: &str,
+) -> Result<(), AllocError> {
+    if lines.is_empty() {
+        Ok(())
+    } else {
+        put_list(text, what, lines, end)
+    }
+}
+
+fn put_list(text: &mut Vec<u8>, what: &str, lines: &[u8], end: &str) -> Result<(), AllocError> {
+    put(text, what)?;
+    put_lines(text, lines)?;
+    put(text, end)
 }
