@@ -77,16 +77,12 @@ fn each_failing_call_is_told_with_status_4(rt: HostRuntime) {
 }
 
 /// Words for what is not done yet, and the text.
-const UNOFFERED: [(&str, &str); 6] = [
+const UNOFFERED: [(&str, &str); 5] = [
     ("pick|x.vcd", "pick: this is not done yet\n"),
     ("check|--at|5|x.vcd", "--at: this is not done yet\n"),
     ("check|--from|5ns|x.vcd", "--from: this is not done yet\n"),
     ("check|--to|5|x.vcd", "--to: this is not done yet\n"),
     ("check|--quiet|5|x.vcd", "--quiet: this is not done yet\n"),
-    (
-        "chekc|x.vcd",
-        "error: unrecognized subcommand 'chekc'\nthe commands: lines, check, rule; each has --help\n",
-    ),
 ];
 
 #[test]

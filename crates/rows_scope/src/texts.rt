@@ -10,7 +10,7 @@ pub(crate) const LINES: &str =
 
 /// What may stand behind `check` and `pick`.
 pub(crate) const JUDGED: &str =
-    "wanted: one DUMP, and of --scope --line --lines --without --edge --first --after";
+    "wanted: one DUMP, and of --scope --line --lines --without --edge --first --after --at --from --to --quiet";
 
 /// What may stand behind `--at`, `--from` and `--to`.
 pub(crate) const CLOCK: &str =
@@ -20,39 +20,39 @@ pub(crate) const CLOCK: &str =
 const REFUSED: [(&str, &str); 72] = [
     (
         "foo|a.vcd",
-        "2 error: unrecognized subcommand 'foo'\nthe commands: lines, check, rule; each has --help\n",
+        "2 error: unrecognized subcommand 'foo'\nthe commands: lines, check, pick, rule; each has --help\n",
     ),
     (
         "table|a.vcd",
-        "2 error: unrecognized subcommand 'table'\nthe commands: lines, check, rule; each has --help\n",
+        "2 error: unrecognized subcommand 'table'\nthe commands: lines, check, pick, rule; each has --help\n",
     ),
     (
         "stats|a.vcd",
-        "2 error: unrecognized subcommand 'stats'\nthe commands: lines, check, rule; each has --help\n",
+        "2 error: unrecognized subcommand 'stats'\nthe commands: lines, check, pick, rule; each has --help\n",
     ),
     (
         "draw|a.vcd",
-        "2 error: unrecognized subcommand 'draw'\nthe commands: lines, check, rule; each has --help\n",
+        "2 error: unrecognized subcommand 'draw'\nthe commands: lines, check, pick, rule; each has --help\n",
     ),
     (
         "vectors|a.vcd",
-        "2 error: unrecognized subcommand 'vectors'\nthe commands: lines, check, rule; each has --help\n",
+        "2 error: unrecognized subcommand 'vectors'\nthe commands: lines, check, pick, rule; each has --help\n",
     ),
     (
         "plan|a.vcd",
-        "2 error: unrecognized subcommand 'plan'\nthe commands: lines, check, rule; each has --help\n",
+        "2 error: unrecognized subcommand 'plan'\nthe commands: lines, check, pick, rule; each has --help\n",
     ),
     (
         "help",
-        "2 error: unrecognized subcommand 'help'\nthe commands: lines, check, rule; each has --help\n",
+        "2 error: unrecognized subcommand 'help'\nthe commands: lines, check, pick, rule; each has --help\n",
     ),
     (
         "Check|a.vcd",
-        "2 error: unrecognized subcommand 'Check'\nthe commands: lines, check, rule; each has --help\n",
+        "2 error: unrecognized subcommand 'Check'\nthe commands: lines, check, pick, rule; each has --help\n",
     ),
     (
         "chekc|a.vcd",
-        "2 error: unrecognized subcommand 'chekc'\nthe commands: lines, check, rule; each has --help\n",
+        "2 error: unrecognized subcommand 'chekc'\nthe commands: lines, check, pick, rule; each has --help\n",
     ),
     (
         "lines",
@@ -333,7 +333,7 @@ fn no_words_have_no_command(rt: HostRuntime) {
 
 const NO_COMMAND: &str = "\
 error: 'p6scope' requires a subcommand but one was not provided
-  [subcommands: lines, check, rule]
+  [subcommands: lines, check, pick, rule]
 ";
 
 /// Ways to ask for the version.
@@ -378,7 +378,7 @@ fn help_is_told_at_each_verb(rt: HostRuntime) {
 }
 
 /// The options of `check` and of `pick`.
-const OPTIONS: [&str; 7] = [
+const OPTIONS: [&str; 11] = [
     "--scope <PATH>",
     "--line <LINE=[!]PATH>",
     "--lines <FILE>",
@@ -386,10 +386,11 @@ const OPTIONS: [&str; 7] = [
     "--edge <EDGE>",
     "--first ",
     "--after <LINE,..>",
+    "--at <C>",
+    "--from <C>",
+    "--to <C>",
+    "--quiet <N>",
 ];
-
-/// Options that are read, and not offered yet.
-const UNOFFERED: [&str; 4] = ["--at", "--from", "--to", "--quiet"];
 
 #[test]
 fn help_lists_each_option(rt: HostRuntime) {
@@ -399,18 +400,6 @@ fn help_lists_each_option(rt: HostRuntime) {
             assert!(rt; told.as_str().contains(option), "{row} {option}");
         }
     }
-}
-
-#[test]
-fn help_offers_nothing_that_is_not_done(rt: HostRuntime) {
-    for row in ["check|--help", "pick|-h"].iter() {
-        let told = told(rt.alloc(), row).expect(&rt, "memory");
-        for option in UNOFFERED.iter() {
-            assert!(rt; !told.as_str().contains(option), "{row} {option}");
-        }
-    }
-    let told = told(rt.alloc(), "--help").expect(&rt, "memory");
-    assert!(rt; !told.as_str().contains("pick"), "{told}");
 }
 
 #[test]

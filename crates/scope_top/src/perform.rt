@@ -2,7 +2,7 @@
 
 ghost use Rattle.std.specs.Prelude.{◌≡◌, ◌≤◌, length};
 ghost use Rattle.scope_top.specs.Ends.{ending_found};
-ghost use Rattle.scope_words.specs.Orders.{KeepsLimits};
+ghost use Rattle.scope_words.specs.Orders.{KeepsLimits, KeepsWires};
 
 use crate::named::read_options;
 use crate::stop::Stop;
@@ -126,7 +126,8 @@ fn check<L: Source, S: Source, O: Sink, E: Sink>(
     out: &mut O,
     err: &mut E,
 ) -> Result<Ending, Stop>
-    requires { length name.now ≤ 4096 }
+    requires named { length name.now ≤ 4096 }
+    requires wires { KeepsWires wires }
 {
     let mut choice = wires.choice;
     if let Some(file) = wires.file {

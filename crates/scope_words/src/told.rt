@@ -153,9 +153,9 @@ fn may_stand(verb: Option<&str>) -> &'static str {
         Some("check") => JUDGED,
         Some("pick") => JUDGED,
         Some("rule") => "wanted: p6scope rule, or p6scope rule N with N from 1 to 31",
-        _ => "the commands: lines, check, rule; each has --help",
+        _ => "the commands: lines, check, pick, rule; each has --help",
     }
 }
 
 const JUDGED: &str =
-    "wanted: one DUMP, and of --scope --line --lines --without --edge --first --after";
+    "wanted: one DUMP, and of --scope --line --lines --without --edge --first --after --at --from --to --quiet";

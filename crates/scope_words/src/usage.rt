@@ -42,12 +42,10 @@ fn check<'a>(alloc: Global) -> Result<Command<'a>, AllocError> {
     with_part(alloc, with_wires(alloc, check.arg(dump(alloc))?)?)
 }
 
-// It is read, and not offered yet.
 fn pick<'a>(alloc: Global) -> Result<Command<'a>, AllocError> {
-    let pick = Command::new(alloc, "pick")
-        .display_name("p6scope")?
-        .about("Writes the lines of the bus as a dump of its own, for p6bench and any viewer")
-        .hide(true);
+    let pick = Command::new(alloc, "pick").display_name("p6scope")?.about(
+        "Writes the lines of the bus as a dump of its own, for p6bench and any viewer",
+    );
     with_part(alloc, with_wires(alloc, pick.arg(dump(alloc))?)?)
 }
 
@@ -115,7 +113,7 @@ fn with_edge<'a>(alloc: Global, verb: Command<'a>) -> Result<Command<'a>, AllocE
         .arg(after.help_heading(WIRES))
 }
 
-// The options that say which clocks are judged. They are read, and not offered yet.
+// The options that say which clocks are judged.
 fn with_part<'a>(alloc: Global, verb: Command<'a>) -> Result<Command<'a>, AllocError> {
     let at = Arg::new(alloc, "at").long("at").value_name("C").help(
         "Judges exactly from here on: a clock number, or a time as 285ns",
@@ -130,8 +128,8 @@ fn with_part<'a>(alloc: Global, verb: Command<'a>) -> Result<Command<'a>, AllocE
     let quiet = Arg::new(alloc, "quiet").long("quiet").value_name("N").help(
         "How many clocks without an asserted line make a quiet one [default: 32]",
     );
-    verb.arg(at.help_heading(PART).hide(true))?
-        .arg(from.help_heading(PART).hide(true))?
-        .arg(to.help_heading(PART).hide(true))?
-        .arg(quiet.help_heading(PART).hide(true))
+    verb.arg(at.help_heading(PART))?
+        .arg(from.help_heading(PART))?
+        .arg(to.help_heading(PART))?
+        .arg(quiet.help_heading(PART))
 }
