@@ -12,6 +12,14 @@ place_text time None = []
 place_text time (Some stamp) =
     codes ", " ++ time ++ codes " (line " ++ decimal stamp.line ++ codes " of the file)"
 
+-- a broken clock: `rejected at clock <clock>, <time> (line <line> of the file)`
+abbrev pub clock_text : ℕ → List ℕ → Option Stamp → List ℕ
+clock_text clock time stamp = codes "rejected at clock " ++ decimal clock ++ place_text time stamp
+
+-- a broken rule: `: rule <rule>, <title>`
+abbrev pub rule_text : ℕ → List ℕ → List ℕ
+rule_text rule title = codes ": rule " ++ decimal rule ++ codes ", " ++ title
+
 -- a verdict on so many judged clocks, where the time of the broken clock and the title of the rule have these texts:
 -- `accepted: <judged> of <clocks> clocks judged`, or
 -- `rejected at clock <clock>, <time> (line <line> of the file): rule <rule>, <title>`
@@ -20,8 +28,7 @@ verdict_in judged clocks time title verdicts.Nothing = codes "nothing could be j
 verdict_in judged clocks time title verdicts.Accepted =
     codes "accepted: " ++ decimal judged ++ codes " of " ++ decimal clocks ++ codes " clocks judged"
 verdict_in judged clocks time title (verdicts.Broken clock rule stamp) =
-    codes "rejected at clock " ++ decimal clock ++ place_text time stamp ++ codes ": rule "
-    ++ decimal rule ++ codes ", " ++ title
+    clock_text clock time stamp ++ rule_text rule title
 
 -- the verdict on what was judged
 unfoldable pub verdict_text : Judged → List ℕ → List ℕ → List ℕ

@@ -73,7 +73,7 @@ pub(crate) fn put_home(
 ) -> Result<(), AllocError> {
     match home {
         Home::At(scope) => put_scope(text, variables, scope),
-        _ => put(text, "the lines that are named"),
+        _ => put(text, "the named wires"),
     }
 }
 

@@ -91,9 +91,11 @@ fn put_scaled(text: &mut Vec<u8>, count: u64, unit: usize) -> Result<(), AllocEr
 fn scaled(count: u64, unit: usize) -> (u64, usize) {
     let mut count = count;
     let mut unit = unit;
-    while is_larger_whole(count, unit) {
-        count /= 1000;
-        unit = unit.saturating_sub(1);
+    for _ in 0..5u8 {
+        if is_larger_whole(count, unit) {
+            count /= 1000;
+            unit = unit.saturating_sub(1);
+        }
     }
     (count, unit)
 }

@@ -1,7 +1,7 @@
 //! The line of a verdict.
 
 ghost use Rattle.std.specs.Prelude.{◌≡◌, ◌++◌, OnOk};
-ghost use Rattle.scope_report.specs.VerdictText.{place_text, verdict_text};
+ghost use Rattle.scope_report.specs.VerdictText.{clock_text, place_text, rule_text, verdict_text};
 
 use crate::text::{put, put_number};
 use scope_check::{Judged, Verdict};
@@ -31,15 +31,33 @@ pub fn put_verdict(
             put(text, " clocks judged")
         }
         Verdict::Broken { clock, rule, stamp } => {
-            put(text, "rejected at clock ")?;
-            put_number(text, clock)?;
-            put_place(text, time, stamp)?;
-            put(text, ": rule ")?;
-            put_number(text, u64::from(rule))?;
-            put(text, ", ")?;
-            put(text, title)
+            put_clock(text, clock, time, stamp)?;
+            put_rule(text, rule, title)
         }
     }
+}
+
+fn put_clock(
+    text: &mut Vec<u8>,
+    clock: u64,
+    time: &[u8],
+    stamp: Option<Stamp>,
+) -> Result<(), AllocError>
+    ensures { OnOk result
+        (text.new.items ≡ text.old.items ++ clock_text clock time.now stamp) }
+{
+    put(text, "rejected at clock ")?;
+    put_number(text, clock)?;
+    put_place(text, time, stamp)
+}
+
+fn put_rule(text: &mut Vec<u8>, rule: u8, title: &str) -> Result<(), AllocError>
+    ensures { OnOk result (text.new.items ≡ text.old.items ++ rule_text rule title.now) }
+{
+    put(text, ": rule ")?;
+    put_number(text, u64::from(rule))?;
+    put(text, ", ")?;
+    put(text, title)
 }
 
 fn put_place(text: &mut Vec<u8>, time: &[u8], stamp: Option<Stamp>) -> Result<(), AllocError>
