@@ -51,12 +51,12 @@ pub(crate) struct Came {
 }
 
 /// Does what the words of a row ask for, with a bar between them, over this dump and this file of `--lines`.
-pub(crate) fn came(alloc: Global, row: &str, dump: &str, named: &str) -> Result<Came, Memory> {
-    came_failing(alloc, row, dump, named, &[], &[])
+pub(crate) fn done(alloc: Global, row: &str, dump: &str, named: &str) -> Result<Came, Memory> {
+    done_failing(alloc, row, dump, named, &[], &[])
 }
 
 /// The same, where these calls of the source of the dump and of the sink of the answer fail.
-pub(crate) fn came_failing(
+pub(crate) fn done_failing(
     alloc: Global,
     row: &str,
     dump: &str,

@@ -1,6 +1,6 @@
 //! What is said of a dump that is judged.
 
-use crate::dumps::{BUS, END, IDLE, came, clocks};
+use crate::dumps::{BUS, END, IDLE, clocks, done};
 use std::alloc::{AllocError, Global};
 use std::test::Fail;
 
@@ -56,7 +56,7 @@ fn each_verdict_has_its_text(rt: HostRuntime) {
     let alloc = rt.alloc();
     for (row, values, status, wanted) in VERDICTS.iter() {
         let text = dump(alloc, values, 0, 5).expect(&rt, "memory");
-        let came = came(alloc, row, text.as_str(), "").expect(&rt, "memory");
+        let came = done(alloc, row, text.as_str(), "").expect(&rt, "memory");
         assert_eq!(rt; came.status, *status, "{row}");
         assert_eq!(rt; came.err.as_str(), "", "{row}");
         let (first, rest) = came.out.as_str().split_once("\n").expect(&rt, "no line");
@@ -74,7 +74,7 @@ fn the_report_begins_with_the_wires(rt: HostRuntime) {
         ("check|--without|D_n|x.vcd", "tb.dut of x.vcd: 11 lines; "),
     ];
     for (row, wanted) in rows.iter() {
-        let came = came(alloc, row, text.as_str(), "").expect(&rt, "memory");
+        let came = done(alloc, row, text.as_str(), "").expect(&rt, "memory");
         assert!(rt; came.out.as_str().starts_with(wanted), "{row}");
         assert!(rt; came.out.as_str().contains(NOT_THERE.trim_end()), "{row}");
         let left = came.out.as_str().contains("; left out: D_n\n");
@@ -90,7 +90,7 @@ fn a_reset_before_the_first_judged_clock_is_told(rt: HostRuntime) {
     let clocks = clocks(alloc, 3, 4).expect(&rt, "memory");
     let reset = "1a 1b 1e 1f b111 g 1h 1i 1j\n";
     let text = format!(in alloc; "{BUS}{END}{values}{before}{reset}{clocks}").expect(&rt, "memory");
-    let came = came(alloc, "check|x.vcd", text.as_str(), "").expect(&rt, "memory");
+    let came = done(alloc, "check|x.vcd", text.as_str(), "").expect(&rt, "memory");
     assert_eq!(rt; came.status, 0);
     let (_, rest) = came.out.as_str().split_once("\n").expect(&rt, "no line");
     assert_eq!(rt; rest, AFTER_RESET);
@@ -108,7 +108,7 @@ fn a_stop_of_the_dump_is_told(rt: HostRuntime) {
     let behind = clocks(alloc, 3, 2).expect(&rt, "memory");
     let off = "$dumpoff x! $end\n#32\n$dumpon 0! 1a 1b 1e 1f b111 g 1h 1i 1j $end\n";
     let text = format!(in alloc; "{BUS}{END}{IDLE}{before}{off}{behind}").expect(&rt, "memory");
-    let came = came(alloc, "check|x.vcd", text.as_str(), "").expect(&rt, "memory");
+    let came = done(alloc, "check|x.vcd", text.as_str(), "").expect(&rt, "memory");
     assert_eq!(rt; came.status, 0);
     let (_, rest) = came.out.as_str().split_once("\n").expect(&rt, "no line");
     assert_eq!(rt; rest, STOPPED);
@@ -124,7 +124,7 @@ clock 3 and those after it are not judged: the dump stopped before it
 fn a_clock_without_an_edge_leaves_nothing_to_judge(rt: HostRuntime) {
     let alloc = rt.alloc();
     let text = dump(alloc, IDLE, 0, 0).expect(&rt, "memory");
-    let came = came(alloc, "check|x.vcd", text.as_str(), "").expect(&rt, "memory");
+    let came = done(alloc, "check|x.vcd", text.as_str(), "").expect(&rt, "memory");
     assert_eq!(rt; came.status, 3);
     let (_, rest) = came.out.as_str().split_once("\n").expect(&rt, "no line");
     assert_eq!(rt; rest, NO_EDGE);

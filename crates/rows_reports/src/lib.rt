@@ -2,7 +2,7 @@
 //!
 //! `dumps` has the parts of small dumps, and does an order over one of them. `refused` has each cause against the wires,
 //! `judged` each verdict, `unread` the faults of a dump, the calls that fail and the wrong words, `told` the texts of
-//! `lines` and `rule`. `options` has files of `--lines`.
+//! `lines` and `rule`. `options` has files of `--lines`, `tools` a dump that a tool wrote.
 //!
 //! Nothing is promised. Read scope_top next.
 #![tactic(auto)]
@@ -17,5 +17,7 @@ mod options;
 mod refused;
 #[cfg(test)]
 mod told;
+#[cfg(test)]
+mod tools;
 #[cfg(test)]
 mod unread;

@@ -1,6 +1,6 @@
 //! Files of `--lines`.
 
-use crate::dumps::{BUS, END, IDLE, came, clocks};
+use crate::dumps::{BUS, END, IDLE, clocks, done};
 use std::test::Fail;
 
 /// Files, and the status and the text of a check with them.
@@ -30,7 +30,7 @@ fn a_file_names_lines_as_options_do(rt: HostRuntime) {
     let clocks = clocks(alloc, 0, 5).expect(&rt, "memory");
     let text = format!(in alloc; "{BUS}{END}{IDLE}{clocks}").expect(&rt, "memory");
     for (file, status, wanted) in FILES.iter() {
-        let came = came(alloc, "check|--lines|my.lines|x.vcd", text.as_str(), file).expect(
+        let came = done(alloc, "check|--lines|my.lines|x.vcd", text.as_str(), file).expect(
             &rt, "memory",
         );
         assert_eq!(rt; came.err.as_str(), *wanted, "{file}");

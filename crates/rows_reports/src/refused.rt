@@ -1,6 +1,6 @@
 //! What is said where the wires are not picked.
 
-use crate::dumps::{BUS, END, IDLE, came, clocks};
+use crate::dumps::{BUS, END, IDLE, clocks, done};
 use std::alloc::{AllocError, Global};
 use std::test::Fail;
 
@@ -46,7 +46,7 @@ const CAUSES: [(&str, &str, &str); 10] = [
     ),
     (
         "check|--scope|tb.mon|x.vcd",
-        "$var wire 1 B bclk $end\n$var wire 1 C ads $end\n$var wire 2 D rs_n [1:0] $end\n$var wire 1 E hit_n $end\n$var wire 1 F hit_l $end\n$var wire 1 G hit_b $end\n$var wire 1 H hitm# $end\n$var wire 1 I hitm_l $end\n",
+        "$var wire 1 B bclk $end\n$var wire 1 C ads $end\n$var wire 2 D rs_n [1:0] $end\n$var wire 1 E HIT_n $end\n$var wire 1 F hit_l $end\n$var wire 1 G hit_b $end\n$var wire 1 H hitm# $end\n$var wire 1 I hitm_l $end\n",
         LACKING,
     ),
     (
@@ -95,7 +95,7 @@ fn each_cause_has_its_text(rt: HostRuntime) {
     let alloc = rt.alloc();
     for (row, beside, wanted) in CAUSES.iter() {
         let text = dump(alloc, "", beside).expect(&rt, "memory");
-        let came = came(alloc, row, text.as_str(), "").expect(&rt, "memory");
+        let came = done(alloc, row, text.as_str(), "").expect(&rt, "memory");
         assert_eq!(rt; came.err.as_str(), *wanted, "{row}");
         assert_eq!(rt; came.out.as_str(), "", "{row}");
         assert_eq!(rt; came.status, 3, "{row}");
@@ -130,7 +130,7 @@ fn no_whole_bus_is_told_with_what_looks_alike(rt: HostRuntime) {
         let wanted = wanted
             .replace(alloc, "NAME_ALL", NAME_ALL)
             .expect(&rt, "memory");
-        let came = came(alloc, "check|x.vcd", text.as_str(), "").expect(&rt, "memory");
+        let came = done(alloc, "check|x.vcd", text.as_str(), "").expect(&rt, "memory");
         assert_eq!(rt; came.err.as_str(), wanted.as_str());
         assert_eq!(rt; came.status, 3);
     }

@@ -1,6 +1,6 @@
 //! What is said of a dump that is not read, and of words that are not done.
 
-use crate::dumps::{BUS, END, IDLE, came, came_failing};
+use crate::dumps::{BUS, END, IDLE, done, done_failing};
 use std::test::Fail;
 
 /// What stands behind a header, and the text; each ends with status 3.
@@ -29,7 +29,7 @@ fn each_fault_has_its_text(rt: HostRuntime) {
     let alloc = rt.alloc();
     for (values, wanted) in FAULTS.iter() {
         let text = format!(in alloc; "{BUS}{END}{values}").expect(&rt, "memory");
-        let came = came(alloc, "check|x.vcd", text.as_str(), "").expect(&rt, "memory");
+        let came = done(alloc, "check|x.vcd", text.as_str(), "").expect(&rt, "memory");
         assert_eq!(rt; came.err.as_str(), *wanted, "{values}");
         assert_eq!(rt; came.out.as_str(), "", "{values}");
         assert_eq!(rt; came.status, 3, "{values}");
@@ -40,10 +40,10 @@ fn each_fault_has_its_text(rt: HostRuntime) {
 fn a_header_that_does_not_follow_the_form_is_told(rt: HostRuntime) {
     let alloc = rt.alloc();
     for row in ["check|x.vcd", "lines|x.vcd"].iter() {
-        let bad = came(alloc, row, "$var wire 1 $end\n", "").expect(&rt, "memory");
+        let bad = done(alloc, row, "$var wire 1 $end\n", "").expect(&rt, "memory");
         assert_eq!(rt; bad.err.as_str(), BAD_HEADER, "{row}");
         assert_eq!(rt; bad.status, 3, "{row}");
-        let none = came(alloc, row, "", "").expect(&rt, "memory");
+        let none = done(alloc, row, "", "").expect(&rt, "memory");
         assert!(rt;
             none.err
                 .as_str()
@@ -63,14 +63,14 @@ fn each_failing_call_is_told_with_status_4(rt: HostRuntime) {
     let text = format!(in alloc; "{BUS}{END}{IDLE}").expect(&rt, "memory");
     for row in ["check|x.vcd", "lines|x.vcd"].iter() {
         for call in [0u32, 1].iter() {
-            let came = came_failing(alloc, row, text.as_str(), "", &[*call], &[]).expect(
+            let came = done_failing(alloc, row, text.as_str(), "", &[*call], &[]).expect(
                 &rt, "memory",
             );
             assert_eq!(rt; came.err.as_str(), "Dump", "{row}");
             assert_eq!(rt; came.out.as_str(), "", "{row}");
             assert_eq!(rt; came.status, 4, "{row}");
         }
-        let came = came_failing(alloc, row, text.as_str(), "", &[], &[0]).expect(&rt, "memory");
+        let came = done_failing(alloc, row, text.as_str(), "", &[], &[0]).expect(&rt, "memory");
         assert_eq!(rt; came.err.as_str(), "Out", "{row}");
         assert_eq!(rt; came.status, 4, "{row}");
     }
@@ -88,7 +88,7 @@ const UNOFFERED: [(&str, &str); 5] = [
 #[test]
 fn what_is_not_done_is_refused(rt: HostRuntime) {
     for (row, wanted) in UNOFFERED.iter() {
-        let came = came(rt.alloc(), row, "", "").expect(&rt, "memory");
+        let came = done(rt.alloc(), row, "", "").expect(&rt, "memory");
         assert_eq!(rt; came.err.as_str(), *wanted, "{row}");
         assert_eq!(rt; came.out.as_str(), "", "{row}");
         assert_eq!(rt; came.status, 2, "{row}");

@@ -8,11 +8,11 @@
 #![tactic(auto)]
 
 pub use named::{LineFault, read_options};
-pub use perform::{ending_found, perform};
+pub use orders::{ending_found, perform};
 pub use stop::{Stop, ending_at};
-pub use unoffered::unoffered;
+pub use undone::unoffered;
 
 mod named;
-mod perform;
+mod orders;
 mod stop;
-mod unoffered;
+mod undone;

@@ -6,7 +6,7 @@ ghost use Rattle.scope_words.specs.Orders.{KeepsLimits, KeepsWires};
 
 use crate::named::read_options;
 use crate::stop::Stop;
-use crate::unoffered::unoffered;
+use crate::undone::unoffered;
 use fsb_io::{Failed, ReadStop, Sink, Source, put_all, read_all};
 use scope_report::{
     Ending, check_text, ending_of, fault_text, limit_text, lines_text, refusal_text, rule_list,
