@@ -135,3 +135,53 @@ nothing could be judged: BCLK has no edge that samples
   A clock that is high when it is first seen has an edge there with --first; --edge fall samples at
   falling edges; --line BCLK=PATH names another clock.
 ";
+
+/// Words, a dump behind its header, and the verdict.
+const SAMPLED: [(&str, &str, &str); 6] = [
+    (
+        "check|x.vcd",
+        "IDLE#5\n1!\n#10\n0!\n#15\n1!\n",
+        "accepted: 2 of 2 clocks judged",
+    ),
+    (
+        "check|--edge|fall|x.vcd",
+        "IDLE#5\n1!\n#10\n0!\n#15\n1!\n",
+        "accepted: 1 of 1 clocks judged",
+    ),
+    (
+        "check|x.vcd",
+        "HIGH#5\n0!\n#10\n1!\n",
+        "accepted: 1 of 1 clocks judged",
+    ),
+    (
+        "check|--first|x.vcd",
+        "HIGH#5\n0!\n#10\n1!\n",
+        "accepted: 2 of 2 clocks judged",
+    ),
+    (
+        "check|x.vcd",
+        "IDLE#5\n1!\n#10\n0!\n#15\n1! 0b\n#20\n0! 1b\n#25\n1!\n",
+        "accepted: 3 of 3 clocks judged",
+    ),
+    (
+        "check|--after|ADS_n|x.vcd",
+        "IDLE#5\n1!\n#10\n0!\n#15\n1! 0b\n#20\n0! 1b\n#25\n1!\n",
+        "rejected at clock 1, 15 ns (line 26 of the file): rule 2, request spacing",
+    ),
+];
+
+#[test]
+fn the_lines_are_sampled_as_the_options_say(rt: HostRuntime) {
+    let alloc = rt.alloc();
+    for (row, values, wanted) in SAMPLED.iter() {
+        let high = IDLE.replace(alloc, "0!", "1!").expect(&rt, "memory");
+        let values = values.replace(alloc, "IDLE", IDLE).expect(&rt, "memory");
+        let values = values
+            .replace(alloc, "HIGH", high.as_str())
+            .expect(&rt, "memory");
+        let text = format!(in alloc; "{BUS}{END}{values}").expect(&rt, "memory");
+        let came = done(alloc, row, text.as_str(), "").expect(&rt, "memory");
+        let verdict = came.out.as_str().lines().nth(1);
+        assert_eq!(rt; verdict, Some(*wanted), "{row}");
+    }
+}
