@@ -43,7 +43,7 @@ fn take_line(
     line: &[u8],
     options: &mut Vec<LineOption>,
 ) -> Result<bool, AllocError> {
-    let word = without_blanks_behind(without_blanks(line));
+    let word = line.trim_ascii();
     if is_note(word) {
         return Ok(true);
     }
@@ -61,30 +61,4 @@ fn is_note(word: &[u8]) -> bool {
         None => true,
         Some(first) => *first == 35,
     }
-}
-
-fn is_blank(byte: u8) -> bool {
-    byte == 32 || byte == 9 || byte == 13
-}
-
-fn without_blanks(line: &[u8]) -> &[u8] {
-    let mut rest = line;
-    while let Some((first, more)) = rest.split_first() {
-        if !is_blank(*first) {
-            return rest;
-        }
-        rest = more;
-    }
-    rest
-}
-
-fn without_blanks_behind(line: &[u8]) -> &[u8] {
-    let mut rest = line;
-    while let Some((last, before)) = rest.split_last() {
-        if !is_blank(*last) {
-            return rest;
-        }
-        rest = before;
-    }
-    rest
 }

@@ -37,20 +37,43 @@ pub fn perform<L: Source, S: Source, O: Sink, E: Sink>(
 ) -> Result<Ending, Stop>
     requires { KeepsLimits order }
 {
-    if let Some(what) = unoffered(&order) {
-        let text = unread_text(alloc, what, "this is not done yet")?;
-        tell(err, &text)?;
-        return Ok(Ending::BadWords);
+    match unoffered(&order) {
+        Some(what) => refuse(alloc, what, err),
+        None => obey(alloc, order, named, dump, out, err),
     }
+}
+
+// Tells that something is not done yet.
+fn refuse<E: Sink>(alloc: Global, what: &str, err: &mut E) -> Result<Ending, Stop> {
+    let text = unread_text(alloc, what, "this is not done yet")?;
+    tell(err, &text)?;
+    Ok(Ending::BadWords)
+}
+
+// Does what the order asks for, whose options are done.
+fn obey<L: Source, S: Source, O: Sink, E: Sink>(
+    alloc: Global,
+    order: Order<'_>,
+    named: &mut L,
+    dump: &mut S,
+    out: &mut O,
+    err: &mut E,
+) -> Result<Ending, Stop>
+    requires { KeepsLimits order }
+{
     match order {
         Order::Rule { number } => tell_rule(alloc, out, number),
         Order::Lines { dump: name } => tell_lines(alloc, name, dump, out, err),
         Order::Check {
             wires,
+            part: _part,
             dump: name,
-            ..
-        } => { check(alloc, name, wires, named, dump, out, err) }
-        Order::Pick { .. } => Ok(Ending::BadWords),
+        } => check(alloc, name, wires, named, dump, out, err),
+        Order::Pick {
+            wires: _wires,
+            part: _part,
+            dump: _name,
+        } => Ok(Ending::BadWords),
     }
 }
 
