@@ -1,0 +1,189 @@
+//! The program `p6scope`: the real files and standard output under the top call.
+#![tactic(auto)]
+
+ghost use Rattle.std.specs.Prelude.{◌≡◌, ◌≢◌, IfErr};
+ghost use Rattle.std.specs.IoError.{error_kind};
+ghost use Rattle.std.specs.Process.{exit_status};
+ghost use Rattle.scope_report.specs.Endings.{status_of};
+ghost use Rattle.scope_top.specs.Ends.{ending_at};
+ghost use Rattle.scope_words.specs.Orders.{KeepsLimits};
+
+use fsb_io::{FileSource, Memory, Sink, StdoutSink, put_all};
+use scope_report::{Ending, status, unread_text};
+use scope_top::{Stop, ending_at, perform};
+use scope_words::{Order, Reading, Told, read_order};
+use std::alloc::{AllocError, Global};
+use std::env::Args;
+use std::fs;
+use std::io::{self, ErrorKind, Read};
+use std::process::ExitCode;
+use std::rt::{Env, Files};
+
+fn main(rt: HostRuntime) -> ExitCode {
+    // Standard error has no name, as standard output has none, and is written in the same way.
+    let stderr = rt.stderr();
+    exit(run(&rt, &mut StdoutSink::new(&stderr)))
+}
+
+// The end of the program.
+fn exit(ending: Ending) -> ExitCode
+    ensures { exit_status result ≡ status_of ending }
+{
+    ExitCode::from(status(ending))
+}
+
+// Does what the program's words ask for.
+fn run<E: Sink>(rt: &(impl Files + Env + Print + AllocGlobal), err: &mut E) -> Ending {
+    match words_of(rt) {
+        Err(ending) => {
+            warn(
+                err,
+                b"p6scope: its words could not be had: memory lacks, or they are no text\n",
+            );
+            ending
+        }
+        Ok(words) => match read_order(rt.alloc(), &words) {
+            Err(Memory) => ended(rt, Err(Stop::Memory), "", "", err),
+            Ok(Reading::Told(told)) => print_told(rt, &told, err),
+            Ok(Reading::Order(order)) => obey(rt, order, err),
+        },
+    }
+}
+
+// Writes to standard error, as far as that can be written.
+fn warn<E: Sink>(err: &mut E, text: &[u8]) {
+    let _ = put_all(err, text);
+}
+
+// Prints a text that stands in place of an order.
+fn print_told<E: Sink>(
+    rt: &(impl Files + Print + AllocGlobal),
+    told: &Told,
+    err: &mut E,
+) -> Ending {
+    let text = told.text.as_bytes();
+    if told.is_error {
+        warn(err, text);
+        return Ending::BadWords;
+    }
+    match put_all(&mut StdoutSink::new(rt), text) {
+        Ok(()) => Ending::Clean,
+        Err(_) => ended(rt, Err(Stop::Out), "", "", err),
+    }
+}
+
+// Does what an order asks for.
+fn obey<E: Sink>(rt: &(impl Files + Print + AllocGlobal), order: Order<'_>, err: &mut E) -> Ending
+    requires { KeepsLimits order }
+{
+    let dump = dump_of(&order);
+    let lines = lines_of(&order);
+    let end = perform(
+        rt.alloc(),
+        order,
+        &mut FileSource::new(rt),
+        &mut FileSource::new(rt),
+        &mut StdoutSink::new(rt),
+        err,
+    );
+    ended(rt, end, lines, dump, err)
+}
+
+// The name of the dump of an order.
+fn dump_of<'a>(order: &Order<'a>) -> &'a str {
+    match order {
+        Order::Lines { dump } => *dump,
+        Order::Check { dump, .. } => *dump,
+        Order::Pick { dump, .. } => *dump,
+        Order::Rule { .. } => "",
+    }
+}
+
+// The name of the file of `--lines`.
+fn lines_of<'a>(order: &Order<'a>) -> &'a str {
+    match order {
+        Order::Check { wires, .. } => wires.file.unwrap_or(""),
+        Order::Pick { wires, .. } => wires.file.unwrap_or(""),
+        Order::Lines { .. } | Order::Rule { .. } => "",
+    }
+}
+
+// The end of a command: where it did not come to its end, why is told.
+fn ended<E: Sink>(
+    rt: &(impl Files + AllocGlobal),
+    end: Result<Ending, Stop>,
+    lines: &str,
+    dump: &str,
+    err: &mut E,
+) -> Ending
+    ensures { result ≡ ending_at end }
+{
+    match end {
+        Ok(_) => {}
+        Err(Stop::Memory) => warn(err, b"p6scope: out of memory\n"),
+        Err(Stop::Out) => warn(err, b"p6scope: its text could not be written\n"),
+        Err(Stop::Lines) => warn_unread(rt, lines, err),
+        Err(Stop::Dump) => warn_unread(rt, dump, err),
+    }
+    ending_at(end)
+}
+
+// Tells that a file was not read, with the reason of the system.
+fn warn_unread<E: Sink>(rt: &(impl Files + AllocGlobal), name: &str, err: &mut E) {
+    match unread(rt, name) {
+        Ok(text) => warn(err, &text),
+        Err(AllocError) => warn(err, b"p6scope: a file could not be read\n"),
+    }
+}
+
+fn unread(rt: &(impl Files + AllocGlobal), name: &str) -> Result<Vec<u8>, AllocError> {
+    let reason = reason(rt, name)?;
+    unread_text(rt.alloc(), name, reason.as_str())
+}
+
+// Why a file cannot be read: what the system says where it is tried once more.
+fn reason(rt: &(impl Files + AllocGlobal), name: &str) -> Result<String, AllocError> {
+    let alloc = rt.alloc();
+    match fs::open(rt, name) {
+        Err(error) => format!(in alloc; "{error}"),
+        Ok(mut file) => match file.read(&mut [0; 1]) {
+            Err(error) => format!(in alloc; "{error}"),
+            Ok(_) => String::from_str(alloc, "reading failed"),
+        },
+    }
+}
+
+// The words that the program was called with.
+fn words_of(rt: &(impl Env + AllocGlobal)) -> Result<Vec<String>, Ending> {
+    match std::env::args(rt) {
+        Ok(args) => match words_after_name(rt.alloc(), args) {
+            Ok(words) => Ok(words),
+            Err(AllocError) => Err(Ending::NoMemory),
+        },
+        Err(error) => Err(no_words(error.kind())),
+    }
+}
+
+// The end of a call whose words could not be had: memory lacked, or they are no text.
+fn no_words(kind: ErrorKind) -> Ending
+    ensures memory { kind ≡ ErrorKind.OutOfMemory → result ≡ Ending.NoMemory }
+    ensures no_text { kind ≢ ErrorKind.OutOfMemory → result ≡ Ending.BadWords }
+{
+    if kind == ErrorKind::OutOfMemory {
+        Ending::NoMemory
+    } else {
+        Ending::BadWords
+    }
+}
+
+// The words after the program's name.
+fn words_after_name(alloc: Global, mut args: Args) -> Result<Vec<String>, AllocError> {
+    let mut words = Vec::new(alloc);
+    if args.next().is_none() {
+        return Ok(words);
+    }
+    for word in args {
+        words.push(word)?;
+    }
+    Ok(words)
+}

@@ -1,0 +1,23 @@
+//! Tests of p6scope's top call, with texts that were worked out by hand.
+//!
+//! `dumps` has the parts of small dumps, and does an order over one of them. `refused` has each cause against the wires,
+//! `judged` each verdict, `unread` the faults of a dump, the calls that fail and the wrong words, `told` the texts of
+//! `lines` and `rule`. `options` has files of `--lines`, `tools` a dump that a tool wrote.
+//!
+//! Nothing is promised. Read scope_top next.
+#![tactic(auto)]
+
+#[cfg(test)]
+mod dumps;
+#[cfg(test)]
+mod judged;
+#[cfg(test)]
+mod options;
+#[cfg(test)]
+mod refused;
+#[cfg(test)]
+mod told;
+#[cfg(test)]
+mod tools;
+#[cfg(test)]
+mod unread;

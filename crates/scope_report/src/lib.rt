@@ -1,0 +1,30 @@
+//! What p6scope says of a dump, as text, and how each of its commands ends.
+//!
+//! `lines_text` tells what a dump declares, `check_text` what was judged and found, `refusal_text` why the wires are not
+//! picked and what helps, `fault_text` and its siblings why a dump was not read. Nothing is read here. `status` is the
+//! exit status: 0 only where a clock was judged and no rule is broken, or where what was asked for was printed.
+//!
+//! The line of a verdict has its text in `specs/`; the other texts are tested, in rows_reports.
+//!
+//! Next: scope_wiring and scope_check, whose answers these are.
+#![tactic(auto)]
+
+pub use check::check_text;
+pub use ending::{Ending, ending_of, status};
+pub use fault::{fault_text, limit_text, unread_text};
+pub use lines::lines_text;
+pub use refusal::refusal_text;
+pub use rules::{rule_list, rule_text};
+pub use scale::Scale;
+pub use verdict::put_verdict;
+
+mod check;
+mod ending;
+mod fault;
+mod lines;
+mod refusal;
+mod rules;
+mod scale;
+mod scopes;
+mod text;
+mod verdict;

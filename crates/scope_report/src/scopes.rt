@@ -1,0 +1,414 @@
+//! What a scope has of the bus, and what lacks.
+
+use crate::text::{put, put_line, put_listed, put_number, put_path, put_scope, put_shape};
+use scope_pick::{
+    Named, Variable, ambiguous_lines, found_in, is_line_needed, is_listed, line_named, named_lines,
+    other_names, unfit_lines, unfound_lines, without_escape,
+};
+use scope_wiring::found_count;
+use std::alloc::{AllocError, Global};
+
+/// The lines by their numbers.
+const LINES: [u8; 22] = [
+    0, 1, 2, 3, 4, 5, 6, 7, 8, 9, 10, 11, 12, 13, 14, 15, 16, 17, 18, 19, 20, 21,
+];
+
+/// A variable that is not named like a line, but nearly so.
+#[derive(Clone, Copy, Debug)]
+struct Near {
+    index: usize,
+    line: u8,
+}
+
+/// The variables of a header, and how they are named.
+#[derive(Drop)]
+pub(crate) struct Heading<'a> {
+    pub(crate) alloc: Global,
+    pub(crate) variables: &'a [Variable],
+    pub(crate) names: Vec<Named>,
+    /// Those that are named like lines and cannot be them.
+    unfit: Vec<Named>,
+    near: Vec<Near>,
+}
+
+impl<'a> Heading<'a> {
+    /// How these variables are named.
+    pub(crate) fn new(alloc: Global, variables: &'a [Variable]) -> Result<Self, AllocError> {
+        Ok(Heading {
+            alloc,
+            variables,
+            names: named_lines(alloc, variables)?,
+            unfit: unfit_lines(alloc, variables)?,
+            near: near_lines(alloc, variables)?,
+        })
+    }
+
+    /// Appends how many needed lines a scope has.
+    pub(crate) fn put_counts(&self, text: &mut Vec<u8>, scope: usize) -> Result<(), AllocError> {
+        put_scope(text, self.variables, scope)?;
+        put_share(text, found_count(&self.names, &[], scope), needed_count())?;
+        put(text, " needed lines\n")
+    }
+
+    /// Appends the lines that a scope has.
+    pub(crate) fn put_found(&self, text: &mut Vec<u8>, scope: usize) -> Result<(), AllocError> {
+        for line in &LINES {
+            self.put_found_line(text, *line, found_in(&self.names, scope, *line))?;
+        }
+        Ok(())
+    }
+
+    fn put_found_line(
+        &self,
+        text: &mut Vec<u8>,
+        line: u8,
+        found: Option<Named>,
+    ) -> Result<(), AllocError> {
+        match found {
+            None => Ok(()),
+            Some(name) => self.put_taken(text, line, name),
+        }
+    }
+
+    fn put_taken(&self, text: &mut Vec<u8>, line: u8, name: Named) -> Result<(), AllocError> {
+        put(text, "  ")?;
+        put_line(text, line)?;
+        put(text, " = ")?;
+        self.put_named(text, name)?;
+        put(text, "\n")
+    }
+
+    fn put_named(&self, text: &mut Vec<u8>, name: Named) -> Result<(), AllocError> {
+        match self.variables.get(name.index) {
+            None => Ok(()),
+            Some(variable) => put_known(text, variable, name.is_split),
+        }
+    }
+
+    /// Appends the lines that a scope has not and need not have.
+    pub(crate) fn put_absent(&self, text: &mut Vec<u8>, scope: usize) -> Result<(), AllocError> {
+        let lacking = self.lacking(&[], scope, false)?;
+        put_listed(text, "  not there:", &lacking, "\n")
+    }
+
+    /// Appends what lacks of a scope, but for the settled lines: the needed lines that are not found, those that several
+    /// variables may be, and the variables that look like them.
+    pub(crate) fn put_gaps(
+        &self,
+        text: &mut Vec<u8>,
+        settled: &[u8],
+        scope: usize,
+    ) -> Result<(), AllocError> {
+        let lacking = self.lacking(settled, scope, true)?;
+        put_listed(text, "  missing:", &lacking, "\n")?;
+        self.put_ambiguous(text, settled, scope)?;
+        self.put_unfit(text, settled, scope)?;
+        self.put_near_of(text, Some(scope), &lacking)
+    }
+
+    /// Appends the variables that look like lines, wherever they stand.
+    pub(crate) fn put_all_near(&self, text: &mut Vec<u8>) -> Result<(), AllocError> {
+        self.put_near_of(text, None, &LINES)
+    }
+
+    // The lines that are not found in a scope and are not ambiguous: those that are needed, or the others.
+    fn lacking(&self, settled: &[u8], scope: usize, needed: bool) -> Result<Vec<u8>, AllocError> {
+        let unfound = unfound_lines(self.alloc, &self.names, settled, scope)?;
+        let unclear = ambiguous_lines(self.alloc, &self.names, settled, scope)?;
+        lacking_among(self.alloc, &unfound, &unclear, needed)
+    }
+
+    // The lines that several variables of a scope may be.
+    fn put_ambiguous(
+        &self,
+        text: &mut Vec<u8>,
+        settled: &[u8],
+        scope: usize,
+    ) -> Result<(), AllocError> {
+        let unclear = ambiguous_lines(self.alloc, &self.names, settled, scope)?;
+        for line in &unclear {
+            self.put_rivals(text, scope, *line)?;
+        }
+        Ok(())
+    }
+
+    fn put_rivals(&self, text: &mut Vec<u8>, scope: usize, line: u8) -> Result<(), AllocError> {
+        put(text, "  ambiguous: ")?;
+        put_line(text, line)?;
+        put(text, " may be")?;
+        self.put_each_rival(text, scope, line)?;
+        put(text, "\n")
+    }
+
+    fn put_each_rival(&self, text: &mut Vec<u8>, scope: usize, line: u8) -> Result<(), AllocError> {
+        for name in &self.names {
+            self.put_rival(text, *name, is_of(*name, scope, line))?;
+        }
+        Ok(())
+    }
+
+    fn put_rival(&self, text: &mut Vec<u8>, name: Named, is_one: bool) -> Result<(), AllocError> {
+        if is_one {
+            put(text, " ")?;
+            self.put_named(text, name)
+        } else {
+            Ok(())
+        }
+    }
+
+    // The variables of a scope that are named like lines and cannot be them.
+    fn put_unfit(
+        &self,
+        text: &mut Vec<u8>,
+        settled: &[u8],
+        scope: usize,
+    ) -> Result<(), AllocError> {
+        for name in &self.unfit {
+            self.put_unfit_one(
+                text,
+                *name,
+                name.scope == scope && !is_listed(settled, name.line),
+            )?;
+        }
+        Ok(())
+    }
+
+    fn put_unfit_one(
+        &self,
+        text: &mut Vec<u8>,
+        name: Named,
+        is_one: bool,
+    ) -> Result<(), AllocError> {
+        if is_one {
+            self.put_unfit_row(text, name)
+        } else {
+            Ok(())
+        }
+    }
+
+    fn put_unfit_row(&self, text: &mut Vec<u8>, name: Named) -> Result<(), AllocError> {
+        put(text, "  ")?;
+        self.put_named(text, name)?;
+        put(text, " is named like ")?;
+        put_line(text, name.line)?;
+        put(text, ", and cannot be it\n")
+    }
+
+    // The variables that look like these lines, of a scope or of all.
+    fn put_near_of(
+        &self,
+        text: &mut Vec<u8>,
+        scope: Option<usize>,
+        lines: &[u8],
+    ) -> Result<(), AllocError> {
+        for line in lines {
+            self.put_near(text, scope, *line)?;
+        }
+        Ok(())
+    }
+
+    fn put_near(
+        &self,
+        text: &mut Vec<u8>,
+        scope: Option<usize>,
+        line: u8,
+    ) -> Result<(), AllocError> {
+        for near in &self.near {
+            self.put_near_one(
+                text,
+                *near,
+                near.line == line && self.is_within(scope, near.index),
+            )?;
+        }
+        Ok(())
+    }
+
+    fn put_near_one(&self, text: &mut Vec<u8>, near: Near, is_one: bool) -> Result<(), AllocError> {
+        match self.variables.get(near.index) {
+            Some(variable) if is_one => put_hint(text, near.line, variable),
+            _ => Ok(()),
+        }
+    }
+
+    fn is_within(&self, scope: Option<usize>, index: usize) -> bool {
+        match scope {
+            None => true,
+            Some(scope) => self.scope_path(scope) == self.scope_path(index),
+        }
+    }
+
+    fn scope_path(&self, index: usize) -> &[u8] {
+        match self.variables.get(index) {
+            None => &[],
+            Some(variable) => &variable.scope,
+        }
+    }
+
+    /// Appends the other variables of a scope that are named like the lines that were taken from it.
+    pub(crate) fn put_others(
+        &self,
+        text: &mut Vec<u8>,
+        settled: &[u8],
+        scope: usize,
+    ) -> Result<(), AllocError> {
+        for line in &LINES {
+            self.put_passed(
+                text,
+                found_in(&self.names, scope, *line),
+                is_listed(settled, *line),
+            )?;
+        }
+        Ok(())
+    }
+
+    // The variables of other wires that are named like the line of this one.
+    fn put_passed(
+        &self,
+        text: &mut Vec<u8>,
+        taken: Option<Named>,
+        is_settled: bool,
+    ) -> Result<(), AllocError> {
+        match taken {
+            Some(taken) if !is_settled => self.put_rest(text, taken),
+            _ => Ok(()),
+        }
+    }
+
+    fn put_rest(&self, text: &mut Vec<u8>, taken: Named) -> Result<(), AllocError> {
+        let others = other_names(self.alloc, &self.names, taken)?;
+        for other in &others {
+            self.put_other(text, taken, *other)?;
+        }
+        Ok(())
+    }
+
+    fn put_other(&self, text: &mut Vec<u8>, taken: Named, other: Named) -> Result<(), AllocError> {
+        if other.wire == taken.wire {
+            Ok(())
+        } else {
+            self.put_other_row(text, taken, other)
+        }
+    }
+
+    fn put_other_row(
+        &self,
+        text: &mut Vec<u8>,
+        taken: Named,
+        other: Named,
+    ) -> Result<(), AllocError> {
+        put(text, "  ")?;
+        put_line(text, taken.line)?;
+        put(text, " is ")?;
+        self.put_named(text, taken)?;
+        put(text, ", and not ")?;
+        self.put_named(text, other)?;
+        put(text, "\n")
+    }
+}
+
+fn put_share(text: &mut Vec<u8>, found: usize, needed: usize) -> Result<(), AllocError> {
+    if found == needed {
+        put(text, ": all ")?;
+    } else {
+        put(text, ": ")?;
+        put_number(text, found as u64)?;
+        put(text, " of ")?;
+    }
+    put_number(text, needed as u64)
+}
+
+fn put_known(text: &mut Vec<u8>, variable: &Variable, is_split: bool) -> Result<(), AllocError> {
+    put_shape(text, variable)?;
+    put(text, others(is_split))
+}
+
+fn others(is_split: bool) -> &'static str {
+    if is_split { " and its other bits" } else { "" }
+}
+
+fn put_hint(text: &mut Vec<u8>, line: u8, variable: &Variable) -> Result<(), AllocError> {
+    put(text, "  perhaps: --line ")?;
+    put_line(text, line)?;
+    put(text, mark(line))?;
+    put_path(text, variable)?;
+    put(text, "\n")
+}
+
+// A name without `_n` is mostly that of a wire that is high when asserted.
+fn mark(line: u8) -> &'static str {
+    if line == 0 { "=" } else { "=!" }
+}
+
+fn is_of(name: Named, scope: usize, line: u8) -> bool {
+    name.scope == scope && name.line == line
+}
+
+fn lacking_among(
+    alloc: Global,
+    unfound: &[u8],
+    unclear: &[u8],
+    needed: bool,
+) -> Result<Vec<u8>, AllocError> {
+    unfound
+        .iter()
+        .copied()
+        .filter(|line| is_needed(*line) == needed && !is_listed(unclear, *line))
+        .collect(alloc)
+}
+
+fn is_needed(line: u8) -> bool {
+    line < 22 && is_line_needed(line)
+}
+
+fn needed_count() -> usize {
+    LINES.iter().filter(|line| is_needed(**line)).count()
+}
+
+fn near_lines(alloc: Global, variables: &[Variable]) -> Result<Vec<Near>, AllocError> {
+    let mut near = Vec::new(alloc);
+    for (index, variable) in variables.iter().enumerate() {
+        add_near(&mut near, index, near_line(alloc, &variable.name)?)?;
+    }
+    Ok(near)
+}
+
+fn add_near(near: &mut Vec<Near>, index: usize, line: Option<u8>) -> Result<(), AllocError> {
+    match line {
+        None => {}
+        Some(line) => near.push(Near { index, line })?,
+    }
+    Ok(())
+}
+
+/// Other names that lines often have.
+const OTHERS: [(&str, u8); 5] = [
+    ("clk", 0),
+    ("clock", 0),
+    ("addr", 10),
+    ("address", 10),
+    ("data", 19),
+];
+
+// The line that a name without its `_n` may stand for.
+fn near_line(alloc: Global, name: &[u8]) -> Result<Option<u8>, AllocError> {
+    if line_named(name).is_some() {
+        return Ok(None);
+    }
+    match other_line(without_escape(name)) {
+        Some(line) => Ok(Some(line)),
+        None => longer_line(alloc, without_escape(name)),
+    }
+}
+
+fn other_line(plain: &[u8]) -> Option<u8> {
+    let place = OTHERS
+        .iter()
+        .position(|other| plain.eq_ignore_ascii_case(other.0.as_bytes()))?;
+    Some(OTHERS[place].1)
+}
+
+fn longer_line(alloc: Global, plain: &[u8]) -> Result<Option<u8>, AllocError> {
+    let mut longer = Vec::from_slice(alloc, plain)?;
+    longer.extend_from_slice(b"_n")?;
+    Ok(line_named(&longer))
+}

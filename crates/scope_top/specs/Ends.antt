@@ -1,0 +1,24 @@
+-- How a command ends.
+use Rattle.std.specs.Prelude.{◌≡◌, Result, Ok, Err, Option, Some, None}
+use Rattle.scope_words.specs.declared.order.Order.{Order}
+use Rattle.scope_words.specs.declared.order.Order.TheVariants as orders
+use Rattle.scope_report.specs.declared.ending.Ending.{Ending}
+use Rattle.scope_report.specs.declared.ending.Ending.TheVariants as endings
+use Rattle.scope_report.specs.Endings.{ending_after}
+use Rattle.scope_watch.specs.declared.check.Finding.{Finding}
+use Rattle.scope_watch.specs.declared.check.Finding.TheVariants as findings
+use Rattle.scope_top.specs.declared.stop.Stop.{Stop}
+use Rattle.scope_top.specs.declared.stop.Stop.TheVariants as stops
+
+-- how a check ends that found this
+abbrev pub ending_found : Finding → Ending
+ending_found (findings.Refused refusal) = endings.Unjudged
+ending_found (findings.Judged wiring judged) = ending_after judged.verdict
+
+-- how the program ends
+abbrev pub ending_at : Result Ending Stop → Ending
+ending_at (Ok ending) = ending
+ending_at (Err stops.Memory) = endings.NoMemory
+ending_at (Err stops.Lines) = endings.Failed
+ending_at (Err stops.Dump) = endings.Failed
+ending_at (Err stops.Out) = endings.Failed

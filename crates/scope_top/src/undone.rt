@@ -1,0 +1,26 @@
+//! What is read and not done yet.
+
+use scope_words::{Order, Part};
+
+/// The first thing that an order asks for and that is not done yet.
+pub fn unoffered(order: &Order<'_>) -> Option<&'static str> {
+    match order {
+        Order::Pick { .. } => Some("pick"),
+        Order::Check { part, .. } => unoffered_part(part),
+        Order::Lines { .. } | Order::Rule { .. } => None,
+    }
+}
+
+fn unoffered_part(part: &Part) -> Option<&'static str> {
+    if part.at.is_some() {
+        Some("--at")
+    } else if part.from.is_some() {
+        Some("--from")
+    } else if part.to.is_some() {
+        Some("--to")
+    } else if part.quiet != 32 {
+        Some("--quiet")
+    } else {
+        None
+    }
+}
