@@ -1,0 +1,1 @@
+//! What reasons are worth: functions with no code, whose contracts are the laws.
