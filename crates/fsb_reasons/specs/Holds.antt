@@ -1,5 +1,5 @@
 -- What a reason says of clock c of a trace, which is to end there.
-use Rattle.std.specs.Prelude.{◌≡◌, ◌<◌, ◌≤◌, ⊥, ◌⊎◌, ℕ, zero, suc, ◌+◌, ◌-◌, ◌/◌, ◌%◌, Bool, true, false, ◌&&◌, not, nat_eq, nat_lt, ◌==◌, if◌then◌else◌, Option, Some, None, Err, length, slice_get}
+use Rattle.std.specs.Prelude.{◌≡◌, ◌<◌, ◌≤◌, ◌⊎◌, ℕ, zero, suc, ◌+◌, ◌-◌, ◌/◌, ◌%◌, Bool, true, false, ◌&&◌, not, nat_eq, nat_lt, ◌==◌, if◌then◌else◌, Option, Some, None, Err, length, slice_get}
 use Rattle.std.specs.Option.{option_map}
 use Rattle.fsb_count.specs.Options.{is_before}
 use Rattle.fsb_count.specs.Clocks.{first_where, last_where, any_where, count_where, from_clock}
@@ -156,7 +156,7 @@ Holds m v c (SnoopEarly line request start) =
 -- number of clocks
 Holds m v c (SnoopBetween line request start) =
     IsSnooped v c line × (is_snoop_clock v c ≡ false) × (next_snoop v c ≡ Some request.number) × IsRequest v request
-    × (snoop_start_of v request.number ≡ Some start) × (start < c) × (nat_eq ((c - start) % 2) 0 ≡ false)
+    × (snoop_start_of v request.number ≡ Some start) × (start ≤ c) × (nat_eq ((c - start) % 2) 0 ≡ false)
 -- 12: a write-back has its snoop end at c, with the line
 Holds m v c (WriteBackSnooped line request) =
     IsSnooped v c line × IsRequest v request × (snoop_end_of v request.number ≡ Some c)

@@ -1,0 +1,6 @@
+pub mod Words
+pub mod Begins
+pub mod Alone
+pub mod Answered
+pub mod Moved
+pub mod All
