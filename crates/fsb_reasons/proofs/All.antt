@@ -82,12 +82,67 @@ Explained m v c k (rule ∷ rules) = (rule v c ≡ true → HasReason m v c k) �
 
 explained : (m : Marks) (v : Trace) (c : ℕ) → Explained m v c 1 (phase_rules m)
 unfolding phase_rules
-explained m v c =
-    (reason_1 m v c, (reason_2 m v c, (reason_3 m v c, (reason_4 m v c, (reason_5 m v c,
-    (reason_6 m v c, (reason_7 m v c, (reason_8 m v c, (reason_9 m v c, (reason_10 m v c,
-    (reason_11 m v c, (reason_12 m v c, (reason_13 m v c, (reason_14 m v c, (reason_15 m v c,
-    (reason_16 m v c, (reason_17 m v c, (reason_18 m v c, (reason_19 m v c, (reason_20 m v c,
-    tt))))))))))))))))))))
+explained m v c = (
+  reason_1 m v c,
+  (
+    reason_2 m v c,
+    (
+      reason_3 m v c,
+      (
+        reason_4 m v c,
+        (
+          reason_5 m v c,
+          (
+            reason_6 m v c,
+            (
+              reason_7 m v c,
+              (
+                reason_8 m v c,
+                (
+                  reason_9 m v c,
+                  (
+                    reason_10 m v c,
+                    (
+                      reason_11 m v c,
+                      (
+                        reason_12 m v c,
+                        (
+                          reason_13 m v c,
+                          (
+                            reason_14 m v c,
+                            (
+                              reason_15 m v c,
+                              (
+                                reason_16 m v c,
+                                (
+                                  reason_17 m v c,
+                                  (
+                                    reason_18 m v c,
+                                    (
+                                      reason_19 m v c,
+                                      (
+                                        reason_20 m v c,
+                                        tt,
+                                      ),
+                                    ),
+                                  ),
+                                ),
+                              ),
+                            ),
+                          ),
+                        ),
+                      ),
+                    ),
+                  ),
+                ),
+              ),
+            ),
+          ),
+        ),
+      ),
+    ),
+  ),
+)
 
 -- the rule, if there is one, is broken
 breaks_of : Option (Trace → ℕ → Bool) → Trace → ℕ → Bool

@@ -217,17 +217,17 @@ snoop_reason m v c i line h f e =
     let odd = not_every_second v c i n.0 (line_within line v c h.1) p.1 n.1 off in
     elim (cases_lt c n.0) [
       | inl early ↦ record {
-          reason = SnoopEarly line (record { number = i; clock = q.0 }) n.0;
-          rule = refl;
-          holds = (h, f, e, q.1, n.1, early);
-        }
+        reason = SnoopEarly line (record { number = i; clock = q.0 }) n.0;
+        rule = refl;
+        holds = (h, f, e, q.1, n.1, early);
+      }
       | inr late ↦ elim (and_cases (nat_le n.0 c) (nat_eq ((c - n.0) % 2) 0) odd) [
         | inl before ↦ absurd (both_ways _ before (le-leb n.0 c late))
         | inr between ↦ record {
-            reason = SnoopBetween line (record { number = i; clock = q.0 }) n.0;
-            rule = refl;
-            holds = (h, f, e, q.1, n.1, late, between);
-          }
+          reason = SnoopBetween line (record { number = i; clock = q.0 }) n.0;
+          rule = refl;
+          holds = (h, f, e, q.1, n.1, late, between);
+        }
       ]
     ]
 
@@ -315,23 +315,23 @@ unfit-reason m v c i q e s t =
     elim (unfit_parts (is_write_back (live_request_of v i)) (is_reply (live_request_of v i)) (line_at HIT v c)
     (line_at HITM v c) (line_at DEFER v c) t) [
       | inl hit ↦ record {
-          reason = WriteBackSnooped HIT (record { number = i; clock = q });
-          rule = refl;
-          holds = ((inl refl, hit.1), e, s, hit.0);
-        }
+        reason = WriteBackSnooped HIT (record { number = i; clock = q });
+        rule = refl;
+        holds = ((inl refl, hit.1), e, s, hit.0);
+      }
       | inr both ↦
           let line = two_lines v c both.1 in
           elim (or_cases (is_write_back (live_request_of v i)) (is_reply (live_request_of v i)) both.0) [
             | inl back ↦ record {
-                reason = WriteBackSnooped line.0 (record { number = i; clock = q });
-                rule = refl;
-                holds = ((inr line.1, line.2), e, s, back);
-              }
+              reason = WriteBackSnooped line.0 (record { number = i; clock = q });
+              rule = refl;
+              holds = ((inr line.1, line.2), e, s, back);
+            }
             | inr reply ↦ record {
-                reason = ReplySnooped line.0 (record { number = i; clock = q });
-                rule = refl;
-                holds = (line.1, line.2, e, s, reply);
-              }
+              reason = ReplySnooped line.0 (record { number = i; clock = q });
+              rule = refl;
+              holds = (line.1, line.2, e, s, reply);
+            }
           ]
     ]
 

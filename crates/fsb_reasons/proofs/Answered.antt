@@ -168,16 +168,16 @@ reason_14 m v c t =
                 let both = or_parts _ _ (sym (code_for v n (response_code_at v c)) ∙ off) in
                 record {
                   reason = CodeWrong (record { number = n; clock = q.0 }) (snoop_end_of v n) (response_code_at v c)
-                  (expected_of v n) (may_defer_of v n);
+                      (expected_of v n) (may_defer_of v n);
                   rule = refl;
                   holds = (p.0, refl, (refl, q.1), refl, refl, refl, both.0, both.1);
                 }
           ]
       | inr past ↦ record {
-          reason = CodeForNone n (response_code_at v c);
-          rule = refl;
-          holds = (p.0, refl, (refl, past));
-        }
+        reason = CodeForNone n (response_code_at v c);
+        rule = refl;
+        holds = (p.0, refl, (refl, past));
+      }
     ]
 
 -- 15
@@ -239,10 +239,10 @@ trdy-reason m v c n e t w =
           let q = live_there v n live in
           elim (cases_Bool (takes v n)) [
             | inr unwanted ↦ record {
-                reason = ReadyUnwanted (record { number = n; clock = q.0 }) (snoop_end_of v n);
-                rule = refl;
-                holds = (t, (e, q.1), refl, unwanted);
-              }
+              reason = ReadyUnwanted (record { number = n; clock = q.0 }) (snoop_end_of v n);
+              rule = refl;
+              holds = (t, (e, q.1), refl, unwanted);
+            }
             | inl wanted ↦ elim (cases_Bool (may_answer v c n)) [
               | inr off ↦
                   let wait = waits v c n off in
@@ -275,7 +275,7 @@ unready-reason m v c n e s t f =
           let q = live_there v n live in
           record {
             reason = ResponseUnready (record { number = n; clock = q.0 }) (ready_clock_of v n)
-            (option_map (λ y. y + 2) (ready_clock_of v n));
+                (option_map (λ y. y + 2) (ready_clock_of v n));
             rule = refl;
             holds = (s, (e, q.1), t, refl, f, refl);
           }

@@ -271,10 +271,10 @@ reason_6 m v c t =
       | inl low ↦ record { reason = NotArbitrated; rule = refl; holds = (p.0, low) }
       | inr high ↦ elim (cases_Bool (line_at LOCK v (c - 2))) [
         | inl lock ↦ record {
-            reason = Locked (last_agent v c);
-            rule = refl;
-            holds = (p.0, high, lock, refl, sym (winner_locked v c high lock) ∙ none);
-          }
+          reason = Locked (last_agent v c);
+          rule = refl;
+          holds = (p.0, high, lock, refl, sym (winner_locked v c high lock) ∙ none);
+        }
         | inr free ↦ elim (cases_Bool (line_at BPRI v (c - 2))) [
           | inl bpri ↦
               let wins = winner_high v c high ∙ winner_by-priority v (c - 2) (requesters_before v c) free bpri in
@@ -284,8 +284,13 @@ reason_6 m v c t =
               record {
                 reason = NoneAsks (c - 2);
                 rule = refl;
-                holds = (p.0, omega (arith, high), free, quiet,
-                asking_none v (c - 2) _ (first_below (last_symmetric v c)) asking);
+                holds = (
+                  p.0,
+                  omega (arith, high),
+                  free,
+                  quiet,
+                  asking_none v (c - 2) _ (first_below (last_symmetric v c)) asking,
+                );
               }
         ]
       ]
@@ -338,15 +343,15 @@ identity-cases m v c None t e f = record { reason = NoId; rule = refl; holds = (
 identity-cases m v c (Some r) t e f =
     elim (cases_Bool (is_reply (Some r))) [
       | inl reply ↦ record {
-          reason = ReplyByOther (winner_at v (c - 1));
-          rule = refl;
-          holds = (t, ap (λ o. is_reply o) e ∙ reply, refl, sym (identified-reply _ _ reply) ∙ f);
-        }
+        reason = ReplyByOther (winner_at v (c - 1));
+        rule = refl;
+        holds = (t, ap (λ o. is_reply o) e ∙ reply, refl, sym (identified-reply _ _ reply) ∙ f);
+      }
       | inr other ↦ record {
-          reason = IdOfOther r.did (winner_at v (c - 1));
-          rule = refl;
-          holds = (t, ap (λ o. is_reply o) e ∙ other, (r, e, refl), refl, sym (identified-other _ r other) ∙ f);
-        }
+        reason = IdOfOther r.did (winner_at v (c - 1));
+        rule = refl;
+        holds = (t, ap (λ o. is_reply o) e ∙ other, (r, e, refl), refl, sym (identified-other _ r other) ∙ f);
+      }
     ]
 
 pub reason_7 : (m : Marks) (v : Trace) (c : ℕ) → is_identity_wrong v c ≡ true → HasReason m v c 7

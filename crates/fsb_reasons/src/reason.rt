@@ -31,7 +31,9 @@ pub enum Wait {
 #[derive(Clone, Copy, Debug)]
 pub enum Reason {
     /// Rule 1: these control lines are unknown.
-    UnknownLines { lines: Lines },
+    UnknownLines {
+        lines: Lines,
+    },
     /// Rule 2: ADS# is asserted at clock 0 or 1; the earliest is 2.
     AtStart,
     /// Rule 2: ADS# is asserted, and the last one before it lies less than three clocks back.
@@ -42,9 +44,13 @@ pub enum Reason {
         earliest: u32,
     },
     /// Rule 3: a bit of the address or of REQ is unknown at the first or second clock of the request.
-    UnknownBits { clock: u32 },
+    UnknownBits {
+        clock: u32,
+    },
     /// Rule 3: the two clocks of the request hold no lawful request.
-    Unlawful { fault: DecodeFault },
+    Unlawful {
+        fault: DecodeFault,
+    },
     /// Rule 4: ADS# is asserted, and eight requests or more are in flight.
     QueueFull {
         in_flight: u32,
@@ -52,23 +58,38 @@ pub enum Reason {
         oldest: u32,
     },
     /// Rule 5: ADS# is asserted, and BNR# was asserted two clocks before, at this clock.
-    Blocked { clock: u32 },
+    Blocked {
+        clock: u32,
+    },
     /// Rule 6: ADS# is asserted at clock 0 or 1, for which nothing was arbitrated.
     NotArbitrated,
     /// Rule 6: LOCK# was asserted two clocks before, and the agent of the last request, if there was one, did not ask.
-    Locked { holder: Option<Who> },
+    Locked {
+        holder: Option<Who>,
+    },
     /// Rule 6: no agent asked two clocks before, at this clock.
-    NoneAsks { clock: u32 },
+    NoneAsks {
+        clock: u32,
+    },
     /// Rule 7: the request is not decoded, so that it has no ID.
     NoId,
     /// Rule 7: the request is a reply, and the winner is not the priority agent.
-    ReplyByOther { winner: Option<Who> },
+    ReplyByOther {
+        winner: Option<Who>,
+    },
     /// Rule 7: the ID is of another agent than the winner; the agent that it names is `did / 16`.
-    IdOfOther { did: u8, winner: Option<Who> },
+    IdOfOther {
+        did: u8,
+        winner: Option<Who>,
+    },
     /// Rule 8: the agent's request line was asserted, and is released though its request did not begin.
-    Dropped { who: Who },
+    Dropped {
+        who: Who,
+    },
     /// Rule 8: the agent's request began one clock before, and its request line is still asserted.
-    Held { who: Who },
+    Held {
+        who: Who,
+    },
     /// Rule 9: LOCK# begins, and ADS# is not asserted.
     LockAlone,
     /// Rule 10: AERR# is asserted, and no request began three clocks before.
@@ -77,7 +98,9 @@ pub enum Reason {
         last: Option<u32>,
     },
     /// Rule 11: the line is asserted, and every live request has had its snoop end.
-    SnoopsOver { line: Lines },
+    SnoopsOver {
+        line: Lines,
+    },
     /// Rule 11: the line is asserted, and the first live request without a snoop end is snooped later.
     SnoopEarly {
         line: Lines,
@@ -94,11 +117,19 @@ pub enum Reason {
         start: u32,
     },
     /// Rule 12: a write-back has its snoop end at the clock, with this line.
-    WriteBackSnooped { line: Lines, request: Concerned },
+    WriteBackSnooped {
+        line: Lines,
+        request: Concerned,
+    },
     /// Rule 12: a reply has its snoop end at the clock, with this line.
-    ReplySnooped { line: Lines, request: Concerned },
+    ReplySnooped {
+        line: Lines,
+        request: Concerned,
+    },
     /// Rule 13: RS# is not idle, and there is no live request of this number, which is next to be answered.
-    NothingToAnswer { number: u32 },
+    NothingToAnswer {
+        number: u32,
+    },
     /// Rule 13: RS# is not idle, and the next request may not be answered yet.
     ResponseEarly {
         request: Concerned,
@@ -107,7 +138,10 @@ pub enum Reason {
         earliest: Option<u32>,
     },
     /// Rule 14: RS# has this code, and there is no live request of this number, which is next to be answered.
-    CodeForNone { number: u32, code: u8 },
+    CodeForNone {
+        number: u32,
+        code: u8,
+    },
     /// Rule 14: the response code is not the one for the next request.
     CodeWrong {
         request: Concerned,
@@ -120,7 +154,9 @@ pub enum Reason {
         may_defer: bool,
     },
     /// Rule 15: TRDY# is asserted, and there is no live request of this number, which is next to be answered.
-    ReadyForNone { number: u32 },
+    ReadyForNone {
+        number: u32,
+    },
     /// Rule 15: TRDY# is asserted, and the next request, which is no write-back, has no HITM# at its snoop end.
     ReadyUnwanted {
         request: Concerned,
@@ -134,7 +170,10 @@ pub enum Reason {
         earliest: Option<u32>,
     },
     /// Rule 15: TRDY# is asserted, and the target of the next request was ready before, at this clock.
-    ReadyTwice { request: Concerned, ready: u32 },
+    ReadyTwice {
+        request: Concerned,
+        ready: u32,
+    },
     /// Rule 15: the response comes less than two clocks after the target is ready, or before.
     ResponseUnready {
         request: Concerned,
@@ -162,9 +201,13 @@ pub enum Reason {
         last: Option<u32>,
     },
     /// Rule 17: DRDY# is asserted, and these bits of D are unknown.
-    UnknownData { bits: u64 },
+    UnknownData {
+        bits: u64,
+    },
     /// Rule 18: no Deferred request with this ID awaits the reply.
-    ReplyUnawaited { did: u8 },
+    ReplyUnawaited {
+        did: u8,
+    },
     /// Rule 18: the request has the ID of an outstanding one.
     IdTaken {
         did: u8,
@@ -172,9 +215,15 @@ pub enum Reason {
         by: u32,
     },
     /// Rule 18: the agent that begins the request has four outstanding ones or more.
-    TooMany { who: Who, outstanding: u32 },
+    TooMany {
+        who: Who,
+        outstanding: u32,
+    },
     /// Rule 19: the parity of the address is odd, of its low part, of its high part, or of both.
-    AddressParity { low: bool, high: bool },
+    AddressParity {
+        low: bool,
+        high: bool,
+    },
     /// Rule 20: the parity of the request is odd.
     RequestParity,
 }
@@ -196,9 +245,8 @@ impl Reason {
             Reason::Dropped { .. } | Reason::Held { .. } => 8,
             Reason::LockAlone => 9,
             Reason::ErrorAlone { .. } => 10,
-            Reason::SnoopsOver { .. }
-            | Reason::SnoopEarly { .. }
-            | Reason::SnoopBetween { .. } => 11,
+            Reason::SnoopsOver { .. } | Reason::SnoopEarly { .. } | Reason::SnoopBetween { .. } =>
+                11,
             Reason::WriteBackSnooped { .. } | Reason::ReplySnooped { .. } => 12,
             Reason::NothingToAnswer { .. } | Reason::ResponseEarly { .. } => 13,
             Reason::CodeForNone { .. } | Reason::CodeWrong { .. } => 14,
@@ -207,13 +255,10 @@ impl Reason {
             | Reason::ReadyEarly { .. }
             | Reason::ReadyTwice { .. }
             | Reason::ResponseUnready { .. } => 15,
-            Reason::DataForNone { .. }
-            | Reason::BusyMissing { .. }
-            | Reason::BusyForNone { .. } => 16,
+            Reason::DataForNone { .. } | Reason::BusyMissing { .. } | Reason::BusyForNone { .. } =>
+                16,
             Reason::UnknownData { .. } => 17,
-            Reason::ReplyUnawaited { .. }
-            | Reason::IdTaken { .. }
-            | Reason::TooMany { .. } => 18,
+            Reason::ReplyUnawaited { .. } | Reason::IdTaken { .. } | Reason::TooMany { .. } => 18,
             Reason::AddressParity { .. } => 19,
             Reason::RequestParity => 20,
         }
