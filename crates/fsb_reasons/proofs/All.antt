@@ -1,6 +1,6 @@
 -- A reason that holds names a broken rule, and each broken rule has a reason that holds.
 use Rattle.std.proofs.Common.{ℕ, zero, suc, ◌+◌, ◌<◌, ◌≡◌, Bool, true, false, ◌&&◌, List, [], ◌∷◌, Option, Some, None, length}
-use Rattle.std.proofs.Common.{slice_get, take, nat_lt, refl, sym, ap, subst, ◌∙◌, arith, add-zero}
+use Rattle.std.proofs.Common.{slice_get, drop, take, nat_lt, refl, sym, ap, subst, ◌∙◌, arith, add-zero}
 use Rattle.std.specs.Prelude.{⊤}
 use Rattle.std.proofs.Math.Numerals.{one-add}
 use Rattle.std.proofs.lemmas.Bool.{and_parts, both_ways}
@@ -82,67 +82,16 @@ Explained m v c k (rule ∷ rules) = (rule v c ≡ true → HasReason m v c k) �
 
 explained : (m : Marks) (v : Trace) (c : ℕ) → Explained m v c 1 (phase_rules m)
 unfolding phase_rules
-explained m v c = (
-  reason_1 m v c,
-  (
-    reason_2 m v c,
-    (
-      reason_3 m v c,
-      (
-        reason_4 m v c,
-        (
-          reason_5 m v c,
-          (
-            reason_6 m v c,
-            (
-              reason_7 m v c,
-              (
-                reason_8 m v c,
-                (
-                  reason_9 m v c,
-                  (
-                    reason_10 m v c,
-                    (
-                      reason_11 m v c,
-                      (
-                        reason_12 m v c,
-                        (
-                          reason_13 m v c,
-                          (
-                            reason_14 m v c,
-                            (
-                              reason_15 m v c,
-                              (
-                                reason_16 m v c,
-                                (
-                                  reason_17 m v c,
-                                  (
-                                    reason_18 m v c,
-                                    (
-                                      reason_19 m v c,
-                                      (
-                                        reason_20 m v c,
-                                        tt,
-                                      ),
-                                    ),
-                                  ),
-                                ),
-                              ),
-                            ),
-                          ),
-                        ),
-                      ),
-                    ),
-                  ),
-                ),
-              ),
-            ),
-          ),
-        ),
-      ),
-    ),
-  ),
-)
+explained m v c =
+    let from_17 : Explained m v c 17 (drop 16 (phase_rules m)) =
+    (reason_17 m v c, (reason_18 m v c, (reason_19 m v c, (reason_20 m v c, tt)))) in
+    let from_13 : Explained m v c 13 (drop 12 (phase_rules m)) =
+    (reason_13 m v c, (reason_14 m v c, (reason_15 m v c, (reason_16 m v c, from_17)))) in
+    let from_9 : Explained m v c 9 (drop 8 (phase_rules m)) =
+    (reason_9 m v c, (reason_10 m v c, (reason_11 m v c, (reason_12 m v c, from_13)))) in
+    let from_5 : Explained m v c 5 (drop 4 (phase_rules m)) =
+    (reason_5 m v c, (reason_6 m v c, (reason_7 m v c, (reason_8 m v c, from_9)))) in
+    (reason_1 m v c, (reason_2 m v c, (reason_3 m v c, (reason_4 m v c, from_5))))
 
 -- the rule, if there is one, is broken
 breaks_of : Option (Trace → ℕ → Bool) → Trace → ℕ → Bool

@@ -86,7 +86,7 @@ may_defer_of v i =
 abbrev pub HasId : Trace → ℕ → ℕ → Type 0
 HasId v q did = (r : Request) × (request_at v q ≡ Some r) × (r.did ≡ did)
 
--- two lawful words stand at q and q + 1 without an unknown bit, and hold no request by this fault
+-- of the address and REQ words of q and q + 1 nothing is unknown, and they hold no request by this fault
 abbrev pub IsFaulty : Trace → ℕ → DecodeFault → Type 0
 IsFaulty v q fault =
     (a b : Pair) × (known_pair_at v q ≡ Some a) × (known_pair_at v (q + 1) ≡ Some b) × (decoded a b ≡ Err fault)

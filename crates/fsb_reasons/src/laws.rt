@@ -1,9 +1,11 @@
 //! What reasons are worth: functions with no code, whose contracts are the laws.
 
-ghost use Rattle.std.specs.Prelude.{◌≡◌, ℕ, ◌+◌, true, Some, take};
+ghost use Rattle.std.specs.Prelude.{◌≡◌, ℕ, ◌+◌, true, nat_le, Some, take};
+ghost use Rattle.fsb_count.specs.Options.{is_some_and};
 ghost use Rattle.fsb_signal.specs.declared.marks.Marks.{Marks};
 ghost use Rattle.fsb_trace.specs.At.{Trace};
-ghost use Rattle.fsb_trace.specs.Rules.{breaks};
+ghost use Rattle.fsb_trace.specs.Response.{answer_from};
+ghost use Rattle.fsb_trace.specs.Rules.{breaks, may_answer};
 ghost use Rattle.fsb_trace.specs.Verdict.{verdict};
 ghost use Rattle.fsb_reasons.specs.declared.reason.Reason.{Reason};
 ghost use Rattle.fsb_reasons.specs.RuleOf.{rule_of};
@@ -19,6 +21,13 @@ pub fn reasons_name_broken_rules()
 /// other rules.
 pub fn broken_rules_have_reasons()
     ensures { (m : Marks) (v : Trace) (c j : ℕ) → breaks m v c j ≡ true → HasReason m v c j }
+{}
+
+/// A live request may be answered exactly from one clock on, the one that `ResponseEarly` and `ReadyEarly` name as the
+/// earliest; where that clock is not reached, it may not be answered.
+pub fn answers_begin_at_the_earliest()
+    ensures { (v : Trace) (c i : ℕ) →
+        may_answer v c i ≡ is_some_and (answer_from v i) (λ from. nat_le from c) }
 {}
 
 /// The rule of a verdict has a reason that holds at the verdict's clock, of the samples up to it.

@@ -7,7 +7,10 @@
 //! Next: reason_texts, which writes a reason in words.
 #![tactic(auto)]
 
-pub use laws::{broken_rules_have_reasons, reasons_name_broken_rules, verdicts_have_reasons};
+pub use laws::{
+    answers_begin_at_the_earliest, broken_rules_have_reasons, reasons_name_broken_rules,
+    verdicts_have_reasons,
+};
 pub use reason::{Concerned, Reason, Wait};
 
 mod laws;
