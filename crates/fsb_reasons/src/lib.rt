@@ -4,7 +4,7 @@
 //! `Holds` in `specs/` says what a reason says of a trace. A reason that holds names a rule that is broken at that clock,
 //! and a broken rule has a reason that holds: these are the laws in `laws.rt`, of any trace and any clock.
 //!
-//! Next: reason_texts, which writes a reason in words.
+//! Next: fsb_trace, whose `specs/Rules.antt` has the rules.
 #![tactic(auto)]
 
 pub use laws::{
