@@ -1,6 +1,6 @@
 -- A reason that holds names a broken rule, and each broken rule has a reason that holds.
-use Rattle.std.proofs.Common.{ℕ, zero, suc, ◌+◌, ◌<◌, ◌≡◌, Bool, true, false, ◌&&◌, List, [], ◌∷◌, Option, Some, None, length}
-use Rattle.std.proofs.Common.{slice_get, drop, take, nat_lt, refl, sym, ap, subst, ◌∙◌, arith, add-zero}
+use Rattle.std.proofs.Common.{ℕ, zero, suc, ◌+◌, ◌≡◌, Bool, true, false, List, [], ◌∷◌, Option, Some, None}
+use Rattle.std.proofs.Common.{slice_get, drop, take, sym, ap, subst, arith, add-zero}
 use Rattle.std.specs.Prelude.{⊤}
 use Rattle.std.proofs.Math.Numerals.{one-add}
 use Rattle.std.proofs.lemmas.Bool.{and_parts, both_ways}
@@ -9,9 +9,7 @@ use Rattle.fsb_signal.specs.declared.marks.Marks.{Marks}
 use Rattle.fsb_trace.specs.At.{Trace}
 use Rattle.fsb_trace.specs.Rules.{phase_rules, breaks}
 use Rattle.fsb_trace.specs.Verdict.{is_broken, verdict}
-use Rattle.fsb_trace.proofs.Interface.{breaks-1, breaks-10, breaks-11, breaks-12, breaks-13, breaks-14, breaks-15}
-use Rattle.fsb_trace.proofs.Interface.{breaks-16, breaks-17, breaks-18, breaks-2, breaks-3}
-use Rattle.fsb_trace.proofs.Interface.{breaks-4, breaks-5, breaks-6, breaks-7, breaks-8, breaks-9, verdict-least}
+use Rattle.fsb_trace.proofs.Interface.{verdict-least}
 use Rattle.fsb_reasons.specs.declared.reason.Reason.{Reason}
 use Rattle.fsb_reasons.specs.declared.reason.Reason.TheVariants.{UnknownLines, AtStart, TooSoon, UnknownBits, Unlawful, QueueFull, Blocked, NotArbitrated, Locked, NoneAsks, NoId, ReplyByOther, IdOfOther, Dropped, Held, LockAlone, ErrorAlone, SnoopsOver, SnoopEarly, SnoopBetween, WriteBackSnooped, ReplySnooped, NothingToAnswer, ResponseEarly, CodeForNone, CodeWrong, ReadyForNone, ReadyUnwanted, ReadyEarly, ReadyTwice, ResponseUnready, DataForNone, BusyMissing, BusyForNone, UnknownData, ReplyUnawaited, IdTaken, TooMany, AddressParity, RequestParity}
 use Rattle.fsb_reasons.specs.RuleOf.{rule_of}

@@ -6,11 +6,11 @@ use Rattle.std.proofs.lemmas.Bool.{cases_Bool, cases_lt, and_parts, and_from, an
 use Rattle.std.proofs.lemmas.Bool.{le-leb, lt-ltb, ltb-true, not-true, not-false, not_from_false, both_ways}
 use Rattle.std.specs.Option.{option_map, option_map_or}
 use Rattle.fsb_count.specs.Options.{is_some_and, is_before, greater_of}
-use Rattle.fsb_count.specs.Clocks.{first_where, last_where, any_where}
+use Rattle.fsb_count.specs.Clocks.{last_where}
 use Rattle.fsb_count.proofs.Interface.{first_where-found, any_where-found, any_where-at, any_where-none, is_before-parts}
 use Rattle.fsb_count.proofs.Interface.{is_at-some, is_at-from}
 use Rattle.fsb_signal.specs.declared.lines.Lines.{Lines}
-use Rattle.fsb_signal.specs.declared.lines.TheConstants.Lines.{ADS, AERR, LOCK, HIT, HITM, DEFER, DRDY}
+use Rattle.fsb_signal.specs.declared.lines.TheConstants.Lines.{ADS, HIT, HITM, DEFER, DRDY}
 use Rattle.fsb_signal.specs.declared.marks.Marks.{Marks}
 use Rattle.fsb_signal.specs.declared.sample.Sample.{Sample}
 use Rattle.fsb_signal.specs.Parity.{is_address_odd, is_request_odd, is_low_address_even, is_high_address_even}
@@ -28,10 +28,9 @@ use Rattle.fsb_trace.specs.Rules.{has_parity_at, is_address_parity_wrong, is_req
 use Rattle.fsb_trace.specs.Rules.{is_marked_address_wrong, is_marked_request_wrong}
 use Rattle.fsb_trace.proofs.Interface.{live_below_count}
 use Rattle.fsb_reasons.specs.declared.reason.Concerned.{Concerned}
-use Rattle.fsb_reasons.specs.declared.reason.Reason.{Reason}
 use Rattle.fsb_reasons.specs.declared.reason.Reason.TheVariants.{UnknownLines, Dropped, Held, LockAlone, ErrorAlone, SnoopsOver, SnoopEarly, SnoopBetween, WriteBackSnooped, ReplySnooped, UnknownData, AddressParity, RequestParity}
 use Rattle.fsb_reasons.specs.RuleOf.{rule_of}
-use Rattle.fsb_reasons.specs.Holds.{Holds, HasReason, IsRequest, IsSnooped, is_bus_agent, is_unsnooped, next_snoop}
+use Rattle.fsb_reasons.specs.Holds.{Holds, HasReason, IsSnooped, is_bus_agent, is_unsnooped, next_snoop}
 use Rattle.fsb_reasons.proofs.Words.{or_first, or_second, or_third, line_within, live_there}
 
 -- 1

@@ -1,9 +1,9 @@
 -- Reasons of the rules for the next response: 13 to 15.
-use Rattle.std.proofs.Common.{ℕ, zero, suc, ◌+◌, ◌<◌, ◌≤◌, ◌≡◌, Bool, true, false, cond, ◌&&◌, ◌||◌, not, nat_lt, nat_le, nat_eq}
-use Rattle.std.proofs.Common.{Option, Some, None, refl, sym, ap, subst, ◌∙◌, arith, inl, inr}
+use Rattle.std.proofs.Common.{ℕ, zero, suc, ◌+◌, ◌≤◌, ◌≡◌, Bool, true, false, cond, ◌&&◌, ◌||◌, not, nat_le, nat_eq}
+use Rattle.std.proofs.Common.{Option, Some, None, refl, sym, ap, subst, ◌∙◌, inl, inr}
 use Rattle.std.proofs.lemmas.Bool.{cases_Bool, cases_lt, and_parts, and_from, and_cases, and_left, and_right, or_cases, or_parts}
 use Rattle.std.proofs.lemmas.Bool.{or_from, or_left, or_right, lt-leb, le-leb, le-ltb, lt-ltb, not-true, not_from_false, both_ways}
-use Rattle.std.specs.Option.{option_map, option_and_then}
+use Rattle.std.specs.Option.{option_map}
 use Rattle.fsb_count.specs.Options.{is_some_and, is_before}
 use Rattle.fsb_count.proofs.Interface.{is_before-parts, is_before-from}
 use Rattle.fsb_signal.specs.declared.lines.TheConstants.Lines.{HITM, DEFER, TRDY}
@@ -11,8 +11,8 @@ use Rattle.fsb_signal.specs.declared.marks.Marks.{Marks}
 use Rattle.fsb_signal.specs.Samples.{line_at}
 use Rattle.fsb_trace.specs.declared.outcome.Outcome.{Outcome}
 use Rattle.fsb_trace.specs.declared.outcome.Outcome.TheVariants.{Granted, Handed, Retried, Deferred, Written, Upgraded}
-use Rattle.fsb_trace.specs.At.{Trace, request_at, responds_at, response_code_at}
-use Rattle.fsb_trace.specs.Requests.{live_count, live_clock_of, live_request_of, is_write_back, is_upgrade}
+use Rattle.fsb_trace.specs.At.{Trace, responds_at, response_code_at}
+use Rattle.fsb_trace.specs.Requests.{live_count, live_request_of, is_write_back, is_upgrade}
 use Rattle.fsb_trace.specs.Snoop.{snoop_end_of, line_at_snoop_end}
 use Rattle.fsb_trace.specs.Outcome.{response_code_of}
 use Rattle.fsb_trace.specs.Response.{takes, end_of, is_clear_before, answer_from, ready_clock_of}
@@ -21,7 +21,6 @@ use Rattle.fsb_trace.specs.Rules.{has_code_at, is_code_wrong, is_ready_in_time, 
 use Rattle.fsb_reasons.specs.declared.reason.Concerned.{Concerned}
 use Rattle.fsb_reasons.specs.declared.reason.Wait.{Wait}
 use Rattle.fsb_reasons.specs.declared.reason.Wait.TheVariants.{NoSnoopEnd, SnoopEnd, NotClear}
-use Rattle.fsb_reasons.specs.declared.reason.Reason.{Reason}
 use Rattle.fsb_reasons.specs.declared.reason.Reason.TheVariants.{NothingToAnswer, ResponseEarly, CodeForNone, CodeWrong, ReadyForNone, ReadyUnwanted, ReadyEarly, ReadyTwice, ResponseUnready}
 use Rattle.fsb_reasons.specs.RuleOf.{rule_of}
 use Rattle.fsb_reasons.specs.Holds.{Holds, HasReason, Waits, expected_of, may_defer_of}

@@ -1,13 +1,12 @@
 -- Reasons of the rules for a request that begins: 2 to 7.
-use Rattle.std.proofs.Common.{ℕ, zero, suc, ◌+◌, ◌-◌, ◌/◌, ◌%◌, ◌<◌, ◌≤◌, ◌≡◌, Bool, true, false, ◌&&◌, ◌||◌, not, nat_lt, nat_le}
+use Rattle.std.proofs.Common.{ℕ, ◌+◌, ◌-◌, ◌/◌, ◌%◌, ◌<◌, ◌≤◌, ◌≡◌, true, false, nat_lt}
 use Rattle.std.proofs.Common.{Option, Some, None, Err, is_none, is_some, List, [], ◌∷◌, length, slice_get, refl, sym, ap, subst, ◌∙◌}
 use Rattle.std.proofs.Common.{arith, inl, inr}
-use Rattle.std.proofs.lemmas.Bool.{cases_Bool, cases_lt, and_parts, and_from, or_left, leb-true, le-leb, le-ltb, lt-ltb}
-use Rattle.std.proofs.lemmas.Bool.{not-true, not_from_false, ltb-true, cases_eq}
+use Rattle.std.proofs.lemmas.Bool.{cases_Bool, cases_lt, and_parts, and_from, leb-true, le-leb, le-ltb, lt-ltb}
+use Rattle.std.proofs.lemmas.Bool.{not-true, not_from_false, cases_eq}
 use Rattle.std.proofs.Math.Nat.{mod-lt}
 use Rattle.std.specs.Option.{option_map, option_and_then}
 use Rattle.fsb_count.specs.Options.{is_some_and}
-use Rattle.fsb_count.specs.Clocks.{last_where, first_where}
 use Rattle.fsb_count.proofs.Interface.{first_where-off, first_where-none, is_none-none}
 use Rattle.fsb_signal.specs.declared.lines.TheConstants.Lines.{ADS, BNR, LOCK, BPRI}
 use Rattle.fsb_signal.specs.declared.marks.Marks.{Marks}
@@ -20,8 +19,8 @@ use Rattle.fsb_encode.specs.Decoded.{is_code, kind_of, request_of, decoded}
 use Rattle.fsb_trace.specs.declared.who.Who.{Who}
 use Rattle.fsb_trace.specs.declared.who.Who.TheVariants.{Symmetric, Priority}
 use Rattle.fsb_trace.specs.At.{Trace, line_back, known_pair_at, request_at}
-use Rattle.fsb_trace.specs.Winner.{Requesters, bus_request_of, is_agent, first_in_order, agent_in_order, asks_in_order}
-use Rattle.fsb_trace.specs.Winner.{first_asking, last_if_asking, winner_by, winner_after, requesters_before, winner_at}
+use Rattle.fsb_trace.specs.Winner.{bus_request_of, is_agent, first_in_order, agent_in_order, asks_in_order}
+use Rattle.fsb_trace.specs.Winner.{first_asking, last_if_asking, winner_by, requesters_before, winner_at}
 use Rattle.fsb_trace.specs.Winner.{last_agent, last_symmetric}
 use Rattle.fsb_trace.specs.Requests.{is_reply}
 use Rattle.fsb_trace.specs.Flight.{in_flight}
@@ -29,10 +28,9 @@ use Rattle.fsb_trace.specs.Rules.{is_request_too_soon, is_code_unlawful, is_queu
 use Rattle.fsb_trace.specs.Rules.{has_no_winner, is_own_id, is_identified, is_identity_wrong}
 use Rattle.fsb_trace.proofs.Interface.{winner_after-low, winner_after-high, winner_by-locked, winner_by-priority}
 use Rattle.fsb_trace.proofs.Interface.{winner_by-symmetric}
-use Rattle.fsb_reasons.specs.declared.reason.Reason.{Reason}
 use Rattle.fsb_reasons.specs.declared.reason.Reason.TheVariants.{AtStart, TooSoon, UnknownBits, Unlawful, QueueFull, Blocked, NotArbitrated, Locked, NoneAsks, NoId, ReplyByOther, IdOfOther}
 use Rattle.fsb_reasons.specs.RuleOf.{rule_of}
-use Rattle.fsb_reasons.specs.Holds.{Holds, HasReason, HasId, IsFaulty}
+use Rattle.fsb_reasons.specs.Holds.{Holds, HasReason}
 use Rattle.fsb_reasons.proofs.Words.{or_first, or_second, or_third, or_last, back_parts, back_from, back_fails, last_found, last_one}
 use Rattle.fsb_reasons.proofs.Words.{last_two}
 

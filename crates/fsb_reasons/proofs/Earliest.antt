@@ -1,5 +1,5 @@
 -- A live request may be answered from one clock on: the one that a reason names as the earliest.
-use Rattle.std.proofs.Common.{ℕ, zero, suc, ◌+◌, ◌<◌, ◌≡◌, Bool, true, false, ◌&&◌, nat_lt, nat_le, Option, Some, None}
+use Rattle.std.proofs.Common.{ℕ, zero, suc, ◌+◌, ◌≡◌, Bool, true, false, ◌&&◌, nat_lt, nat_le, Option, Some, None}
 use Rattle.std.proofs.Common.{max, refl, sym, ap, ◌∙◌, arith, inl, inr}
 use Rattle.std.proofs.lemmas.Bool.{cases_lt, and_from, and_left, and_right, lt-leb, le-leb, lt-ltb, le-ltb}
 use Rattle.std.specs.Option.{option_map}

@@ -1,5 +1,5 @@
 -- Reasons of the rules for data and for outstanding requests: 16 and 18.
-use Rattle.std.proofs.Common.{ℕ, zero, suc, ◌+◌, ◌-◌, ◌<◌, ◌≤◌, ◌≡◌, Bool, true, false, ◌&&◌, ◌||◌, not, nat_lt, nat_le, nat_eq}
+use Rattle.std.proofs.Common.{ℕ, ◌+◌, ◌-◌, ◌<◌, ◌≤◌, ◌≡◌, Bool, true, false, ◌&&◌, not, nat_lt, nat_eq}
 use Rattle.std.proofs.Common.{Option, Some, None, refl, sym, ap, subst, ◌∙◌, arith, inl, inr}
 use Rattle.std.proofs.lemmas.Bool.{cases_Bool, and_parts, and_from, and_right, or_cases, or_left, or_right, lt-ltb, ltb-true}
 use Rattle.std.proofs.lemmas.Bool.{le-leb, leb-true, not-true, not_from_false}
@@ -13,17 +13,16 @@ use Rattle.fsb_encode.specs.declared.request.Request.{Request}
 use Rattle.fsb_trace.specs.declared.who.Who.{Who}
 use Rattle.fsb_trace.specs.At.{Trace, line_back, request_at, responds_at}
 use Rattle.fsb_trace.specs.Winner.{winner_at, is_agent}
-use Rattle.fsb_trace.specs.Requests.{live_count, live_clock_of, is_reply, is_reply_kind, have_same_id}
-use Rattle.fsb_trace.specs.Outcome.{response_clock_of, moves_data}
+use Rattle.fsb_trace.specs.Requests.{live_count, is_reply, is_reply_kind, have_same_id}
+use Rattle.fsb_trace.specs.Outcome.{response_clock_of}
 use Rattle.fsb_trace.specs.Rules.{is_transferring_of, is_transferring, is_data_wrong, awaits_reply, is_id_taken_by}
 use Rattle.fsb_trace.specs.Rules.{is_outstanding_of_winner, is_begun_wrongly, is_outstanding_wrong}
 use Rattle.fsb_trace.proofs.Interface.{live_below_count}
 use Rattle.fsb_laws.proofs.Interface.{count_where-none}
 use Rattle.fsb_reasons.specs.declared.reason.Concerned.{Concerned}
-use Rattle.fsb_reasons.specs.declared.reason.Reason.{Reason}
 use Rattle.fsb_reasons.specs.declared.reason.Reason.TheVariants.{DataForNone, BusyMissing, BusyForNone, ReplyUnawaited, IdTaken, TooMany}
 use Rattle.fsb_reasons.specs.RuleOf.{rule_of}
-use Rattle.fsb_reasons.specs.Holds.{Holds, HasReason, HasId}
+use Rattle.fsb_reasons.specs.Holds.{Holds, HasReason}
 use Rattle.fsb_reasons.proofs.Words.{or_first, or_second, or_third, live_there}
 
 some_parts : {A : Type 0} (o : Option A) (test : A → Bool) → is_some_and o test ≡ true

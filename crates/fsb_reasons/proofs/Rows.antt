@@ -1,16 +1,16 @@
 -- Reasons of worked waveforms: what each says is computed.
-use Rattle.std.proofs.Common.{◌≡◌, ◌∷◌, ◌+◌, [], Some, None, true, false, refl, arith}
+use Rattle.std.proofs.Common.{◌∷◌, [], Some, refl, arith}
 use Rattle.fsb_signal.specs.declared.lines.TheConstants.Lines.{BREQ0, ADS, TRDY}
 use Rattle.fsb_signal.specs.Samples.{line_at}
-use Rattle.fsb_count.specs.Options.{is_some_and, is_before, greater_of}
+use Rattle.fsb_count.specs.Options.{is_some_and}
 use Rattle.fsb_count.specs.Clocks.{first_where, last_where, count_where, all_where, nth_where, from_clock}
 use Rattle.fsb_encode.specs.Request.{is_lawful_request, are_lawful_fields, high_bit, den_bit, clocks, row_of, pairs_of}
 use Rattle.fsb_encode.specs.Decoded.{req_words, kind_of, read_off, is_pair, is_coded_as, if_coded_as, request_of}
-use Rattle.fsb_trace.specs.At.{Trace, response_code_at, responds_at, stalls_at, known_pair, known_pair_at, request_at}
-use Rattle.fsb_trace.specs.Requests.{is_cancelled, is_live, live_count, live_clock_of, live_request_of, is_write_back}
+use Rattle.fsb_trace.specs.At.{response_code_at, responds_at, stalls_at, known_pair, known_pair_at, request_at}
+use Rattle.fsb_trace.specs.Requests.{is_cancelled, is_live, live_clock_of, live_request_of, is_write_back}
 use Rattle.fsb_trace.specs.Requests.{is_write_back_kind}
 use Rattle.fsb_trace.specs.Snoop.{is_every_second_from, ends_snoop, snoop_end_from, snoop_end_if, start_after_clock}
-use Rattle.fsb_trace.specs.Snoop.{start_after_end, snoop_end_of, line_at_snoop_end}
+use Rattle.fsb_trace.specs.Snoop.{snoop_end_of, line_at_snoop_end}
 use Rattle.fsb_trace.specs.Response.{takes, clock_after_snoop, ready_after, ready_clock_of}
 use Rattle.fsb_trace.specs.Rules.{next_response}
 use Rattle.fsb_trace.proofs.LaidOut.{no_marks, clock, idle}

@@ -1,14 +1,13 @@
 -- Words that the reasons share: a line some clocks back, the last clock that passes, live requests with their clocks.
-use Rattle.std.proofs.Common.{ℕ, zero, suc, ◌+◌, ◌-◌, ◌<◌, ◌≤◌, ◌≡◌, Bool, true, false, ◌&&◌, ◌||◌, not, nat_lt, nat_le}
-use Rattle.std.proofs.Common.{Option, Some, None, List, [], ◌∷◌, length, slice_get, refl, sym, ap, subst, ◌∙◌, arith, inl, inr}
-use Rattle.std.proofs.lemmas.Bool.{cases_Bool, cases_lt, and_parts, and_from, and_left, or_left, leb-true, le-leb}
-use Rattle.std.proofs.lemmas.Bool.{leb-false, both_ways, false_from_ne_true}
+use Rattle.std.proofs.Common.{ℕ, zero, suc, ◌+◌, ◌-◌, ◌<◌, ◌≤◌, ◌≡◌, Bool, true, false, ◌||◌}
+use Rattle.std.proofs.Common.{Option, Some, None, length, slice_get, refl, sym, ap, subst, ◌∙◌, arith, inl, inr}
+use Rattle.std.proofs.lemmas.Bool.{cases_Bool, cases_lt, and_parts, and_from, leb-true, le-leb}
+use Rattle.std.proofs.lemmas.Bool.{both_ways, false_from_ne_true}
 use Rattle.std.proofs.lemmas.Option.{slice_get_past}
 use Rattle.std.specs.Option.{option_map_or}
 use Rattle.fsb_count.specs.Clocks.{last_where}
 use Rattle.fsb_count.proofs.Interface.{last_where-passed, last_where-failed, nth_where-there, nth_where-past}
 use Rattle.fsb_signal.specs.declared.lines.Lines.{Lines}
-use Rattle.fsb_signal.specs.declared.sample.Sample.{Sample}
 use Rattle.fsb_signal.specs.Samples.{line_at, has_line}
 use Rattle.fsb_trace.specs.At.{Trace, line_back}
 use Rattle.fsb_trace.specs.Requests.{is_live, live_count, live_clock_of}
