@@ -1,0 +1,2 @@
+pub mod RuleOf
+pub mod Holds
