@@ -10,7 +10,7 @@ use Rattle.scope_pick.specs.declared.variable.Variable.{Variable}
 use Rattle.scope_wiring.specs.declared.wire.Wire.{Wire}
 use Rattle.scope_way.specs.Variables.{Shown, shown_by, shown_from}
 use Rattle.scope_way.specs.Wired.{tap_if_coded, tap_by_code, taps_by_code}
-use Rattle.vcd_scan.specs.declared.wire.Wires.{Wires}
+use Rattle.vcd_scan.specs.declared.table.Wires.{Wires}
 use Rattle.vcd_scan.specs.Wired.{taps_in, wires_told}
 use Rattle.vcd_joined.specs.Choosing.{IsTaken}
 use Rattle.vcd_joined.specs.Picking.{picking}

@@ -9,7 +9,7 @@ use Rattle.scope_wiring.specs.declared.wiring.Choice.{Choice}
 use Rattle.scope_wiring.specs.declared.wiring.Picking.TheVariants as pickings
 use Rattle.scope_wiring.specs.Pickings.{IsPicking}
 use Rattle.scope_way.specs.Wired.{wired_lines}
-use Rattle.vcd_scan.specs.declared.wire.Wires.{Wires}
+use Rattle.vcd_scan.specs.declared.table.Wires.{Wires}
 use Rattle.vcd_scan.specs.Wired.{WireCode, wires_told}
 use Rattle.scope_watch.specs.declared.bus.Bus.{Bus}
 use Rattle.scope_watch.specs.declared.bus.Picked.{Picked}
