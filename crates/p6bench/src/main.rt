@@ -19,10 +19,11 @@ ghost use Rattle.fsb_top.specs.StatusText.{code_of, status_text};
 ghost use Rattle.p6bench.specs.Program.{dump_below, name_read, name_written, printed_line, status_after, told_of, weights};
 
 use fsb_gather::Gather;
-use fsb_hazard::{Hazard, ScriptHazard};
-use fsb_io::{Failed, FileSink, FileSource, Memory, Sink, Source, StdoutSink, put_all};
-use fsb_probe::{DataProbe, LineProbe, Probe};
-use fsb_top::{Command, Status, Words, carry_out, code, read_words, status_line};
+use fsb_top::{
+    Command, DataProbe, Failed, FileSink, FileSource, Hazard, LineProbe, Memory, Probe,
+    ScriptHazard, Sink, Source, Status, StdoutSink, Words, carry_out, code, put_all, read_words,
+    status_line,
+};
 use std::alloc::Global;
 use std::env::Args;
 use std::io::{self, ErrorKind};

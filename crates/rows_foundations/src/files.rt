@@ -30,12 +30,17 @@ fn file_is_written_and_read_back(rt: HostRuntime) -> Result<(), Fail> {
     assert!(rt; name.len() <= 4_096);
 
     let mut sink = FileSink::new(&rt, None);
+    assert!(rt;
+        sink.store() == Ok(()),
+        "nothing was begun, so nothing is asked"
+    );
     assert!(rt; put_all(&mut sink, b"lost") == Err(Failed), "not begun");
     assert!(rt; sink.begin(name) == Ok(()));
     assert!(rt; put_all(&mut sink, b"old text") == Ok(()));
     assert!(rt; sink.begin(name) == Ok(()));
     assert!(rt; put_all(&mut sink, b"11 0 0") == Ok(()));
     assert!(rt; put_all(&mut sink, b" ld\n") == Ok(()));
+    assert!(rt; sink.store() == Ok(()));
     assert!(rt; sink.faults() == 1);
 
     let mut source = FileSource::new(&rt);
@@ -61,6 +66,7 @@ fn read_of_a_folder_and_write_to_a_full_device_are_faults(rt: HostRuntime) -> Re
     let mut sink = FileSink::new(&rt, None);
     assert!(rt; sink.begin("/dev/full") == Ok(()));
     assert!(rt; put_all(&mut sink, b"lost") == Err(Failed));
+    assert!(rt; sink.store() == Ok(()), "a device is not asked");
     assert!(rt; sink.faults() == 1);
     Ok(())
 }

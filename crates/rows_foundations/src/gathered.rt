@@ -87,7 +87,9 @@ fn pieces_are_handed_on_when_the_room_is_full(rt: HostRuntime) -> Result<(), Fai
     for (at, row) in FULL.iter().enumerate() {
         assert!(rt; is_so(&mut sink, row), "call {at}");
     }
-    let holds = sink.sink().holds();
+    let below = sink.into_sink();
+    assert!(rt; below.begun_as() == Some(b"dump".as_slice()));
+    let holds = below.holds();
     assert!(rt; holds.len() == ROOM + 2 && holds.ends_with(b"aabcd"));
     Ok(())
 }
