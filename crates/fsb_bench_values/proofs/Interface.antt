@@ -11,3 +11,5 @@ pub use Rattle.fsb_bench_values.proofs.LinesKept.{lines-kept}
 pub use Rattle.fsb_bench_values.proofs.CarriedNow.{carried-next}
 -- The log of a timely run follows its scripts.
 pub use Rattle.fsb_bench_values.proofs.LogsInOrder.{log-in-order}
+-- Passed on: a bench stands for its run, and goes on.
+pub use Rattle.fsb_bench_run.proofs.Interface.{ads-driven, bench-goes-on, entries-now, first-stands, may-go, plan-keeps}

@@ -6,7 +6,7 @@ use Rattle.fsb_command.specs.Form.{Form, run, check, audit, show, find, wave, ge
 use Rattle.fsb_io.specs.Faults.{Rose}
 use Rattle.fsb_io.specs.declared.sink.Sink.{Ghosts as SinkGhosts}
 use Rattle.fsb_io.specs.declared.source.Source.{Ghosts as SourceGhosts}
-use Rattle.fsb_play.specs.Printed.{run_dump, run_log, run_summary}
+use Rattle.fsb_top.specs.Printed.{run_dump, run_log, run_summary}
 use Rattle.fsb_script.specs.Made.{made_plan}
 use Rattle.fsb_script.specs.declared.fault.ScriptFault.{ScriptFault}
 use Rattle.fsb_show.specs.ShowText.{show_text}

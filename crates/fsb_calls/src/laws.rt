@@ -5,7 +5,7 @@ ghost use Rattle.std.specs.Prelude.{◌≡◌, ◌≢◌, ◌⊎◌, ℕ, IsTrue
 ghost use Rattle.fsb_command.specs.Form.{Form, audit, check, find, gen, looks_only, run, show};
 ghost use Rattle.fsb_command.specs.Form.{wave};
 ghost use Rattle.fsb_io.specs.Faults.{Rose};
-ghost use Rattle.fsb_play.specs.Printed.{run_dump, run_log, run_summary};
+ghost use Rattle.fsb_top.specs.Printed.{run_dump, run_log, run_summary};
 ghost use Rattle.fsb_script.specs.Made.{made_plan};
 ghost use Rattle.fsb_script.specs.declared.fault.ScriptFault.{ScriptFault};
 ghost use Rattle.fsb_show.specs.ShowText.{show_text};

@@ -30,12 +30,12 @@ use Rattle.fsb_bench_view.specs.BenchSteps.{step_run, step_sample}
 use Rattle.fsb_bench_view.specs.BusViews.{BenchView, next_clock_of}
 use Rattle.fsb_bench_view.specs.FirstBench.{first_bench}
 use Rattle.fsb_bench_view.specs.declared.beginning.Starting.{Starting}
-use Rattle.fsb_bench_run.specs.BenchOf.{IsBenchOf}
+use Rattle.fsb_bench_values.specs.BenchOf.{IsBenchOf}
 use Rattle.fsb_bench_values.specs.BytesOf.{HasBytesOf}
 use Rattle.fsb_bench_values.specs.Lent.{bytes_lent, state_lent}
 use Rattle.fsb_bench_values.proofs.Interface.{bytes-next, carried-next, first-bytes, first-carried, lines-kept}
 use Rattle.fsb_bench_values.proofs.Interface.{log-in-order}
-use Rattle.fsb_bench_run.proofs.Interface.{ads-driven, bench-goes-on, entries-now, first-stands, may-go, plan-keeps}
+use Rattle.fsb_bench_values.proofs.Interface.{ads-driven, bench-goes-on, entries-now, first-stands, may-go, plan-keeps}
 use Rattle.fsb_core.specs.Stepping.{IsAskedNext, IsStepped, MayGoOn}
 
 -- the run with one more clock of a bench is its next one

@@ -4,7 +4,7 @@ ghost use Rattle.std.specs.Option.{option_map};
 ghost use Rattle.fsb_hazard.specs.Told.{told_after};
 ghost use Rattle.fsb_script.specs.View.{plan_view};
 ghost use Rattle.fsb_bench_view.specs.FirstBench.{first_bench};
-ghost use Rattle.fsb_bench_run.specs.BenchOf.{IsBenchOf};
+ghost use Rattle.fsb_bench_values.specs.BenchOf.{IsBenchOf};
 ghost use Rattle.fsb_bench_values.specs.BytesOf.{HasBytesOf};
 ghost use Rattle.fsb_bench_values.specs.Lent.{bytes_lent, lines_lent, state_lent};
 ghost use Rattle.fsb_core.specs.Stepping.{HasClockLeft, IsAskedNext, IsStepped};

@@ -2,8 +2,8 @@
 use Rattle.std.proofs.Common.{◌≡◌, ◌++◌, ℕ, List, Option, ap, subst, sym}
 use Rattle.fsb_access.specs.Replay.{Served}
 use Rattle.fsb_hazard.specs.Told.{Told}
-use Rattle.fsb_play.specs.Printed.{run_dump, run_log}
-use Rattle.fsb_play.specs.RunOf.{IsRunOf}
+use Rattle.fsb_top.specs.Printed.{run_dump, run_log}
+use Rattle.fsb_top.specs.RunOf.{IsRunOf}
 use Rattle.fsb_script.specs.Drafts.{BenchText}
 use Rattle.fsb_script.specs.Plans.{PlanView}
 use Rattle.fsb_signal.specs.DumpText.{dump_text}

@@ -7,7 +7,7 @@ use Rattle.fsb_hazard.specs.Choice.{join, quiet_choice}
 use Rattle.fsb_hazard.specs.Told.{Told}
 use Rattle.fsb_hazard.specs.declared.choice.Ask.TheVariants.{Begun, Clock}
 use Rattle.fsb_hazard.specs.declared.choice.Choice.{Choice}
-use Rattle.fsb_play.specs.RunOf.{IsRunOf}
+use Rattle.fsb_top.specs.RunOf.{IsRunOf}
 use Rattle.fsb_script.specs.Plans.{PlanView}
 use Rattle.fsb_timely.specs.Runs.{Run}
 

@@ -11,8 +11,8 @@ use Rattle.fsb_access.specs.ScriptOrder.{InOrder, accesses_of, script_of, steps_
 use Rattle.fsb_access.specs.declared.item.Item.{Item}
 use Rattle.fsb_access.specs.declared.log.Done.{Done}
 use Rattle.fsb_hazard.specs.Told.{Told}
-use Rattle.fsb_play.specs.Printed.{run_log}
-use Rattle.fsb_play.specs.RunOf.{IsRunOf}
+use Rattle.fsb_top.specs.Printed.{run_log}
+use Rattle.fsb_top.specs.RunOf.{IsRunOf}
 use Rattle.fsb_plan_size.specs.AccessCount.{access_count}
 use Rattle.fsb_report.specs.LogText.{end_line_text, log_text}
 use Rattle.fsb_script.specs.Plans.{PlanView}

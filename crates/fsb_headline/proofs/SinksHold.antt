@@ -2,7 +2,7 @@
 use Rattle.std.proofs.Common.{◌≡◌, ◌++◌, ◌⊎◌, ℕ, List, Option, Some}
 use Rattle.fsb_audit.specs.declared.finding.FoulAt.{FoulAt}
 use Rattle.fsb_io.specs.Appends.{AppendsPart}
-use Rattle.fsb_play.specs.Writing.{HasPart, IsAsBefore}
+use Rattle.fsb_top.specs.Writing.{HasPart, IsAsBefore}
 use Rattle.fsb_report.specs.VerdictText.{trace_text}
 use Rattle.fsb_rules.specs.declared.broken.Broken.{Broken}
 use Rattle.fsb_signal.specs.declared.marks.Marks.{Marks}

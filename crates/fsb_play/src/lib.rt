@@ -6,6 +6,7 @@
 //! whose dump reads back to its trace. It takes no memory: all that a run needs, the bench has.
 #![tactic(auto)]
 
+pub use fsb_core::Bench;
 pub use playing::{Played, play};
 pub use print::Print;
 

@@ -4,3 +4,6 @@ pub mod Complete
 pub mod FileRead
 pub mod StatusText
 pub mod StopStatus
+pub use Rattle.fsb_play.specs.Printed
+pub use Rattle.fsb_play.specs.RunOf
+pub use Rattle.fsb_play.specs.Writing

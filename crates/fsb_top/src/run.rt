@@ -8,10 +8,9 @@ ghost use Rattle.fsb_top.specs.CallEnds.{GenEnds, PlanEnds, RunEnds, dump_call};
 
 use crate::read::read_plan;
 use crate::status::Status;
-use fsb_core::Bench;
 use fsb_hazard::Hazard;
 use fsb_io::{Sink, Source};
-use fsb_play::{Print, play};
+use fsb_play::{Bench, Print, play};
 use fsb_script::{Plan, plan_of};
 use std::alloc::Global;
 

@@ -10,14 +10,14 @@ use Rattle.fsb_command.specs.Form.{Form, run, check, audit, show, find, wave, ge
 use Rattle.fsb_hazard.specs.Told.{Told}
 use Rattle.fsb_io.specs.declared.sink.Sink.{Ghosts as SinkGhosts}
 use Rattle.fsb_io.specs.declared.source.Source.{Ghosts as SourceGhosts}
-use Rattle.fsb_play.specs.Printed.{run_dump, run_log, run_summary}
+use Rattle.fsb_top.specs.Printed.{run_dump, run_log, run_summary}
 use Rattle.fsb_script.specs.Made.{made_plan}
 use Rattle.fsb_signal.specs.declared.sample.Sample.{Sample}
 use Rattle.fsb_top.specs.CallEnds.{DumpCall, GenEnds, IsPlayed, Look, LookEnds, RowEnds, RunEnds, audit_look}
 use Rattle.fsb_top.specs.CallEnds.{check_look, find_look, show_look, wave_look}
 use Rattle.fsb_top.specs.FileRead.{IsStopped, bench_file}
-use Rattle.fsb_play.specs.RunOf.{IsRunOf}
-use Rattle.fsb_play.specs.Writing.{HasDump, HasDumpPart, HasPart}
+use Rattle.fsb_top.specs.RunOf.{IsRunOf}
+use Rattle.fsb_top.specs.Writing.{HasDump, HasDumpPart, HasPart}
 use Rattle.fsb_script.specs.Plans.{PlanView}
 use Rattle.fsb_timely.specs.Runs.{Run}
 use Rattle.fsb_io.specs.Faults.{Rose}

@@ -6,7 +6,7 @@ use Rattle.fsb_hazard.specs.Told.{Told, by_lines}
 use Rattle.fsb_io.specs.Faults.{Rose}
 use Rattle.fsb_io.specs.declared.sink.Sink.{Ghosts as SinkGhosts}
 use Rattle.fsb_io.specs.declared.refusal.Memory.{Memory}
-use Rattle.fsb_play.specs.Writing.{HasDump, HasPart}
+use Rattle.fsb_top.specs.Writing.{HasDump, HasPart}
 use Rattle.fsb_probe.specs.Weights.{line_weight, data_weight}
 use Rattle.fsb_script.specs.Plans.{PlanView}
 use Rattle.fsb_signal.specs.declared.lines.TheConstants.Lines.{ADS, DRDY}

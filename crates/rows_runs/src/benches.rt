@@ -1,7 +1,7 @@
 //! Benches of texts, and their clocks.
 
-use fsb_core::Bench;
 use fsb_hazard::Hazard;
+use fsb_play::Bench;
 use fsb_script::read_bench;
 use std::alloc::Global;
 

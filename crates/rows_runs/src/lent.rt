@@ -3,8 +3,8 @@
 use crate::benches::{LOAD_THEN_STORE, bench_of, go};
 use crate::mixed::MIXED;
 use fsb_cache::{Cache, Mesi};
-use fsb_core::Bench;
 use fsb_hazard::{Hazard, ScriptHazard};
+use fsb_play::Bench;
 use std::alloc::{AllocError, Global};
 use std::process::Abort;
 use std::test::Fail;

@@ -3,8 +3,8 @@
 use crate::Stubborn;
 use crate::benches::{LOAD_THEN_STORE, bare_bench, bench_of, go};
 use fsb_access::{Access, Done, Operand};
-use fsb_core::Bench;
 use fsb_hazard::{Ask, Choice, Hazard, QuietHazard, Turn, quiet_choice};
+use fsb_play::Bench;
 use fsb_signal::{Lines, Sample};
 use rows_store::{ADS, BREQ0, Clock, DEFER, LOAD_THEN_STORE_HIT, RS0, trace_of};
 use std::alloc::{AllocError, Global};

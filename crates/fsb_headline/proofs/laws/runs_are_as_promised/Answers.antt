@@ -1,6 +1,6 @@
 use Rattle.std.proofs.Common.{◌≡◌, Some, subst, sym}
 use Rattle.fsb_calls.specs.Calls.{held, printed, printed_before}
-use Rattle.fsb_play.specs.Printed.{run_dump, run_log}
+use Rattle.fsb_top.specs.Printed.{run_dump, run_log}
 use Rattle.fsb_calls.specs.StatusSays.{HasRun}
 use Rattle.fsb_top.specs.BenchEnds.{IsDumped, IsLogged}
 use Rattle.fsb_headline.proofs.FromRuns.{headline}

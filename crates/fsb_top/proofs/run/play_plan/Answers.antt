@@ -1,4 +1,4 @@
-use Rattle.fsb_core.specs.Benches.{bench_view}
+use Rattle.fsb_play.specs.Benches.{bench_view}
 use Rattle.fsb_play.specs.Printed.{dump_named, printed_text}
 use Rattle.fsb_script.specs.View.{plan_view}
 use Rattle.fsb_top.proofs.Rows.{plan_played}
