@@ -52,7 +52,7 @@ impl Model {
                     self.end_snoop(&request, sample);
                 }
                 if row.end == Some(clock) && row.outcome == Some(Outcome::Handed) {
-                    let line = place(request.line);
+                    let line = (request.line % 8) as usize;
                     self.memory[line] = self.stored[line];
                 }
             }
@@ -61,12 +61,13 @@ impl Model {
 
     /// What the end of a snoop makes of its line.
     fn end_snoop(&mut self, request: &Request, sample: &Sample) {
-        let state = self.states[place(request.line)];
+        let line = (request.line % 8) as usize;
+        let state = self.states[line];
         let is_own = request.did / 16 == AGENT;
         let is_handed = sample.has(Lines::HITM);
         let is_retried = sample.has(Lines::DEFER) && !is_handed;
         let is_shared = sample.has(Lines::HIT) || is_handed;
-        self.states[place(request.line)] = match request.kind {
+        self.states[line] = match request.kind {
             _ if is_own && is_retried => state,
             Kind::Read if is_own && is_shared => Mesi::Shared,
             Kind::Read if is_own => Mesi::Exclusive,
@@ -81,7 +82,7 @@ impl Model {
     fn take_stores(&mut self, clock: u32, log: &[Done]) {
         for done in log {
             if let (Access::Store { .. }, true) = (done.access, done.clock == clock) {
-                let line = place(done.access.line());
+                let line = (done.access.line() % 8) as usize;
                 self.stored[line] = (done.value % 256) as u8;
                 if done.agent == AGENT && self.states[line] == Mesi::Exclusive {
                     self.states[line] = Mesi::Modified;
@@ -89,11 +90,6 @@ impl Model {
             }
         }
     }
-}
-
-/// The place of a line in a model.
-fn place(line: u64) -> usize {
-    (line % 8) as usize
 }
 
 fn main(rt: HostRuntime) -> Result<()> {
