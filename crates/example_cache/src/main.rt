@@ -114,11 +114,11 @@ fn main(rt: HostRuntime) -> Result<()> {
 
 /// Takes clock after clock, until the model and the bench differ. Answers the first line of which they do.
 fn compare(alloc: Global, bench: &mut Bench, model: &mut Model) -> Result<Option<usize>> {
-    let marks = Marks::of_profile(bench.plan().profile);
     let mut line = None;
     while line.is_none() && bench.clock() < bench.plan().clocks {
         let clock = bench.clock();
         bench.step();
+        let marks = Marks::of_profile(bench.plan().profile);
         bench.breaks_no_rule();
         let rows = table(alloc, marks, bench.trace())?;
         model.take_rows(clock, &bench.trace()[clock as usize], &rows);
