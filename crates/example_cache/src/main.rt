@@ -4,7 +4,8 @@
 //! The second model is wrong: it does not hear other agents' reads. The comparison says of which line it is wrong first, and when.
 #![tactic(auto)]
 
-ghost use Rattle.example_cache.specs.Compared.{IsFirstApart};
+ghost use Rattle.std.specs.Prelude.{◌<◌, ◌↔◌, IsTrue};
+ghost use Rattle.example_cache.specs.Compared.{HasSame, IsFirstApart};
 
 use anyhow::{Result, anyhow};
 use fsb_access::{Access, Done};
@@ -65,11 +66,9 @@ impl Model {
         let state = self.states[line];
         let is_own = request.did / 16 == AGENT;
         let is_handed = sample.has(Lines::HITM);
-        let is_retried = sample.has(Lines::DEFER) && !is_handed;
-        let is_shared = sample.has(Lines::HIT) || is_handed;
         self.states[line] = match request.kind {
-            _ if is_own && is_retried => state,
-            Kind::Read if is_own && is_shared => Mesi::Shared,
+            _ if is_own && !is_handed && sample.has(Lines::DEFER) => state,
+            Kind::Read if is_own && (is_handed || sample.has(Lines::HIT)) => Mesi::Shared,
             Kind::Read if is_own => Mesi::Exclusive,
             Kind::Invalidate if is_own => Mesi::Modified,
             Kind::Read if state != Mesi::Invalid && self.hears_reads => Mesi::Shared,
@@ -123,10 +122,9 @@ fn compare(alloc: Global, bench: &mut Bench, model: &mut Model) -> Result<Option
         let rows = table(alloc, marks, bench.trace())?;
         model.take_rows(clock, &bench.trace()[clock as usize], &rows);
         model.take_stores(clock, bench.log());
-        line = match bench.cache(AGENT) {
-            Some(cache) => difference(model, cache, bench.memory()),
-            None => None,
-        };
+        if let Some(cache) = bench.cache(AGENT) {
+            line = difference(model, cache, bench.memory());
+        }
     }
     Ok(line)
 }
@@ -137,10 +135,17 @@ fn difference(model: &Model, cache: &Cache, memory: &Controller) -> Option<usize
     ensures { IsFirstApart model.now.states model.now.memory cache.now memory.now result }
 {
     for at in 0..LINES {
-        let line = at as u64;
-        if cache.state_of(line) != model.states[at] || memory.line(line)[0] != model.memory[at] {
+        if !is_same(model, cache, memory, at) {
             return Some(at);
         }
     }
     None
+}
+
+/// Whether the cache has the line in the model's state, and memory's first byte of it is the model's.
+fn is_same(model: &Model, cache: &Cache, memory: &Controller, at: usize) -> bool
+    requires { at < 8 }
+    ensures { IsTrue result ↔ HasSame model.now.states model.now.memory cache.now memory.now at }
+{
+    model.states[at] == cache.state_of(at as u64) && model.memory[at] == memory.line(at as u64)[0]
 }
