@@ -34,7 +34,7 @@ read_behind w v s x at more same read =
     let there : at < length v = omega (arith, same, longer) in
     let here : slice_get v at ≡ Some x = slice_get-get_or v at x there ∙ ap Some (sym read) in
     let end : slice_get v at ≡ Some s = ap (λ u. slice_get u at) more
-        ∙ ap (λ n. slice_get (w ++ s ∷ []) n) same ∙ at_end w s in
+    ∙ ap (λ n. slice_get (w ++ s ∷ []) n) same ∙ at_end w s in
     let both : Some s ≡ Some x = sym end ∙ here in
     let e : s ≡ x = cc in
     more ∙ ap (λ y. w ++ y ∷ []) e
