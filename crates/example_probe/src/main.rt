@@ -1,51 +1,106 @@
 //! A probe of one's own: how long requests wait for their responses, as a histogram: `example_probe <dump>`.
 //!
-//! The total of a probe is a sum of weights, one for each sample, and no more can be read through its box. [`Latency`](latency::Latency) counts
+//! The total of a probe is a sum of weights, one for each sample, and no more can be read through its box. [`Latency`] counts
 //! responses so, and keeps a histogram beside, in a cell that it shares with who made it. It is shown a dump by the calls
 //! of `show`, and then a bench while that runs.
 #![tactic(auto)]
 
-ghost use Rattle.std.specs.Prelude.{◌≡◌, ◌++◌, [], ◌∷◌};
+ghost use Rattle.std.specs.Prelude.{◌≡◌, []};
 ghost use Rattle.fsb_core.specs.Benches.{bench_view};
-ghost use Rattle.fsb_core.specs.Stepping.{HasClockLeft};
 ghost use Rattle.fsb_probe.specs.Weights.{total_weight};
 ghost use Rattle.example_probe.specs.Responses.{response_weight};
 
-use crate::latency::Latency;
 use anyhow::{Result, anyhow};
+use arrayvec::ArrayVec;
 use fsb_core::Bench;
 use fsb_hazard::{Hazard, SeedHazard};
 use fsb_io::{FileSource, StdoutSink};
 use fsb_probe::Probe;
-use fsb_script::{Plan, read_bench};
+use fsb_script::plan_of;
 use fsb_show::{put_show, show_dump};
-use fsb_signal::Sample;
-use std::alloc::Global;
+use fsb_signal::{Lines, Sample};
 use std::cell::Cell;
 use std::rc::Rc;
 use std::rt::{Env, Files};
 
-mod latency;
+/// Counts responses, and how long each one's request waited for it.
+#[derive(Drop)]
+struct Latency {
+    responses: u64,
+    /// How many samples were seen.
+    clock: u32,
+    /// The first clocks of the requests that have no response, the oldest first. Responses come in this order.
+    waiting: ArrayVec<u32, 8>,
+    /// How many responses came so late: in the first place those of 0 to 3 clocks, in each further one those of four clocks
+    /// more, and in the last one all later ones too.
+    histogram: Rc<Cell<[u32; 8]>>,
+}
 
-/// Two agents that load from four lines.
-const BENCH: &str = "p6bench 1
-agents 2
-clocks 160
-cache 8
-ahead 4
-agent 0
-ld 1 0
-ld 1 20
-ld 1 40
-ld 1 60
-end
-agent 1
-ld 1 60
-ld 1 40
-ld 1 20
-ld 1 0
-end
-";
+impl Latency {
+    /// Of no sample yet.
+    fn new(histogram: Rc<Cell<[u32; 8]>>) -> Latency
+        ensures { result.responses ≡ 0 }
+    {
+        Latency {
+            responses: 0,
+            clock: 0,
+            waiting: ArrayVec::new(),
+            histogram,
+        }
+    }
+
+    /// Follows the requests in flight: a cancelled one leaves, a response answers the oldest, and a new one begins.
+    fn follow(&mut self, sample: &Sample)
+        ensures { self.new.responses ≡ self.old.responses }
+    {
+        let clock = self.clock;
+        if sample.has(Lines::AERR) {
+            self.waiting
+                .retain(|first| first.saturating_add(3) != clock);
+        }
+        if sample.response() != 0 {
+            if let Some(first) = self.waiting.pop_at(0) {
+                self.note(clock.saturating_sub(first));
+            }
+        }
+        if sample.has(Lines::ADS) && !self.waiting.is_full() {
+            self.waiting.push(clock);
+        }
+        self.clock = clock.saturating_add(1);
+    }
+
+    /// Adds a latency to the histogram.
+    fn note(&self, latency: u32) {
+        let mut histogram = self.histogram.get();
+        let place = (latency as usize / 4).min(7);
+        histogram[place] = histogram[place].saturating_add(1);
+        self.histogram.set(histogram);
+    }
+}
+
+impl Probe for Latency {
+    ghost use Rattle.example_probe.specs.Responses.{response_weight};
+
+    ghost counted = { λ probe. probe.responses };
+
+    ghost weight = { λ _. response_weight };
+
+    fn clear(&mut self) {
+        self.responses = 0;
+        self.clock = 0;
+        self.waiting.clear();
+        self.histogram.set([0; 8]);
+    }
+
+    fn see(&mut self, sample: &Sample) {
+        self.follow(sample);
+        self.responses += u64::from(sample.response() != 0);
+    }
+
+    fn total(&self) -> u64 {
+        self.responses
+    }
+}
 
 fn main(rt: HostRuntime) -> Result<()> {
     let alloc = rt.alloc();
@@ -58,8 +113,8 @@ fn main(rt: HostRuntime) -> Result<()> {
     histogram.set([0; 8]);
     let mut hazards: Vec<Box<dyn Hazard>> = Vec::new(alloc);
     hazards.push(Box::new(alloc, SeedHazard::new(7))?)?;
+    let mut bench = Bench::make(alloc, plan_of(alloc, 7, 2, 4)?, hazards)?;
     let mut latency = Latency::new(histogram.clone()?);
-    let mut bench = Bench::make(alloc, plan_of(alloc)?, hazards)?;
     watch(&mut bench, &mut latency);
     println!(rt; "{} responses of the bench", latency.total())?;
     println!(rt; "{:?}", histogram.get())?;
@@ -82,14 +137,6 @@ fn show(
     }
 }
 
-/// The plan of the bench's text.
-fn plan_of(alloc: Global) -> Result<Plan> {
-    match read_bench(alloc, BENCH.as_bytes()) {
-        Ok(plan) => Ok(plan),
-        Err(stop) => Err(anyhow!("{stop:?}")),
-    }
-}
-
 /// Takes all clocks of a bench, and shows the probe each sample as it comes. The probe counts the responses of the whole run.
 fn watch(bench: &mut Bench, probe: &mut Latency)
     requires fresh { (bench_view bench.old).run.trace ≡ [] }
@@ -97,19 +144,8 @@ fn watch(bench: &mut Bench, probe: &mut Latency)
     ensures { probe.new.responses ≡ total_weight response_weight (bench_view bench.new).run.trace }
 {
     while bench.clock() < bench.plan().clocks {
-        let sample = next_sample(bench);
-        probe.see(&sample);
+        let clock = bench.clock() as usize;
+        bench.step();
+        probe.see(&bench.trace()[clock]);
     }
-}
-
-/// Takes the next clock, and gives its sample.
-fn next_sample(bench: &mut Bench) -> Sample
-    requires { HasClockLeft (bench_view bench.old) }
-    ensures trace { (bench_view bench.new).run.trace
-        ≡ (bench_view bench.old).run.trace ++ result ∷ [] }
-    ensures plan_stays { (bench_view bench.new).run.plan ≡ (bench_view bench.old).run.plan }
-{
-    let clock = bench.clock() as usize;
-    bench.step();
-    bench.trace()[clock]
 }

@@ -1,7 +1,6 @@
-use Rattle.fsb_cache.specs.Sets.{states}
-use Rattle.example_cache.specs.Compared.{SameBelow}
+use Rattle.example_cache.specs.Compared.{HasSameBelow}
 use Rattle.example_cache.proofs.difference.Given as goal
 
--- no line so far has another state
-abbrev pub invariant-loop-line : goal.invariant-loop-line
-invariant-loop-line l = SameBelow l.model (states l.cache) l.line
+-- the model has the same of each line so far
+abbrev pub invariant-loop-at : goal.invariant-loop-at
+invariant-loop-at l = HasSameBelow l.model.states l.model.memory l.cache l.memory l.at

@@ -1,8 +1,9 @@
-use Rattle.std.proofs.Common.{◌≡◌, ◌+◌, ◌∷◌, ◌++◌, [], length, refl, sym, ap, ◌∙◌, arith, length-append}
+use Rattle.std.proofs.Common.{◌≡◌, ◌+◌, ◌∷◌, ◌++◌, [], length, sym, ap, ◌∙◌, arith, length-append}
+use Rattle.std.specs.Prelude.{slice_index_or}
 use Rattle.fsb_core.specs.Benches.{bench_view}
 use Rattle.fsb_probe.specs.Weights.{total_weight}
 use Rattle.example_probe.specs.Responses.{response_weight}
-use Rattle.example_probe.proofs.Totals.{one_more, one_light}
+use Rattle.example_probe.proofs.Totals.{one_more, one_light, read_behind}
 use Rattle.example_probe.proofs.watch.Goals as goal
 
 pub loop-bench-init : goal.loop-bench-init
@@ -14,9 +15,12 @@ loop-bench-init g c = record {
 pub loop-bench-preserved : goal.loop-bench-preserved
 loop-bench-preserved g c =
     let old = (bench_view c.loop-bench.bench).run in
-    let new = (bench_view c.next_sample-sample.new.bench).run in
-    let x = c.next_sample-sample.result in
-    let trace : new.trace ≡ old.trace ++ x ∷ [] = c.next_sample-sample.ensures.trace in
+    let new = (bench_view c.step.new.self).run in
+    let next = c.step.ensures.asked.next in
+    let x = c.index-trace-clock.result in
+    let trace : new.trace ≡ old.trace ++ x ∷ [] =
+    read_behind old.trace new.trace next.sample x c.clock-clock.result next.more_trace c.clock-clock.ensures
+    (c.index-trace-clock.is ∙ ap (λ w. slice_index_or w c.clock-clock.result x) c.trace.ensures) in
     let long : length new.trace ≡ length old.trace + 1 =
     ap length trace ∙ length-append old.trace (x ∷ []) in
     let light = one_light x in
@@ -28,4 +32,4 @@ loop-bench-preserved g c =
     }
 
 pub see-requires : goal.see-requires
-see-requires g c = omega (arith, c.loop-bench.invariant.few, c.clock.ensures)
+see-requires g c = omega (arith, c.loop-bench.invariant.few, c.clock-clock.ensures)
