@@ -333,7 +333,7 @@ fn no_words_have_no_command(rt: HostRuntime) {
 
 const NO_COMMAND: &str = "\
 error: 'p6scope' requires a subcommand but one was not provided
-  [subcommands: lines, check, rule]
+  [subcommands: lines, check, pick, rule]
 ";
 
 /// Ways to ask for the version.
