@@ -5,7 +5,7 @@ Usage: lab/pages.py [PROGRAM [PAGE..]]      the pages are README.md and all of d
 
 A command is a line `$ ...` of a fenced block that begins with one; lines `> ...` right behind it go on with it. The lines up to
 the next command are its standard output. The commands of a page run one after the other, each by a bash of its own, in one
-fresh copy of examples/ with p6bench on the path; lab/ and crates/ lie beside it. Blocks of another form are read past.
+fresh copy of examples/ with p6bench and p6scope on the path; lab/ and crates/ lie beside it. Blocks of another form are read past.
 """
 
 import glob
@@ -36,6 +36,7 @@ def folder_of(top, program):
     """The examples that the commands of one page use up, and what lies beside them."""
     os.mkdir(os.path.join(top, "bin"))
     os.symlink(program, os.path.join(top, "bin/p6bench"))
+    os.symlink(os.path.join(TOP, "crates/p6scope/out/p6scope"), os.path.join(top, "bin/p6scope"))
     for name in ("lab", "crates"):
         os.symlink(os.path.join(TOP, name), os.path.join(top, name))
     return shutil.copytree(os.path.join(TOP, "examples"), os.path.join(top, "examples"))
