@@ -1,7 +1,5 @@
 -- How a command ends.
-use Rattle.std.specs.Prelude.{◌≡◌, Result, Ok, Err, Option, Some, None}
-use Rattle.scope_words.specs.declared.order.Order.{Order}
-use Rattle.scope_words.specs.declared.order.Order.TheVariants as orders
+use Rattle.std.specs.Prelude.{Result, Ok, Err}
 use Rattle.scope_report.specs.declared.ending.Ending.{Ending}
 use Rattle.scope_report.specs.declared.ending.Ending.TheVariants as endings
 use Rattle.scope_report.specs.Endings.{ending_after}
