@@ -35,6 +35,7 @@ pub fn check_text(
     put_found(&mut text, alloc, judged, scale)?;
     put_unread_data(&mut text, wiring)?;
     put_start(&mut text, judged)?;
+    put_deferral(&mut text, judged)?;
     put_holes(&mut text, judged, scale)?;
     put_behind(&mut text, judged)?;
     put_other_names(&mut text, &heading, &settled, wiring.home)?;
@@ -180,6 +181,23 @@ fn put_start(text: &mut Vec<u8>, judged: &Judged) -> Result<(), AllocError> {
         put_begin(text, judged.part.begin)
     }
 }
+
+// That a reply may answer a request of before the part.
+fn put_deferral(text: &mut Vec<u8>, judged: &Judged) -> Result<(), AllocError> {
+    match judged.verdict {
+        Verdict::Broken { rule: 18, .. } => {
+            if judged.start != 0 && judged.part.begin != Begin::Known {
+                put(text, MAY_ANSWER)?;
+            }
+            Ok(())
+        }
+        _ => Ok(()),
+    }
+}
+
+const MAY_ANSWER: &str = "\
+  A reply may answer a request that was deferred before that clock: then no rule is broken there.
+";
 
 // Why the part begins there, and what is taken to be so.
 fn put_begin(text: &mut Vec<u8>, begin: Begin) -> Result<(), AllocError> {
