@@ -14,7 +14,7 @@ fn dump(alloc: Global, values: &str, first: u32, count: u32) -> Result<String, A
 }
 
 /// Words, the values before five clocks, and the status and the text behind the first line.
-const VERDICTS: [(&str, &str, u8, &str); 4] = [
+const VERDICTS: [(&str, &str, u8, &str); 9] = [
     ("check|x.vcd", IDLE, 0, "accepted: 5 of 5 clocks judged\n"),
     (
         "check|--without|D_n|x.vcd",
@@ -34,7 +34,40 @@ const VERDICTS: [(&str, &str, u8, &str); 4] = [
         3,
         UNKNOWN,
     ),
+    ("check|--at|2|x.vcd", IDLE, 0, AT),
+    ("check|--from|1|--quiet|2|x.vcd", IDLE, 0, FROM),
+    ("check|--to|2|x.vcd", IDLE, 0, TO),
+    (
+        "check|--at|9|x.vcd",
+        IDLE,
+        3,
+        "nothing could be judged: the dump has no such clock\n",
+    ),
+    ("check|--from|0|x.vcd", IDLE, 3, NEVER_QUIET),
 ];
+
+const AT: &str = "\
+accepted: 3 of 5 clocks judged
+clock 2 is the first that is judged: as --at says, nothing is under way there
+  Who had the bus last is not known: a rule counts as broken where it is whoever had it.
+";
+
+const FROM: &str = "\
+accepted: 4 of 5 clocks judged
+clock 1 is the first that is judged: it ends 2 clocks without an asserted line
+  No request is taken to wait longer. Who had the bus last is not known: a rule counts as broken
+  where it is whoever had it.
+";
+
+const TO: &str = "\
+accepted: 3 of 5 clocks judged
+clock 3 and those after it are not judged: --to names the clock before it
+";
+
+const NEVER_QUIET: &str = "\
+nothing could be judged: no clock from there on ends so many clocks in which every line had a level and none was asserted
+  --quiet N asks for fewer, --at C begins exactly at a clock.
+";
 
 const BROKEN: &str = "\
 rejected at clock 0, 5 ns (line 22 of the file): rule 2, request spacing

@@ -378,7 +378,7 @@ fn help_is_told_at_each_verb(rt: HostRuntime) {
 }
 
 /// The options of `check` and of `pick`.
-const OPTIONS: [&str; 7] = [
+const OPTIONS: [&str; 11] = [
     "--scope <PATH>",
     "--line <LINE=[!]PATH>",
     "--lines <FILE>",
@@ -386,10 +386,11 @@ const OPTIONS: [&str; 7] = [
     "--edge <EDGE>",
     "--first ",
     "--after <LINE,..>",
+    "--at <C>",
+    "--from <C>",
+    "--to <C>",
+    "--quiet <N>",
 ];
-
-/// Options that are read, and not offered yet.
-const UNOFFERED: [&str; 4] = ["--at", "--from", "--to", "--quiet"];
 
 #[test]
 fn help_lists_each_option(rt: HostRuntime) {
@@ -403,12 +404,6 @@ fn help_lists_each_option(rt: HostRuntime) {
 
 #[test]
 fn help_offers_nothing_that_is_not_done(rt: HostRuntime) {
-    for row in ["check|--help", "pick|-h"].iter() {
-        let told = told(rt.alloc(), row).expect(&rt, "memory");
-        for option in UNOFFERED.iter() {
-            assert!(rt; !told.as_str().contains(option), "{row} {option}");
-        }
-    }
     let told = told(rt.alloc(), "--help").expect(&rt, "memory");
     assert!(rt; !told.as_str().contains("pick"), "{told}");
 }

@@ -1,7 +1,7 @@
 //! What is found of dumps.
 
-use crate::dumps::{HEADER, QUIET, checked, joined};
-use scope_check::{Judged, Verdict};
+use crate::dumps::{HEADER, QUIET, checked, checked_part, joined};
+use scope_check::{Begin, Bound, Judged, Part, Verdict};
 use scope_watch::{Checked, Finding, ScopeStop};
 use scope_wiring::Cause;
 use vcd_grammar::{VcdCause, VcdFault};
@@ -89,6 +89,45 @@ fn findings_whatever_the_pieces(rt: HostRuntime) {
         for size in [1, 7, 4096] {
             let answer = checked(alloc, &text, size, &[]);
             assert!(rt; is_found(found, &answer));
+        }
+    }
+}
+
+/// Parts of a dump of three clocks, the first of unknown lines and the others quiet, and of each which clock is the first
+/// that is judged, and how many are. Without one all three lie before the part.
+static PARTS: [(Begin, Option<Bound>, u32, u32); 13] = [
+    (Begin::Known, Some(Bound::Clock(1)), 1, 1),
+    (Begin::Known, Some(Bound::Clock(0)), 3, 0),
+    (Begin::At(Bound::Clock(1)), None, 1, 2),
+    (Begin::At(Bound::Clock(2)), None, 2, 1),
+    (Begin::At(Bound::Clock(3)), None, 3, 0),
+    (Begin::At(Bound::Clock(1)), Some(Bound::Clock(1)), 1, 1),
+    (Begin::Quiet(Bound::Clock(0), 1), None, 1, 2),
+    (Begin::Quiet(Bound::Clock(0), 2), None, 2, 1),
+    (Begin::Quiet(Bound::Clock(2), 1), None, 2, 1),
+    (Begin::Quiet(Bound::Clock(0), 3), None, 3, 0),
+    (Begin::At(Bound::Time(15)), None, 1, 2),
+    (Begin::At(Bound::Time(16)), None, 2, 1),
+    (Begin::At(Bound::Time(5)), Some(Bound::Time(5)), 0, 1),
+];
+
+#[test]
+fn parts_begin_and_end_where_they_say(rt: HostRuntime) {
+    let alloc = rt.alloc();
+    let text = joined(alloc, &[HEADER, QUIET]).ok().expect(&rt, "memory");
+    for (begin, to, start, judged) in PARTS.iter() {
+        let part = Part {
+            begin: *begin,
+            to: *to,
+        };
+        let checked = checked_part(alloc, &text, 64, &[], part).ok().expect(&rt, "checked");
+        match &checked.finding {
+            Finding::Judged(_, found) => {
+                assert!(rt; found.clocks == 3);
+                assert!(rt; found.start == *start, "{part:?}");
+                assert!(rt; found.judged == *judged, "{part:?}");
+            }
+            Finding::Refused(_) => assert!(rt; false),
         }
     }
 }

@@ -1,6 +1,7 @@
 //! Dumps of a bus with names in lower case, and what reads them.
 
 use fsb_io::MemSource;
+use scope_check::Part;
 use scope_watch::{Checked, Sampling, ScopeStop, check_dump};
 use scope_wiring::Choice;
 use std::alloc::Global;
@@ -70,6 +71,17 @@ pub(crate) fn checked(
     size: usize,
     fails: &[u32],
 ) -> Result<Checked, ScopeStop> {
+    checked_part(alloc, text, size, fails, Part::whole())
+}
+
+/// The same of a part of the dump.
+pub(crate) fn checked_part(
+    alloc: Global,
+    text: &[u8],
+    size: usize,
+    fails: &[u32],
+    part: Part,
+) -> Result<Checked, ScopeStop> {
     let Ok(mut source) = MemSource::new(alloc, text, fails) else {
         return Err(ScopeStop::Memory);
     };
@@ -85,6 +97,7 @@ pub(crate) fn checked(
         &mut source,
         &mut room,
         &choice,
+        part,
         rising(alloc),
     )
 }

@@ -11,4 +11,6 @@ mod checked;
 #[cfg(test)]
 mod dumps;
 #[cfg(test)]
+mod histories;
+#[cfg(test)]
 mod watched;

@@ -1,22 +1,18 @@
 -- One more event before the part, in it, or behind it.
-use Rattle.std.proofs.Common.{◌≡◌, ◌∙◌, ◌++◌, ◌∷◌, [], List, Bool, true, false, not, refl, arith}
-use Rattle.std.specs.List.{list_all}
+use Rattle.std.proofs.Common.{◌≡◌, ◌++◌, ◌∷◌, [], List, Bool, true, false, not, ◌&&◌, ◌||◌, refl, ap, sym, subst, arith, add-zero}
 use Rattle.std.proofs.lemmas.Grind.{common_steps}
-use Rattle.std.proofs.lemmas.List.Folds.{list_all-append}
-use Rattle.vcd_way.specs.Events.{DumpEvent}
-use Rattle.scope_check.specs.Parts.{IsParted, is_ready, is_sampled, is_none, begins}
+use Rattle.vcd_way.specs.Events.{DumpEvent, time_of}
+use Rattle.scope_check.specs.declared.part.Part.{Part}
+use Rattle.scope_check.specs.Bounds.{passes}
+use Rattle.scope_check.specs.Parts.{IsParted, Throughout, opens, closes, is_sampled, is_none, begins, may_begin, clocks_of, quiet_run}
 
 -- all of some, and one more
-all_more : (is_so : DumpEvent → Bool) (es : List DumpEvent) (e : DumpEvent) → list_all is_so es ≡ true → is_so e ≡ true
-    → list_all is_so (es ++ e ∷ []) ≡ true
-all_more is_so es e all one = list_all-append is_so es (e ∷ []) ∙ rw all (rw one refl)
+all_more : (is_so : List DumpEvent → DumpEvent → Bool) (es : List DumpEvent) (e : DumpEvent) → Throughout is_so es
+    → is_so es e ≡ true → Throughout is_so (es ++ e ∷ [])
+all_more is_so [] e all one = (one, tt)
+all_more is_so (x ∷ es) e all one = (all.0, all_more (λ ys. is_so (x ∷ ys)) es e all.1 one)
 
 -- the first of some is that of more
-begins_more : (is_so : DumpEvent → Bool) (es : List DumpEvent) (e : DumpEvent) → begins is_so es ≡ true → is_so e ≡ true
-    → begins is_so (es ++ e ∷ []) ≡ true
-begins_more is_so [] e first one = one
-begins_more is_so (x ∷ es) e first one = first
-
 begins_still : (is_so : DumpEvent → Bool) (es : List DumpEvent) (e : DumpEvent) → is_none es ≡ false
     → begins is_so es ≡ true → begins is_so (es ++ e ∷ []) ≡ true
 begins_still is_so [] e some first = grind (arith, some)
@@ -27,69 +23,79 @@ none_more [] e = refl
 none_more (x ∷ es) e = refl
 
 -- before the part
-pub before_more : (es before part behind : List DumpEvent) (e : DumpEvent) → IsParted es before part behind
-    → part ≡ [] → behind ≡ [] → is_ready e ≡ false
-    → IsParted (es ++ e ∷ []) (before ++ e ∷ []) part behind
-before_more es before part behind e p no_part no_behind unready = record {
-  whole = grind (arith, common_steps, p.whole, no_part, no_behind);
-  unready = all_more (λ x. not (is_ready x)) before e p.unready (rw unready refl);
-  ready = p.ready;
-  sampled = p.sampled;
-  stopped = p.stopped;
-  begun = p.begun;
+pub before_more : (p : Part) (es before part behind : List DumpEvent) (e : DumpEvent) → IsParted p es before part behind
+    → part ≡ [] → behind ≡ [] → opens p before e ≡ false → IsParted p (es ++ e ∷ []) (before ++ e ∷ []) part behind
+before_more p es before part behind e s no_part no_behind shut = record {
+  whole = grind (arith, common_steps, s.whole, no_part, no_behind);
+  unopened = all_more (λ ys x. not (opens p ys x)) before e s.unopened (ap not shut);
+  opened = rw no_part refl;
+  unclosed = rw no_part tt;
+  closed = rw no_behind refl;
+  begun = s.begun;
 }
 
--- in the part
-pub part_more : (es before part behind : List DumpEvent) (e : DumpEvent) → IsParted es before part behind
-    → behind ≡ [] → begins is_ready (part ++ e ∷ []) ≡ true → is_sampled e ≡ true
-    → IsParted (es ++ e ∷ []) before (part ++ e ∷ []) behind
-part_more es before part behind e p no_behind ready sampled = record {
-  whole = grind (arith, common_steps, p.whole, no_behind);
-  unready = p.unready;
-  ready = ready;
-  sampled = all_more is_sampled part e p.sampled sampled;
-  stopped = p.stopped;
-  begun = λ some. none_more part e;
-}
+-- where a part may begin it does not end
+not_both : (a b c : Bool) → (a && not b && c) ≡ true → not (not a || b) ≡ true
+not_both true false c h = refl
+not_both true true c h = cc
+not_both false b c h = cc
+
+first_stays : (p : Part) (before : List DumpEvent) (e : DumpEvent) → opens p before e ≡ true
+    → not (closes p before [] e) ≡ true
+first_stays p before e h =
+    subst (λ n. not (not (is_sampled e) || passes p.to n (time_of e)) ≡ true) (sym (add-zero (clocks_of before)))
+    (not_both (is_sampled e) (passes p.to (clocks_of before) (time_of e))
+    (may_begin p.begin (clocks_of before) (quiet_run (before ++ e ∷ [])) e) h)
 
 -- the part begins
-pub part_begins : (es before part behind : List DumpEvent) (e : DumpEvent) → IsParted es before part behind
-    → part ≡ [] → behind ≡ [] → is_ready e ≡ true → is_sampled e ≡ true
-    → IsParted (es ++ e ∷ []) before (part ++ e ∷ []) behind
-part_begins es before part behind e p no_part no_behind ready sampled =
-    part_more es before part behind e p no_behind (begins_more is_ready part e p.ready ready) sampled
+pub part_begins : (p : Part) (es before part behind : List DumpEvent) (e : DumpEvent) → IsParted p es before part behind
+    → part ≡ [] → behind ≡ [] → opens p before e ≡ true
+    → IsParted p (es ++ e ∷ []) before (e ∷ []) []
+part_begins p es before part behind e s no_part no_behind open_there = record {
+  whole = grind (arith, common_steps, s.whole, no_part, no_behind);
+  unopened = s.unopened;
+  opened = open_there;
+  unclosed = (first_stays p before e open_there, tt);
+  closed = refl;
+  begun = λ some. refl;
+}
 
 -- it goes on
-pub part_goes_on : (es before part behind : List DumpEvent) (e : DumpEvent) → IsParted es before part behind
-    → is_none part ≡ false → behind ≡ [] → is_sampled e ≡ true
-    → IsParted (es ++ e ∷ []) before (part ++ e ∷ []) behind
-part_goes_on es before part behind e p some no_behind sampled =
-    part_more es before part behind e p no_behind (begins_still is_ready part e some p.ready) sampled
+pub part_goes_on : (p : Part) (es before part behind : List DumpEvent) (e : DumpEvent) → IsParted p es before part behind
+    → is_none part ≡ false → behind ≡ [] → closes p before part e ≡ false
+    → IsParted p (es ++ e ∷ []) before (part ++ e ∷ []) behind
+part_goes_on p es before part behind e s some no_behind stays = record {
+  whole = grind (arith, common_steps, s.whole, no_behind);
+  unopened = s.unopened;
+  opened = begins_still (opens p before) part e some s.opened;
+  unclosed = all_more (λ ys x. not (closes p before ys x)) part e s.unclosed (ap not stays);
+  closed = rw no_behind refl;
+  begun = λ more. none_more part e;
+}
 
 -- behind it
-behind_more : (es before part behind : List DumpEvent) (e : DumpEvent) → IsParted es before part behind
-    → is_none part ≡ false → begins (λ x. not (is_sampled x)) (behind ++ e ∷ []) ≡ true
-    → IsParted (es ++ e ∷ []) before part (behind ++ e ∷ [])
-behind_more es before part behind e p some stopped = record {
-  whole = grind (arith, common_steps, p.whole);
-  unready = p.unready;
-  ready = p.ready;
-  sampled = p.sampled;
-  stopped = stopped;
+behind_more : (p : Part) (es before part behind : List DumpEvent) (e : DumpEvent) → IsParted p es before part behind
+    → is_none part ≡ false → begins (closes p before part) (behind ++ e ∷ []) ≡ true
+    → IsParted p (es ++ e ∷ []) before part (behind ++ e ∷ [])
+behind_more p es before part behind e s some stopped = record {
+  whole = grind (arith, common_steps, s.whole);
+  unopened = s.unopened;
+  opened = s.opened;
+  unclosed = s.unclosed;
+  closed = stopped;
   begun = λ more. some;
 }
 
--- the dump stops or goes on
-pub part_ends : (es before part behind : List DumpEvent) (e : DumpEvent) → IsParted es before part behind
-    → is_none part ≡ false → is_sampled e ≡ false
-    → IsParted (es ++ e ∷ []) before part (behind ++ e ∷ [])
-part_ends es before part behind e p some stopped =
-    behind_more es before part behind e p some
-    (begins_more (λ x. not (is_sampled x)) behind e p.stopped (rw stopped refl))
+-- it ends
+pub part_ends : (p : Part) (es before part behind : List DumpEvent) (e : DumpEvent) → IsParted p es before part behind
+    → is_none part ≡ false → behind ≡ [] → closes p before part e ≡ true
+    → IsParted p (es ++ e ∷ []) before part (behind ++ e ∷ [])
+part_ends p es before part behind e s some no_behind stops =
+    behind_more p es before part behind e s some (rw no_behind stops)
 
--- any event where it has stopped
-pub rest_more : (es before part behind : List DumpEvent) (e : DumpEvent) → IsParted es before part behind
+-- any event where it has ended
+pub rest_more : (p : Part) (es before part behind : List DumpEvent) (e : DumpEvent) → IsParted p es before part behind
     → is_none part ≡ false → is_none behind ≡ false
-    → IsParted (es ++ e ∷ []) before part (behind ++ e ∷ [])
-rest_more es before part behind e p some stopped =
-    behind_more es before part behind e p some (begins_still (λ x. not (is_sampled x)) behind e stopped p.stopped)
+    → IsParted p (es ++ e ∷ []) before part (behind ++ e ∷ [])
+rest_more p es before part behind e s some stopped =
+    behind_more p es before part behind e s some (begins_still (closes p before part) behind e stopped s.closed)

@@ -1,3 +1,4 @@
+pub mod Bounds
 pub mod Parts
 pub mod Standing
 pub mod Findings

@@ -1,3 +1,4 @@
+use crate::part::Part;
 use vcd_course::Stamp;
 
 /// What was found of the part that is judged.
@@ -18,6 +19,8 @@ pub enum Verdict {
 /// What was judged.
 #[derive(Clone, Copy, Debug, PartialEq, Eq)]
 pub struct Judged {
+    /// Which clocks were to be judged.
+    pub part: Part,
     /// How many clocks the dump has.
     pub clocks: u64,
     /// The first clock that is judged; all of them, where none is.

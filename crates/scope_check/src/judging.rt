@@ -1,16 +1,22 @@
 //! The judge of the events of a dump.
 
-ghost use Rattle.std.specs.Prelude.{◌≡◌, if◌then◌else◌, ◌+◌, ◌++◌, ◌∷◌, [], List, IfOk, OnOk};
+ghost use Rattle.std.specs.Prelude.{◌≡◌, if◌then◌else◌, ℕ, Bool, ◌+◌, ◌<◌, ◌^◌, ◌++◌, ◌∷◌, [], List, IfOk, OnOk, Option};
 ghost use Rattle.fsb_signal.specs.declared.marks.Marks.{Marks};
-ghost use Rattle.vcd_way.specs.Events.{DumpEvent, Sampled};
+ghost use Rattle.vcd_way.specs.Events.{DumpEvent, Sampled, Hole, Resumed};
+ghost use Rattle.vcd_way.specs.Pieces.{Stamp as TimeStamp, time_at};
 ghost use Rattle.vcd_course.specs.Told.{event_told, last_told};
+ghost use Rattle.scope_check.specs.declared.part.Part.{Part};
 ghost use Rattle.scope_check.specs.declared.judging.Phase.TheVariants as phases;
-ghost use Rattle.scope_check.specs.Standing.{HasJudged, Stands, rested};
+ghost use Rattle.scope_check.specs.Bounds.{passes};
+ghost use Rattle.scope_check.specs.Parts.{may_begin, opens_at, quiet_more};
+ghost use Rattle.scope_check.specs.Standing.{HasFed, HasJudged, Stands, rested};
 ghost use Rattle.scope_check.specs.Findings.{IsFoundIn, Says};
 
 use crate::finding::{Judged, Verdict};
-use fsb_rules::{Broken, Checker};
+use crate::part::{Begin, Part, begins_later, passes, reaches};
+use fsb_rules::Broken;
 use fsb_signal::{Marks, Sample};
+use scope_later::PartChecker;
 use vcd_course::{CourseEvent, Stamp, Told};
 
 /// There are more clocks or holes than are counted.
@@ -20,18 +26,25 @@ pub struct TooMany;
 /// Where the part that is judged stands.
 #[derive(Clone, Copy, Debug, PartialEq, Eq)]
 pub(crate) enum Phase {
-    /// It has not begun: at each clock so far a declared control line was unknown.
+    /// It has not begun.
     Before,
     Inside,
-    /// It is over: the dump stopped for a time.
+    /// It is over.
     After,
 }
 
-/// Judges the clocks of a dump, from the first at which all control lines are known, up to the first hole after it.
+/// How many clocks of a part are judged, at most.
+const MOST: u32 = 4_294_967_280;
+
+/// Judges the clocks of one part of a dump.
 #[derive(Drop)]
 pub struct Judging {
-    pub(crate) checker: Checker,
+    pub(crate) part: Part,
+    pub(crate) marks: Marks,
+    pub(crate) checker: PartChecker,
     pub(crate) phase: Phase,
+    /// How many of the last clocks are quiet, one after another, while the part has not begun.
+    pub(crate) quiet: u32,
     /// How many clocks came before the part that is judged.
     pub(crate) start: u32,
     pub(crate) judged: u32,
@@ -55,6 +68,18 @@ fn one_more(count: u32) -> Result<u32, TooMany>
     }
 }
 
+/// One more judged clock, where that is counted.
+fn one_judged(count: u32) -> Result<u32, TooMany>
+    ensures more { IfOk result (λ more. more ≡ count + 1) }
+    ensures room { OnOk result (count + 8 < 2 ^ 32) }
+{
+    if count < MOST {
+        Ok(count + 1)
+    } else {
+        Err(TooMany)
+    }
+}
+
 /// The stamp that was kept, where a rule was broken before, and else the new one.
 fn first_stamp(was_broken: bool, kept: Option<Stamp>, stamp: Option<Stamp>) -> Option<Stamp>
     ensures { result ≡ (if was_broken then kept else stamp) }
@@ -62,14 +87,38 @@ fn first_stamp(was_broken: bool, kept: Option<Stamp>, stamp: Option<Stamp>) -> O
     if was_broken { kept } else { stamp }
 }
 
+/// How many of the last clocks are quiet with one more.
+fn quiet_with(run: u32, sample: &Sample) -> Result<u32, TooMany>
+    ensures { (t : Option TimeStamp) → IfOk result (λ more. more ≡ quiet_more run (Sampled sample.now t)) }
+{
+    if sample.has_known_lines() && sample.lines.0 == 0 {
+        one_more(run)
+    } else {
+        Ok(0)
+    }
+}
+
+/// Where the part stands when the dump stops or goes on.
+fn rested(phase: Phase) -> Phase
+    ensures { result ≡ rested phase }
+{
+    match phase {
+        Phase::Before => Phase::Before,
+        Phase::Inside | Phase::After => Phase::After,
+    }
+}
+
 impl Judging {
-    /// Before the first event of a dump with these marks.
-    pub fn new(marks: Marks) -> Judging
-        ensures { Stands result marks [] }
+    /// Before the first event of a dump with these marks, of which this part is judged.
+    pub fn new(marks: Marks, part: Part) -> Judging
+        ensures { Stands result part marks [] }
     {
         Judging {
-            checker: Checker::new(marks),
+            part,
+            marks,
+            checker: PartChecker::new(false, marks),
             phase: Phase::Before,
+            quiet: 0,
             start: 0,
             judged: 0,
             after: 0,
@@ -82,9 +131,9 @@ impl Judging {
 
     /// Takes the next event. After an Err nothing is said of the judge.
     pub fn take(&mut self, event: &CourseEvent) -> Result<(), TooMany>
-        requires { (m : Marks) × (es : List DumpEvent) × Stands self.old m es }
-        ensures { (m : Marks) (es : List DumpEvent) → Stands self.old m es →
-            OnOk result (Stands self.new m (es ++ event_told event.now ∷ [])) }
+        requires { (p : Part) × (m : Marks) × (es : List DumpEvent) × Stands self.old p m es }
+        ensures { (p : Part) (m : Marks) (es : List DumpEvent) → Stands self.old p m es →
+            OnOk result (Stands self.new p m (es ++ event_told event.now ∷ [])) }
     {
         match event.told {
             Told::Sampled(sample) => self.see(&sample, event.stamp),
@@ -102,35 +151,114 @@ impl Judging {
 
     // The lines at the next edge of the clock.
     fn see(&mut self, sample: &Sample, stamp: Option<Stamp>) -> Result<(), TooMany>
-        requires { (m : Marks) × (es : List DumpEvent) × Stands self.old m es }
-        ensures { (m : Marks) (es : List DumpEvent) → Stands self.old m es →
-            OnOk result (Stands self.new m (es ++ Sampled sample.now (last_told stamp) ∷ [])) }
+        requires { (p : Part) × (m : Marks) × (es : List DumpEvent) × Stands self.old p m es }
+        ensures { (p : Part) (m : Marks) (es : List DumpEvent) → Stands self.old p m es →
+            OnOk result (Stands self.new p m (es ++ Sampled sample.now (last_told stamp) ∷ [])) }
     {
         match self.phase {
-            Phase::Before => {
-                if sample.has_known_lines() {
-                    self.judge(sample, stamp)?;
-                    self.phase = Phase::Inside;
-                } else {
-                    self.start = one_more(self.start)?;
-                }
-            }
-            Phase::Inside => self.judge(sample, stamp)?,
-            Phase::After => self.after = one_more(self.after)?,
+            Phase::Before => self.wait(sample, stamp),
+            Phase::Inside => self.go_on(sample, stamp),
+            Phase::After => self.pass(sample, stamp),
+        }
+    }
+
+    // A clock before the part, or its first.
+    fn wait(&mut self, sample: &Sample, stamp: Option<Stamp>) -> Result<(), TooMany>
+        requires { (p : Part) × (m : Marks) × (es : List DumpEvent) × Stands self.old p m es }
+        ensures { (p : Part) (m : Marks) (es : List DumpEvent) → Stands self.old p m es →
+            self.old.phase ≡ phases.Before →
+            OnOk result (Stands self.new p m (es ++ Sampled sample.now (last_told stamp) ∷ [])) }
+    {
+        let quiet = quiet_with(self.quiet, sample)?;
+        if self.opens(quiet, sample, stamp) {
+            let is_later = begins_later(self.part.begin, self.start);
+            self.checker = PartChecker::new(is_later, self.marks);
+            self.judged = 0;
+            self.judge(sample, stamp)?;
+            self.phase = Phase::Inside;
+        } else {
+            self.start = one_more(self.start)?;
+            self.quiet = quiet;
         }
         Ok(())
     }
 
+    // A clock behind one of the part.
+    fn go_on(&mut self, sample: &Sample, stamp: Option<Stamp>) -> Result<(), TooMany>
+        requires { (p : Part) × (m : Marks) × (es : List DumpEvent) × Stands self.old p m es
+            × (self.old.phase ≡ phases.Inside) }
+        ensures { (p : Part) (m : Marks) (es : List DumpEvent) → Stands self.old p m es →
+            self.old.phase ≡ phases.Inside →
+            OnOk result (Stands self.new p m (es ++ Sampled sample.now (last_told stamp) ∷ [])) }
+    {
+        if self.is_past(stamp) {
+            self.after = one_more(self.after)?;
+            self.phase = Phase::After;
+        } else {
+            self.judge(sample, stamp)?;
+        }
+        Ok(())
+    }
+
+    // A clock behind the part.
+    fn pass(&mut self, sample: &Sample, stamp: Option<Stamp>) -> Result<(), TooMany>
+        ensures { (p : Part) (m : Marks) (es : List DumpEvent) → Stands self.old p m es →
+            self.old.phase ≡ phases.After →
+            OnOk result (Stands self.new p m (es ++ Sampled sample.now (last_told stamp) ∷ [])) }
+    {
+        let _lines = sample.lines;
+        let _stamp = stamp;
+        self.after = one_more(self.after)?;
+        Ok(())
+    }
+
+    // Whether a clock behind those of the part is above the last one that may be judged.
+    fn is_past(&self, stamp: Option<Stamp>) -> bool
+        ensures { result ≡ passes self.now.part.to (self.now.start + self.now.judged)
+            (time_at (last_told stamp)) }
+    {
+        let start = self.start;
+        let judged = self.judged;
+        passes(self.part.to, u64::from(start) + u64::from(judged), stamp)
+    }
+
+    // Whether the part begins with this clock, where so many of the last ones up to it are quiet.
+    fn opens(&self, quiet: u32, sample: &Sample, stamp: Option<Stamp>) -> bool
+        ensures { result ≡ opens_at self.now.part self.now.start quiet (Sampled sample.now (last_told stamp)) }
+    {
+        let clock = u64::from(self.start);
+        !passes(self.part.to, clock, stamp) && self.may_begin(quiet, sample, stamp)
+    }
+
+    // Whether it may begin there.
+    fn may_begin(&self, quiet: u32, sample: &Sample, stamp: Option<Stamp>) -> bool
+        ensures { result ≡ may_begin self.now.part.begin self.now.start quiet
+            (Sampled sample.now (last_told stamp)) }
+    {
+        let clock = u64::from(self.start);
+        match self.part.begin {
+            Begin::Known => sample.has_known_lines(),
+            Begin::At(bound) => reaches(bound, clock, stamp),
+            Begin::Quiet(bound, least) => reaches(bound, clock, stamp) && least <= quiet,
+        }
+    }
+
     // A clock of the part.
     fn judge(&mut self, sample: &Sample, stamp: Option<Stamp>) -> Result<(), TooMany>
-        requires { (m : Marks) × (part : List DumpEvent) × HasJudged self.old m part }
-        ensures judged { (m : Marks) (part : List DumpEvent) → HasJudged self.old m part →
-            OnOk result (HasJudged self.new m (part ++ Sampled sample.now (last_told stamp) ∷ [])) }
-        ensures phase { self.new.phase ≡ self.old.phase }
-        ensures start { self.new.start ≡ self.old.start }
-        ensures after { self.new.after ≡ self.old.after }
+        requires { (l : Bool) × (m : Marks) × (part : List DumpEvent)
+            × HasFed self.old.checker self.old.judged l m part }
+        ensures judged { (l : Bool) (m : Marks) (part : List DumpEvent) →
+            HasFed self.old.checker self.old.judged l m part →
+            OnOk result (HasJudged self.new.checker self.new.judged self.new.broken l m
+            (part ++ Sampled sample.now (last_told stamp) ∷ [])) }
+        ensures rest { self.new ≡ record self.old {
+          checker = self.new.checker;
+          judged = self.new.judged;
+          broken = self.new.broken;
+          stamp = self.new.stamp;
+        } }
     {
-        let judged = one_more(self.judged)?;
+        let judged = one_judged(self.judged)?;
         self.stamp = first_stamp(self.broken.is_some(), self.stamp, stamp);
         self.broken = self.checker.feed(sample);
         self.judged = judged;
@@ -139,12 +267,13 @@ impl Judging {
 
     // The dump stops for a time, or goes on: the part ends, where it has begun.
     fn rest(&mut self)
-        ensures phase { self.new.phase ≡ rested self.old.phase }
-        ensures rest { self.new ≡ record self.old { phase = self.new.phase } }
+        ensures hole { (p : Part) (m : Marks) (es : List DumpEvent) (t : Option TimeStamp) →
+            Stands self.old p m es → Stands self.new p m (es ++ Hole t ∷ []) }
+        ensures resumed { (p : Part) (m : Marks) (es : List DumpEvent) (t : Option TimeStamp) →
+            Stands self.old p m es → Stands self.new p m (es ++ Resumed t ∷ []) }
     {
-        if self.phase == Phase::Inside {
-            self.phase = Phase::After;
-        }
+        self.quiet = 0;
+        self.phase = rested(self.phase);
     }
 
     fn count_hole(&mut self, stamp: Option<Stamp>) -> Result<(), TooMany>
@@ -160,11 +289,12 @@ impl Judging {
 
     /// What was judged and found.
     pub fn judged(&self) -> Judged
-        ensures { (m : Marks) (es : List DumpEvent) → Stands self.now m es →
-            IsFoundIn result m es }
+        ensures { (p : Part) (m : Marks) (es : List DumpEvent) → Stands self.now p m es →
+            IsFoundIn result p m es }
     {
         let clocks = self.clocks();
         Judged {
+            part: self.part,
             clocks,
             start: self.start,
             judged: self.judged,
@@ -188,6 +318,9 @@ impl Judging {
     {
         let start = self.start;
         let found = self.broken;
+        if self.judged == 0 {
+            return Verdict::Nothing;
+        }
         match found {
             Some(broken) => {
                 let clock = broken.clock;
@@ -197,13 +330,7 @@ impl Judging {
                     stamp: self.stamp,
                 }
             }
-            None => {
-                if self.judged == 0 {
-                    Verdict::Nothing
-                } else {
-                    Verdict::Accepted
-                }
-            }
+            None => Verdict::Accepted,
         }
     }
 }

@@ -6,7 +6,7 @@ use crate::scale::{Scale, put_time};
 use crate::scopes::Heading;
 use crate::text::{put, put_bytes, put_count, put_listed, put_number};
 use crate::verdict::put_verdict;
-use scope_check::{Judged, Verdict};
+use scope_check::{Begin, Bound, Judged, Verdict};
 use scope_pick::{Variable, is_listed};
 use scope_wiring::{Choice, Home, Wiring, settled_lines};
 use std::alloc::{AllocError, Global};
@@ -35,6 +35,7 @@ pub fn check_text(
     put_found(&mut text, alloc, judged, scale)?;
     put_unread_data(&mut text, wiring)?;
     put_start(&mut text, judged)?;
+    put_deferral(&mut text, judged)?;
     put_holes(&mut text, judged, scale)?;
     put_behind(&mut text, judged)?;
     put_other_names(&mut text, &heading, &settled, wiring.home)?;
@@ -144,9 +145,12 @@ fn put_rule(text: &mut Vec<u8>, rule: u8) -> Result<(), AllocError> {
 
 fn unjudged_cause(judged: &Judged) -> &'static str {
     if judged.clocks == 0 {
-        NO_EDGE
-    } else {
-        NEVER_KNOWN
+        return NO_EDGE;
+    }
+    match judged.part.begin {
+        Begin::Known => NEVER_KNOWN,
+        Begin::At(_) => NO_CLOCK,
+        Begin::Quiet(_, _) => NEVER_QUIET,
     }
 }
 
@@ -161,18 +165,63 @@ const NEVER_KNOWN: &str = "\
   A line that nobody drives is left out by --without LINE, unless it is a needed one.
 ";
 
+const NO_CLOCK: &str = ": the dump has no such clock\n";
+
+const NEVER_QUIET: &str = "\
+: no clock from there on ends so many clocks in which every line had a level and none was asserted
+  --quiet N asks for fewer, --at C begins exactly at a clock.
+";
+
 // Where the part that is judged begins, unless it is at clock 0.
 fn put_start(text: &mut Vec<u8>, judged: &Judged) -> Result<(), AllocError> {
     if judged.judged == 0 || judged.start == 0 {
         Ok(())
     } else {
-        put_clock(
-            text,
-            u64::from(judged.start),
-            " is the first that is judged: there every control line has a level\n",
-        )
+        put_clock(text, u64::from(judged.start), " is the first that is judged: ")?;
+        put_begin(text, judged.part.begin)
     }
 }
+
+// That a reply may answer a request of before the part.
+fn put_deferral(text: &mut Vec<u8>, judged: &Judged) -> Result<(), AllocError> {
+    match judged.verdict {
+        Verdict::Broken { rule: 18, .. } => {
+            if judged.start != 0 && judged.part.begin != Begin::Known {
+                put(text, MAY_ANSWER)?;
+            }
+            Ok(())
+        }
+        _ => Ok(()),
+    }
+}
+
+const MAY_ANSWER: &str = "\
+  A reply may answer a request that was deferred before that clock: then no rule is broken there.
+";
+
+// Why the part begins there, and what is taken to be so.
+fn put_begin(text: &mut Vec<u8>, begin: Begin) -> Result<(), AllocError> {
+    match begin {
+        Begin::Known => put(text, "there every control line has a level\n"),
+        Begin::At(_) => put(text, AS_SAID),
+        Begin::Quiet(_, least) => {
+            put(text, "it ends ")?;
+            put_count(text, u64::from(least), "clock")?;
+            put(text, " without an asserted line\n")?;
+            put(text, UNKNOWN_BEFORE)
+        }
+    }
+}
+
+const AS_SAID: &str = "\
+as --at says, nothing is under way there
+  Who had the bus last is not known: a rule counts as broken where it is whoever had it.
+";
+
+const UNKNOWN_BEFORE: &str = "\
+  No request is taken to wait longer. Who had the bus last is not known: a rule counts as broken
+  where it is whoever had it.
+";
 
 fn put_clock(text: &mut Vec<u8>, clock: u64, behind: &str) -> Result<(), AllocError> {
     put(text, "clock ")?;
@@ -215,10 +264,22 @@ fn put_behind(text: &mut Vec<u8>, judged: &Judged) -> Result<(), AllocError> {
     if judged.judged == 0 || judged.clocks <= end {
         Ok(())
     } else {
-        put_clock(
-            text,
-            end,
-            " and those after it are not judged: the dump stopped before it\n",
-        )
+        put_clock(text, end, " and those after it are not judged: ")?;
+        put(text, end_cause(judged.part.to, end))
+    }
+}
+
+// Why the part ended before this clock.
+fn end_cause(to: Option<Bound>, end: u64) -> &'static str {
+    match to {
+        None => "the dump stopped before it\n",
+        Some(Bound::Clock(last)) => {
+            if u64::from(last) < end {
+                "--to names the clock before it\n"
+            } else {
+                "the dump stopped before it\n"
+            }
+        }
+        Some(Bound::Time(_)) => "it lies above --to, or the dump stopped before it\n",
     }
 }

@@ -1,5 +1,5 @@
 -- What an order that is done says of the dump.
-use Rattle.std.specs.Prelude.{◌≡◌, ◌<◌, ◌⊎◌, ℕ, List, [], ◌++◌, map, length, Bool, true, false, not, ◌&&◌, nat_eq, is_some, Option, Some, None, Ok, Err}
+use Rattle.std.specs.Prelude.{◌≡◌, ◌<◌, ◌⊎◌, ℕ, List, [], ◌++◌, map, length, Bool, true, false, not, ◌&&◌, ◌||◌, nat_eq, is_some, Option, Some, None, Ok, Err}
 use Rattle.vcd_way.specs.declared.tap.Edge.{Edge as WayEdge}
 use Rattle.vcd_way.specs.declared.tap.Edge.TheVariants as way_edges
 use Rattle.scope_wiring.specs.declared.wiring.Choice.{Choice}
@@ -10,6 +10,9 @@ use Rattle.scope_wiring.specs.Settling.{said_by}
 use Rattle.scope_wiring.specs.Texts.{Said}
 use Rattle.scope_words.specs.declared.order.Edge.{Edge}
 use Rattle.scope_words.specs.declared.order.Edge.TheVariants as edges
+use Rattle.scope_check.specs.declared.part.Part.{Part as JudgedPart}
+use Rattle.scope_words.specs.declared.moment.Moment.{Moment}
+use Rattle.scope_words.specs.declared.moment.Moment.TheVariants as moments
 use Rattle.scope_words.specs.declared.order.Order.{Order}
 use Rattle.scope_words.specs.declared.order.Order.TheVariants as orders
 use Rattle.scope_words.specs.declared.order.Part.{Part}
@@ -25,6 +28,7 @@ use Rattle.scope_report.specs.declared.ending.Ending.{Ending}
 use Rattle.scope_report.specs.declared.ending.Ending.TheVariants as endings
 use Rattle.scope_top.specs.Ends.{ending_found}
 use Rattle.scope_top.specs.Named.{read_of}
+use Rattle.scope_top.specs.Parts.{part_of}
 
 -- the edge at which the lines are sampled
 abbrev pub edge_of : Edge → WayEdge
@@ -59,11 +63,11 @@ pub record IsChosen (wires : Wires) (named : List ℕ) (choice : Choice) : Type 
   pub whole : IsReadWhole wires.file named
 
 -- the check found this of the text, and ends by it
-pub record EndsFound (wires : Wires) (named text : List ℕ) (ending : Ending) : Type 0 where
+pub record EndsFound (wires : Wires) (part : JudgedPart) (named text : List ℕ) (ending : Ending) : Type 0 where
   pub choice : Choice
   pub chosen : IsChosen wires named choice
   pub checked : Checked
-  pub found : IsChecked (Ok checked) choice (sampling_of wires) text
+  pub found : IsChecked (Ok checked) choice part (sampling_of wires) text
   pub ends : ending ≡ ending_found checked.finding
 
 -- the text is what stops a check: it is no dump, or longer than a dump may be
@@ -76,12 +80,12 @@ IsOfText watched.WriteFault = ⊥
 IsOfText watched.Memory = ⊥
 
 -- the text stopped the check, which judges nothing
-pub record EndsStopped (wires : Wires) (named text : List ℕ) (ending : Ending) : Type 0 where
+pub record EndsStopped (wires : Wires) (part : JudgedPart) (named text : List ℕ) (ending : Ending) : Type 0 where
   pub choice : Choice
   pub chosen : IsChosen wires named choice
   pub stop : ScopeStop
   pub of_text : IsOfText stop
-  pub stopped : IsChecked (Err stop) choice (sampling_of wires) text
+  pub stopped : IsChecked (Err stop) choice part (sampling_of wires) text
   pub ends : ending ≡ endings.Unjudged
 
 -- the file of `--lines` with this text stopped the check, which judges nothing
@@ -91,9 +95,9 @@ pub record EndsUnnamed (wires : Wires) (named : List ℕ) (ending : Ending) : Ty
   pub ends : ending ≡ endings.Unjudged
 
 -- how a check of a text ends, where the file of `--lines` has this one: by what is found, or it judges nothing
-abbrev pub CheckEnds : Wires → List ℕ → List ℕ → Ending → Type 0
-CheckEnds wires named text ending =
-    EndsFound wires named text ending ⊎ EndsStopped wires named text ending ⊎ EndsUnnamed wires named ending
+abbrev pub CheckEnds : Wires → JudgedPart → List ℕ → List ℕ → Ending → Type 0
+CheckEnds wires part named text ending =
+    EndsFound wires part named text ending ⊎ EndsStopped wires part named text ending ⊎ EndsUnnamed wires named ending
 
 -- the choice of a user who gives no option
 pub record IsPlain (choice : Choice) : Type 0 where
@@ -128,18 +132,26 @@ pub record EndsUntold (text : List ℕ) (ending : Ending) : Type 0 where
 -- how an order ends that was done, where the file of `--lines` and the dump have these texts
 abbrev pub OrderEnds : Order → List ℕ → List ℕ → Ending → Type 0
 OrderEnds (orders.Lines dump) named text ending = EndsTold text ending ⊎ EndsUntold text ending
-OrderEnds (orders.Check wires part dump) named text ending = CheckEnds wires named text ending
+OrderEnds (orders.Check wires part dump) named text ending = CheckEnds wires (part_of part) named text ending
 OrderEnds (orders.Pick wires part dump) named text ending = ⊥
 OrderEnds (orders.Rule number) named text ending = ending ≡ endings.Clean
 
--- nothing is said of the part that is judged
-unfoldable pub is_whole : Part → Bool
-is_whole part = not (is_some part.at) && not (is_some part.from) && not (is_some part.to) && nat_eq part.quiet 32
+-- the moment is a time
+abbrev pub is_time : Option Moment → Bool
+is_time None = false
+is_time (Some (moments.Clock clock)) = false
+is_time (Some (moments.Time count unit)) = true
+
+-- the part is named by numbers of clocks, and `--quiet` only beside `--from`
+unfoldable pub is_done_part : Part → Bool
+is_done_part part =
+    not (is_time part.at) && not (is_time part.from) && not (is_time part.to)
+    && (is_some part.from || nat_eq part.quiet 32)
 
 -- what the order asks for is done
 unfoldable pub is_done : Order → Bool
 is_done (orders.Lines dump) = true
-is_done (orders.Check wires part dump) = is_whole part
+is_done (orders.Check wires part dump) = is_done_part part
 is_done (orders.Pick wires part dump) = false
 is_done (orders.Rule number) = true
 

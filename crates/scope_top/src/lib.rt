@@ -9,10 +9,12 @@
 
 pub use named::{LineFault, read_options};
 pub use orders::{ending_found, perform};
+pub use part::part_of;
 pub use stop::{Stop, ending_at};
 pub use undone::unoffered;
 
 mod named;
 mod orders;
+mod part;
 mod stop;
 mod undone;

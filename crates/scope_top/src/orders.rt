@@ -9,9 +9,11 @@ ghost use Rattle.scope_top.specs.Named.{read_of};
 ghost use Rattle.scope_top.specs.Orders.{CheckEnds, EndsTold, EndsUntold, Ends, IsOfText, IsPlain, IsReadAs, OrderEnds, edge_of, is_done};
 
 use crate::named::read_options;
+use crate::part::part_of;
 use crate::stop::Stop;
 use crate::undone::unoffered;
 use fsb_io::{Failed, ReadStop, Sink, Source, put_all, read_all};
+use scope_check::Part;
 use scope_report::{
     Ending, check_text, ending_of, fault_text, limit_text, lines_text, refusal_text, rule_list,
     rule_text, unread_text,
@@ -91,9 +93,9 @@ fn obey<L: Source, S: Source, O: Sink, E: Sink>(
         Order::Lines { dump: name } => tell_lines(alloc, name, dump, out, err),
         Order::Check {
             wires,
-            part: _part,
+            part,
             dump: name,
-        } => check(alloc, name, wires, named, dump, out, err),
+        } => check(alloc, name, wires, part_of(&part), named, dump, out, err),
         Order::Pick {
             wires: _wires,
             part: _part,
@@ -180,11 +182,12 @@ fn plain_choice(alloc: Global) -> Choice
     }
 }
 
-// Judges a dump, and tells what was found.
+// Judges this part of a dump, and tells what was found.
 fn check<L: Source, S: Source, O: Sink, E: Sink>(
     alloc: Global,
     name: &str,
     wires: Wires<'_>,
+    part: Part,
     named: &mut L,
     dump: &mut S,
     out: &mut O,
@@ -193,7 +196,7 @@ fn check<L: Source, S: Source, O: Sink, E: Sink>(
     requires named { length name.now ≤ 4096 }
     requires wires { KeepsWires wires }
     ensures ends { IsTrue L.tells → IsTrue S.tells →
-        IfOk result (CheckEnds wires.entry (L.holds named.old) (S.holds dump.old)) }
+        IfOk result (CheckEnds wires.entry part (L.holds named.old) (S.holds dump.old)) }
     ensures dump_fault { result ≡ Err Stop.Dump →
         Rose (S.faults dump.old) (S.faults dump.new) }
     ensures lines_fault { result ≡ Err Stop.Lines →
@@ -212,7 +215,7 @@ fn check<L: Source, S: Source, O: Sink, E: Sink>(
         late: wires.after,
     };
     let mut room = vec![in alloc; 0; PIECE]?;
-    match check_dump(alloc, name, dump, &mut room, &choice, sampling) {
+    match check_dump(alloc, name, dump, &mut room, &choice, part, sampling) {
         Err(stop) => stopped(alloc, name, stop, err),
         Ok(checked) => tell_checked(alloc, name, &choice, &checked, out, err),
     }

@@ -1,9 +1,9 @@
 //! What is read and not done yet.
 
 ghost use Rattle.std.specs.Prelude.{◌≡◌, not, is_some};
-ghost use Rattle.scope_top.specs.Orders.{is_done, is_whole};
+ghost use Rattle.scope_top.specs.Orders.{is_done, is_done_part, is_time};
 
-use scope_words::{Order, Part};
+use scope_words::{Moment, Order, Part};
 
 /// The first thing that an order asks for and that is not done yet.
 pub fn unoffered(order: &Order<'_>) -> Option<&'static str>
@@ -17,17 +17,23 @@ pub fn unoffered(order: &Order<'_>) -> Option<&'static str>
 }
 
 fn unoffered_part(part: &Part) -> Option<&'static str>
-    ensures { is_some result ≡ not (is_whole part.now) }
+    ensures { is_some result ≡ not (is_done_part part.now) }
 {
-    if part.at.is_some() {
-        Some("--at")
-    } else if part.from.is_some() {
-        Some("--from")
-    } else if part.to.is_some() {
-        Some("--to")
-    } else if part.quiet != 32 {
-        Some("--quiet")
+    if is_time(part.at) {
+        Some("--at with a time")
+    } else if is_time(part.from) {
+        Some("--from with a time")
+    } else if is_time(part.to) {
+        Some("--to with a time")
+    } else if part.from.is_none() && part.quiet != 32 {
+        Some("--quiet without --from")
     } else {
         None
     }
+}
+
+fn is_time(moment: Option<Moment>) -> bool
+    ensures { result ≡ is_time moment }
+{
+    matches!(moment, Some(Moment::Time(_, _)))
 }

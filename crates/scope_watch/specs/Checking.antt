@@ -14,6 +14,7 @@ use Rattle.scope_wiring.specs.declared.wiring.Picking.TheVariants as pickings
 use Rattle.scope_wiring.specs.Pickings.{IsPicking}
 use Rattle.scope_way.specs.Wired.{wired_way, wired_lines}
 use Rattle.scope_check.specs.declared.finding.Judged.{Judged}
+use Rattle.scope_check.specs.declared.part.Part.{Part}
 use Rattle.scope_check.specs.Findings.{IsFoundIn}
 use Rattle.scope_watch.specs.declared.stop.ScopeStop.{ScopeStop}
 use Rattle.scope_watch.specs.declared.stop.ScopeStop.TheVariants as stops
@@ -25,16 +26,16 @@ use Rattle.scope_watch.specs.declared.check.Finding.TheVariants as findings
 use Rattle.scope_watch.specs.Heading.{Shows, IsHeaderFault}
 use Rattle.scope_watch.specs.Watching.{rules_for}
 
--- what is judged of a whole text, read in a way, with these marks
-abbrev pub IsJudgedAs : Result Judged ScopeStop → Marks → Way (List Declaration) → List ℕ → Type 0
-IsJudgedAs (Ok judged) marks way text =
-    (first_fault_by way text ≡ None) × IsFoundIn judged marks (events_by way text)
-IsJudgedAs (Err (stops.Bad fault)) marks way text = first_fault_by way text ≡ Some fault
-IsJudgedAs (Err stops.TooLong) marks way text = 2 ^ 40 < length text
-IsJudgedAs (Err stops.TooMany) marks way text = Unit {0}
-IsJudgedAs (Err stops.WriteFault) marks way text = Unit {0}
-IsJudgedAs (Err stops.Memory) marks way text = Unit {0}
-IsJudgedAs (Err stops.ReadFault) marks way text = Unit {0}
+-- what is judged of this part of a whole text, read in a way, with these marks
+abbrev pub IsJudgedAs : Result Judged ScopeStop → Part → Marks → Way (List Declaration) → List ℕ → Type 0
+IsJudgedAs (Ok judged) part marks way text =
+    (first_fault_by way text ≡ None) × IsFoundIn judged part marks (events_by way text)
+IsJudgedAs (Err (stops.Bad fault)) part marks way text = first_fault_by way text ≡ Some fault
+IsJudgedAs (Err stops.TooLong) part marks way text = 2 ^ 40 < length text
+IsJudgedAs (Err stops.TooMany) part marks way text = Unit {0}
+IsJudgedAs (Err stops.WriteFault) part marks way text = Unit {0}
+IsJudgedAs (Err stops.Memory) part marks way text = Unit {0}
+IsJudgedAs (Err stops.ReadFault) part marks way text = Unit {0}
 
 -- the header of the text declares these variables and has these sections
 pub record Declares (m : ValueRules) (h : Header) (text : List ℕ) : Type 0 where
@@ -49,13 +50,14 @@ pub record IsWiredBy (choice : Choice) (s : Sampling) (h : Header) (w : Wiring) 
   pub declares : Declares (rules_for s) h text
   pub picked : IsPicking h.variables.items choice (pickings.Wired w)
 
--- what is found of a text with this header: why its wires are not picked, or the verdict on the samples of the wires
-abbrev pub IsFinding : Finding → Choice → Sampling → Header → List ℕ → Type 0
-IsFinding (findings.Refused refusal) choice s h text =
+-- what is found of a text with this header: why its wires are not picked, or the verdict on this part of
+-- the samples of the wires
+abbrev pub IsFinding : Finding → Choice → Part → Sampling → Header → List ℕ → Type 0
+IsFinding (findings.Refused refusal) choice part s h text =
     Declares (rules_for s) h text × IsPicking h.variables.items choice (pickings.Refused refusal)
-IsFinding (findings.Judged w judged) choice s h text =
+IsFinding (findings.Judged w judged) choice part s h text =
     IsWiredBy choice s h w text
-    × IsJudgedAs (Ok judged) (marks_of_lines (wired_lines w.wires.items)) (wired_way w.wires.items (rules_for s)) text
+    × IsJudgedAs (Ok judged) part (marks_of_lines (wired_lines w.wires.items)) (wired_way w.wires.items (rules_for s)) text
 
 -- the first fault of a text behind a header of which these wires are picked
 pub record IsFaultBehind (choice : Choice) (s : Sampling) (text : List ℕ) (fault : VcdFault) : Type 0 where
@@ -65,11 +67,11 @@ pub record IsFaultBehind (choice : Choice) (s : Sampling) (text : List ℕ) (fau
   pub fault_is : first_fault_by (wired_way wiring.wires.items (rules_for s)) text ≡ Some fault
 
 -- what is answered of a text: a fault is one in its header, or the first one in the way of the wires that are picked
-abbrev pub IsChecked : Result Checked ScopeStop → Choice → Sampling → List ℕ → Type 0
-IsChecked (Ok checked) choice s text = IsFinding checked.finding choice s checked.header text
-IsChecked (Err (stops.Bad fault)) choice s text = IsHeaderFault text fault ⊎ IsFaultBehind choice s text fault
-IsChecked (Err stops.TooLong) choice s text = 2 ^ 40 < length text
-IsChecked (Err stops.TooMany) choice s text = Unit {0}
-IsChecked (Err stops.WriteFault) choice s text = Unit {0}
-IsChecked (Err stops.Memory) choice s text = Unit {0}
-IsChecked (Err stops.ReadFault) choice s text = Unit {0}
+abbrev pub IsChecked : Result Checked ScopeStop → Choice → Part → Sampling → List ℕ → Type 0
+IsChecked (Ok checked) choice part s text = IsFinding checked.finding choice part s checked.header text
+IsChecked (Err (stops.Bad fault)) choice part s text = IsHeaderFault text fault ⊎ IsFaultBehind choice s text fault
+IsChecked (Err stops.TooLong) choice part s text = 2 ^ 40 < length text
+IsChecked (Err stops.TooMany) choice part s text = Unit {0}
+IsChecked (Err stops.WriteFault) choice part s text = Unit {0}
+IsChecked (Err stops.Memory) choice part s text = Unit {0}
+IsChecked (Err stops.ReadFault) choice part s text = Unit {0}

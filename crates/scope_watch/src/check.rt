@@ -17,7 +17,7 @@ use crate::values::{Sampling, watch_values};
 use crate::watcher::EventWatcher;
 use fsb_io::Source;
 use fsb_signal::Marks;
-use scope_check::{Judged, Judging, TooMany};
+use scope_check::{Judged, Judging, Part, TooMany};
 use scope_wiring::{Choice, Refusal, Wiring};
 use std::alloc::Global;
 use vcd_course::CourseEvent;
@@ -40,17 +40,18 @@ pub struct Checked {
     pub finding: Finding,
 }
 
-/// The judge of the events of a dump with these marks.
+/// The judge of the events of a dump with these marks, of which this part is judged.
 #[derive(Drop)]
 struct Judge {
     judging: Judging,
+    part: Part,
     marks: Marks,
 }
 
 impl EventWatcher for Judge {
     ghost use Rattle.scope_check.specs.Standing.{Stands};
 
-    ghost has_seen = { λ first now events. Stands now.judging first.marks events };
+    ghost has_seen = { λ first now events. Stands now.judging first.part first.marks events };
 
     fn see(&mut self, event: &CourseEvent) -> Result<(), WatchStop> {
         match self.judging.take(event) {
@@ -60,7 +61,8 @@ impl EventWatcher for Judge {
     }
 }
 
-/// Reads on behind a header to the end of the source, and judges the values of the wires, which have these marks.
+/// Reads on behind a header to the end of the source, and judges this part of the values of the wires, which have these
+/// marks.
 pub fn judge_values<S: Source>(
     alloc: Global,
     source: &mut S,
@@ -68,6 +70,7 @@ pub fn judge_values<S: Source>(
     behind: Behind,
     wires: Wires,
     marks: Marks,
+    part: Part,
     sampling: Sampling,
 ) -> Result<Judged, ScopeStop>
     requires some { 0 < length room.old }
@@ -75,7 +78,7 @@ pub fn judge_values<S: Source>(
     ensures judged { IsTrue S.tells → (c : Taking) (ts : List Token) (text : List ℕ) →
         StandsBehind (rules_for sampling) behind ts text (S.left source.old) →
         IsTaken c (gathered_in (rules_for sampling) ts).header (wires_told wires) →
-        IsJudgedAs result marks (choosing c (rules_for sampling)) text }
+        IsJudgedAs result part marks (choosing c (rules_for sampling)) text }
     ensures read_fault { result ≡ Err ScopeStop.ReadFault →
         Rose (S.faults source.old) (S.faults source.new) }
     ensures later { S.faults source.old ≤ S.faults source.new }
@@ -83,27 +86,29 @@ pub fn judge_values<S: Source>(
     ensures holds_stays { IsTrue S.tells → S.holds source.new ≡ S.holds source.old }
 {
     let mut judge = Judge {
-        judging: Judging::new(marks),
+        judging: Judging::new(marks, part),
+        part,
         marks,
     };
     watch_values(alloc, source, room, behind, wires, sampling, &mut judge)?;
     Ok(judge.judging.judged())
 }
 
-/// Begins the source under the name, picks the wires of the bus in its header, and judges their values. Where they are
-/// not picked, nothing is read behind the piece in which the header ends.
+/// Begins the source under the name, picks the wires of the bus in its header, and judges this part of their values. Where
+/// they are not picked, nothing is read behind the piece in which the header ends.
 pub fn check_dump<S: Source>(
     alloc: Global,
     name: &str,
     source: &mut S,
     room: &mut [u8],
     choice: &Choice,
+    part: Part,
     sampling: Sampling,
 ) -> Result<Checked, ScopeStop>
     requires named { length name.now ≤ 4096 }
     requires some { 0 < length room.old }
     ensures checked { IsTrue S.tells →
-        IsChecked result choice.now sampling (S.holds source.old) }
+        IsChecked result choice.now part sampling (S.holds source.old) }
     ensures named { IsTrue S.tells → OnOk result (S.begun_as source.new ≡ Some name.now) }
     ensures read_fault { result ≡ Err ScopeStop.ReadFault →
         Rose (S.faults source.old) (S.faults source.new) }
@@ -120,7 +125,8 @@ pub fn check_dump<S: Source>(
         Picked::Wired(bus) => {
             let marks = marks_of(&bus.wiring.wires);
             let behind = begun.behind;
-            let judged = judge_values(alloc, source, room, behind, bus.wires, marks, sampling)?;
+            let wires = bus.wires;
+            let judged = judge_values(alloc, source, room, behind, wires, marks, part, sampling)?;
             Ok(Checked {
                 header: begun.header,
                 finding: Finding::Judged(bus.wiring, judged),

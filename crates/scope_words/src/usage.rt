@@ -103,12 +103,12 @@ fn with_part<'a>(
     alloc: Global,
     verb: Result<Command<'a>, AllocError>,
 ) -> Result<Command<'a>, AllocError> {
-    let help = "Judges exactly from here on: a clock number, or a time as 285ns";
+    let help = "Judges exactly from this clock on, where nothing is under way";
     let verb = with(verb, part(alloc, "at", "C", help));
     let help = "Judges from the first quiet clock at or above this one on";
     let verb = with(verb, part(alloc, "from", "C", help));
-    let verb = with(verb, part(alloc, "to", "C", "Judges up to here"));
-    let help = "How many clocks without an asserted line make a quiet one [default: 32]";
+    let verb = with(verb, part(alloc, "to", "C", "The last clock that is judged"));
+    let help = "How many clocks without an asserted line --from wants [default: 32]";
     with(verb, part(alloc, "quiet", "N", help))
 }
 
@@ -138,12 +138,11 @@ fn wires<'a>(alloc: Global, name: &'a str, value: &'a str, help: &'a str) -> Arg
         .help_heading(WIRES)
 }
 
-// An option of the part, with a value. It is read, and not offered yet.
+// An option of the part, with a value.
 fn part<'a>(alloc: Global, name: &'a str, value: &'a str, help: &'a str) -> Arg<'a> {
     option(alloc, name, help)
         .value_name(value)
         .help_heading(PART)
-        .hide(true)
 }
 
 // An option that may stand more than once.

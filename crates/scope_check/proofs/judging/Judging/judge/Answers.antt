@@ -1,20 +1,25 @@
 use Rattle.std.proofs.Common.{◌∙◌, ◌+◌, ap, sym, subst}
-use Rattle.fsb_rules.specs.Checker.{as_broken, Stands as CheckerStands}
-use Rattle.fsb_trace.specs.Verdict.{verdict}
-use Rattle.vcd_way.specs.Events.{samples_among}
+use Rattle.fsb_trace.specs.At.{Trace}
+use Rattle.vcd_way.specs.Events.{Sampled, samples_among}
 use Rattle.vcd_course.specs.Told.{last_told}
+use Rattle.scope_later.specs.Findings.{found_on}
+use Rattle.scope_later.specs.Standing.{PartStands}
 use Rattle.scope_check.proofs.Samples.{samples_snoc}
+use Rattle.scope_check.proofs.Growing.{none_more}
 use Rattle.scope_check.proofs.Turns.{count_snoc}
 use Rattle.scope_check.proofs.judging.Judging.judge.Goals as goal
 
 pub returns-clause-judged : goal.returns-clause-judged
-returns-clause-judged c m part h =
-    let one = samples_snoc part c.args.sample.now (last_told c.args.stamp) in
+returns-clause-judged c l m part h =
+    let x = c.args.sample.now in
+    let t = last_told c.args.stamp in
+    let one = samples_snoc part x t in
     record {
-      checker = subst (λ x. CheckerStands c.feed-self.new.self m x) (sym one)
-          (c.feed-self.ensures.stands m (samples_among part) h.checker);
-      broken = c.feed-self.ensures.verdict m (samples_among part) h.checker
-          ∙ ap (λ x. as_broken (verdict m x)) (sym one);
-      judged = c.in_ok-judged.ensures ∙ ap (λ x. x + 1) h.judged
-          ∙ sym (count_snoc part c.args.sample.now (last_told c.args.stamp));
+      fed = record {
+        stands = subst (λ (w : Trace). PartStands c.feed-self.new.self l m w) (sym one)
+            (c.feed-self.ensures.stands l m (samples_among part) h.stands);
+        count = c.in_ok-judged.ensures.more ∙ ap (λ n. n + 1) h.count ∙ sym (count_snoc part x t);
+      };
+      broken = c.feed-self.ensures.found l m (samples_among part) h.stands ∙ ap (λ (w : Trace). found_on l m w) (sym one);
+      some = none_more part (Sampled x t);
     }

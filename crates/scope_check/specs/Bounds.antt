@@ -1,0 +1,23 @@
+-- The bounds of a part.
+use Rattle.std.specs.Prelude.{ℕ, Bool, false, nat_le, nat_lt, Option, Some, None}
+use Rattle.scope_check.specs.declared.part.Begin.{Begin}
+use Rattle.scope_check.specs.declared.part.Begin.TheVariants.{Known, At, Quiet}
+use Rattle.scope_check.specs.declared.part.Bound.{Bound}
+use Rattle.scope_check.specs.declared.part.Bound.TheVariants.{Clock, Time}
+
+-- a clock of this number and time is at or above the bound
+abbrev pub reaches : Bound → ℕ → ℕ → Bool
+reaches (Clock least) clock time = nat_le least clock
+reaches (Time least) clock time = nat_le least time
+
+-- it is above the last one that may be judged
+abbrev pub passes : Option Bound → ℕ → ℕ → Bool
+passes None clock time = false
+passes (Some (Clock last)) clock time = nat_lt last clock
+passes (Some (Time last)) clock time = nat_lt last time
+
+-- a part that begins so, behind so many clocks, begins later: of what came before nothing is known
+abbrev pub begins_later : Begin → ℕ → Bool
+begins_later Known clock = false
+begins_later (At bound) clock = nat_lt 0 clock
+begins_later (Quiet bound quiet) clock = nat_lt 0 clock
