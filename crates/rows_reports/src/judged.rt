@@ -154,6 +154,24 @@ clock 3 and those after it are not judged: the dump stopped before it
 ";
 
 #[test]
+fn an_early_end_is_told(rt: HostRuntime) {
+    let alloc = rt.alloc();
+    let clocks = clocks(alloc, 0, 3).expect(&rt, "memory");
+    for end in ["#35\n1", "#35\nb1"].iter() {
+        let text = format!(in alloc; "{BUS}{END}{IDLE}{clocks}{end}").expect(&rt, "memory");
+        let came = done(alloc, "check|x.vcd", text.as_str(), "").expect(&rt, "memory");
+        assert_eq!(rt; came.status, 0);
+        let (_, rest) = came.out.as_str().split_once("\n").expect(&rt, "no line");
+        assert_eq!(rt; rest, EARLY, "{end}");
+    }
+}
+
+const EARLY: &str = "\
+accepted: 3 of 3 clocks judged
+the file ends early: what begins at byte 536 is cut, and what is whole before it is judged
+";
+
+#[test]
 fn a_clock_without_an_edge_leaves_nothing_to_judge(rt: HostRuntime) {
     let alloc = rt.alloc();
     let text = dump(alloc, IDLE, 0, 0).expect(&rt, "memory");

@@ -19,8 +19,8 @@ const FAULTS: [(&str, &str); 5] = [
         "x.vcd, byte 445: the time is less than the one before it\n",
     ),
     (
-        "#0\nb1",
-        "x.vcd, byte 447: the file ends in the header, in a section, or between a value and its code\n",
+        "#0\n$comment\n#5\n",
+        "x.vcd, byte 457: the file ends in the header, in a section, or between a value and its code\n",
     ),
 ];
 

@@ -5,6 +5,7 @@ use scope_check::{Begin, Bound, Judged, Part, Verdict};
 use scope_watch::{Checked, Finding, ScopeStop};
 use scope_wiring::Cause;
 use vcd_grammar::{VcdCause, VcdFault};
+use vcd_scan::EarlyEnd;
 
 /// What is found of a text.
 enum Found {
@@ -16,7 +17,7 @@ enum Found {
 }
 
 /// Texts in two parts, and what is found of each.
-static TEXTS: [(&'static str, &'static str, Found); 10] = [
+static TEXTS: [(&'static str, &'static str, Found); 11] = [
     (HEADER, QUIET, Found::Judged(3, 1, 2, None)),
     (HEADER, "", Found::Judged(0, 0, 0, None)),
     (HEADER, " #0 0a #5 1a #6", Found::Judged(1, 1, 0, None)),
@@ -43,13 +44,20 @@ static TEXTS: [(&'static str, &'static str, Found); 10] = [
         Found::Bad(513, VcdCause::TimeBack),
     ),
     (HEADER, "\n#4 1y ", Found::Bad(504, VcdCause::Code)),
+    // An open section with a stamp would hide samples.
+    (
+        HEADER,
+        "\n#0 0a #5 1a $comment #6 0a",
+        Found::Bad(527, VcdCause::Cut),
+    ),
 ];
 
 /// Whether this is what is found.
 fn is_found(found: &Found, answer: &Result<Checked, ScopeStop>) -> bool {
     match (found, answer) {
         (Found::Judged(clocks, start, judged, broken), Ok(checked)) => match &checked.finding {
-            Finding::Judged(_, judged_now) => {
+            Finding::Judged(_, told) => {
+                let judged_now = &told.judged;
                 judged_now.clocks == *clocks
                     && judged_now.start == *start
                     && judged_now.judged == *judged
@@ -122,12 +130,52 @@ fn parts_begin_and_end_where_they_say(rt: HostRuntime) {
         };
         let checked = checked_part(alloc, &text, 64, &[], part).ok().expect(&rt, "checked");
         match &checked.finding {
-            Finding::Judged(_, found) => {
-                assert!(rt; found.clocks == 3);
-                assert!(rt; found.start == *start, "{part:?}");
-                assert!(rt; found.judged == *judged, "{part:?}");
+            Finding::Judged(_, told) => {
+                assert!(rt; told.judged.clocks == 3);
+                assert!(rt; told.judged.start == *start, "{part:?}");
+                assert!(rt; told.judged.judged == *judged, "{part:?}");
             }
             Finding::Refused(_) => assert!(rt; false),
+        }
+    }
+}
+
+/// Values behind a header that end early: how many clocks they have, the fault that their end would be, and where what
+/// stands open there begins.
+static EARLY: [(&'static str, u64, u64, VcdCause, Option<u64>); 4] = [
+    ("\n#0 0a #5 1a #10 0a #1", 1, 520, VcdCause::TimeBack, None),
+    ("\n#0 0a #5 1a #10 0", 1, 517, VcdCause::Token, None),
+    ("\n#0 0a #5 1a #10 b1", 1, 519, VcdCause::Cut, Some(517)),
+    (
+        "\n#0 0a #5 1a $comment all ",
+        0,
+        526,
+        VcdCause::Cut,
+        Some(513),
+    ),
+];
+
+#[test]
+fn what_is_whole_is_judged_of_a_dump_that_ends_early(rt: HostRuntime) {
+    let alloc = rt.alloc();
+    for (values, clocks, place, cause, open_from) in EARLY.iter() {
+        let text = joined(alloc, &[HEADER, values]).ok().expect(&rt, "memory");
+        let end = EarlyEnd {
+            fault: VcdFault {
+                place: *place,
+                cause: *cause,
+            },
+            open_from: *open_from,
+        };
+        for size in [1, 7, 4096] {
+            let found = checked(alloc, &text, size, &[]).ok().expect(&rt, "checked");
+            match &found.finding {
+                Finding::Judged(_, told) => {
+                    assert_eq!(rt; told.judged.clocks, *clocks, "{values}");
+                    assert_eq!(rt; told.early_end, Some(end), "{values}");
+                }
+                Finding::Refused(_) => assert!(rt; false, "{values}"),
+            }
         }
     }
 }

@@ -55,15 +55,17 @@ fn counted(alloc: Global, text: &[u8], size: usize, left: u32) -> Result<Counter
     };
     match pick_bus(alloc, &header.variables, &choice)? {
         Picked::Refused(_) => {}
-        Picked::Wired(bus) => watch_values(
-            alloc,
-            &mut source,
-            &mut room,
-            behind,
-            bus.wires,
-            rising(alloc),
-            &mut counter,
-        )?,
+        Picked::Wired(bus) => {
+            let _early_end = watch_values(
+                alloc,
+                &mut source,
+                &mut room,
+                behind,
+                bus.wires,
+                rising(alloc),
+                &mut counter,
+            )?;
+        }
     }
     Ok(counter)
 }

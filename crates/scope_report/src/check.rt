@@ -12,12 +12,13 @@ use scope_wiring::{Choice, Home, Wiring, settled_lines};
 use std::alloc::{AllocError, Global};
 use vcd_course::Stamp;
 use vcd_header::Section;
+use vcd_scan::EarlyEnd;
 
 /// The number of D_n.
 const DATA: u8 = 19;
 
 /// What was judged of a file, and found: the scope and the lines that are not there, the verdict, and of a broken rule
-/// what it asks; then what of the file was not judged.
+/// what it asks; then what of the file was not judged, as the end of one that ends early.
 pub fn check_text(
     alloc: Global,
     file: &str,
@@ -26,6 +27,7 @@ pub fn check_text(
     choice: &Choice,
     wiring: &Wiring,
     judged: &Judged,
+    early_end: Option<EarlyEnd>,
 ) -> Result<Vec<u8>, AllocError> {
     let scale = Scale::of(alloc, remarks)?;
     let heading = Heading::new(alloc, variables)?;
@@ -38,6 +40,7 @@ pub fn check_text(
     put_deferral(&mut text, judged)?;
     put_holes(&mut text, judged, scale)?;
     put_behind(&mut text, judged)?;
+    put_early_end(&mut text, early_end)?;
     put_other_names(&mut text, &heading, &settled, wiring.home)?;
     Ok(text)
 }
@@ -281,5 +284,17 @@ fn end_cause(to: Option<Bound>, end: u64) -> &'static str {
             }
         }
         Some(Bound::Time(_)) => "it lies above --to, or the dump stopped before it\n",
+    }
+}
+
+// The end of a file that ends early: where the word, the value or the section begins that is not whole.
+fn put_early_end(text: &mut Vec<u8>, early_end: Option<EarlyEnd>) -> Result<(), AllocError> {
+    match early_end {
+        None => Ok(()),
+        Some(end) => {
+            put(text, "the file ends early: what begins at byte ")?;
+            put_number(text, end.open_from.unwrap_or(end.fault.place))?;
+            put(text, " is cut, and what is whole before it is judged\n")
+        }
     }
 }

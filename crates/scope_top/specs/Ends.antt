@@ -11,7 +11,7 @@ use Rattle.scope_top.specs.declared.stop.Stop.TheVariants as stops
 -- how a check ends that found this
 abbrev pub ending_found : Finding → Ending
 ending_found (findings.Refused refusal) = endings.Unjudged
-ending_found (findings.Judged wiring judged) = ending_after judged.verdict
+ending_found (findings.Judged wiring told) = ending_after told.judged.verdict
 
 -- how the program ends
 abbrev pub ending_at : Result Ending Stop → Ending

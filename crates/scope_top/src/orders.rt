@@ -291,7 +291,7 @@ fn tell_checked<O: Sink, E: Sink>(
             let text = refusal_text(alloc, name, &header.variables, choice, refusal)?;
             tell(err, &text)?;
         }
-        Finding::Judged(wiring, judged) => {
+        Finding::Judged(wiring, told) => {
             let text = check_text(
                 alloc,
                 name,
@@ -299,7 +299,8 @@ fn tell_checked<O: Sink, E: Sink>(
                 &header.remarks,
                 choice,
                 wiring,
-                judged,
+                &told.judged,
+                told.early_end,
             )?;
             tell(out, &text)?;
         }
@@ -313,7 +314,7 @@ pub fn ending_found(finding: &Finding) -> Ending
 {
     match finding {
         Finding::Refused(_) => Ending::Unjudged,
-        Finding::Judged(_, judged) => ending_of(&judged.verdict),
+        Finding::Judged(_, told) => ending_of(&told.judged.verdict),
     }
 }
 

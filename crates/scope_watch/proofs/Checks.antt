@@ -6,11 +6,11 @@ use Rattle.vcd_way.specs.Declarations.{Declaration}
 use Rattle.vcd_way.specs.Ways.{ValueRules, Way}
 use Rattle.vcd_way.specs.Events.{DumpEvent}
 use Rattle.vcd_way.proofs.Interface.{tokens_longer}
-use Rattle.scope_check.specs.declared.finding.Judged.{Judged}
 use Rattle.scope_check.specs.declared.part.Part.{Part}
 use Rattle.scope_wiring.specs.declared.wiring.Choice.{Choice}
 use Rattle.scope_wiring.specs.declared.wiring.Wiring.{Wiring}
 use Rattle.scope_way.specs.Wired.{wired_way}
+use Rattle.scope_watch.specs.declared.check.JudgedText.{JudgedText}
 use Rattle.scope_watch.specs.declared.header.Header.{Header}
 use Rattle.scope_watch.specs.declared.header.Begun.{Begun}
 use Rattle.scope_watch.specs.declared.stop.ScopeStop.{ScopeStop}
@@ -105,7 +105,7 @@ taken-by choice s b text left bus h k =
     h.shows.variables
 
 -- the same with the marks and the way of the wires
-pub judged-by : (answer : Result Judged ScopeStop) (part : Part) (marks known : Marks) (way wired : Way (List Declaration))
+pub judged-by : (answer : Result JudgedText ScopeStop) (part : Part) (marks known : Marks) (way wired : Way (List Declaration))
     (text : List ℕ) → marks ≡ known → wired ≡ way → IsJudgedAs answer part marks way text
     → IsJudgedAs answer part known wired text
 judged-by answer part marks known way wired text e f h =

@@ -1,5 +1,5 @@
 -- One more piece of the values.
-use Rattle.std.proofs.Common.{◌≡◌, ℕ, true, false, inl, inr, List, [], ◌++◌, length, Option, Some, None, Result, Ok, Err}
+use Rattle.std.proofs.Common.{◌≡◌, ℕ, true, false, inl, inr, List, [], ◌++◌, length, Option, Some, None, option_map, Result, Ok, Err}
 use Rattle.std.proofs.Common.{refl, sym, ap, subst, ◌∙◌, append_assoc, append-nil}
 use Rattle.vcd_grammar.specs.declared.fault.VcdFault.{VcdFault}
 use Rattle.vcd_way.specs.Ways.{ValueRules}
@@ -9,7 +9,9 @@ use Rattle.vcd_scan.specs.declared.stop.ScanStop.{ScanStop}
 use Rattle.vcd_scan.specs.declared.stop.ScanStop.TheVariants as scans
 use Rattle.vcd_scan.specs.Wired.{Wiring}
 use Rattle.vcd_scan.specs.Standing.{Stands, Keeps, Answers, Appends, refusal_of, refusal_in, rules_of, wiring_of, events_of}
-use Rattle.vcd_scan.specs.Standing.{tokens_after, last_tokens_after, known_after, told_after, all_told_after, fault_behind}
+use Rattle.vcd_scan.specs.declared.early.EarlyEnd.{EarlyEnd}
+use Rattle.vcd_scan.specs.Standing.{tokens_after, known_after, told_after}
+use Rattle.vcd_scan.specs.Ending.{early_told, early_end_after, fault_to_end, told_to_end}
 use Rattle.vcd_course.specs.declared.course.Course.{Course}
 use Rattle.vcd_course.specs.declared.course.CourseRules.{CourseRules}
 use Rattle.vcd_course.specs.Told.{rules_of as course_rules_of, late_of}
@@ -19,10 +21,10 @@ use Rattle.scope_watch.specs.declared.values.Sampling.{Sampling}
 use Rattle.scope_watch.specs.Watching.{rules_for, Seen, ShowsFaultBehind, Refuses, EndsWell, EndsBadly}
 
 -- a reader that answers Ok had not refused
-pub not-refused : (o : Option ScanStop) (result : Result Unit ScanStop) → result ≡ Ok tt
+pub not-refused : {X : Type 0} (o : Option ScanStop) (result : Result X ScanStop) (x : X) → result ≡ Ok x
     → ((stop : ScanStop) → o ≡ Some stop → result ≡ Err stop) → o ≡ None
-not-refused None result e again = refl
-not-refused (Some stop) result e again = absurd (let h : Ok tt ≡ Err stop = sym e ∙ again stop refl in
+not-refused None result x e again = refl
+not-refused (Some stop) result x e again = absurd (let h : Ok x ≡ Err stop = sym e ∙ again stop refl in
     let no : ⊥ = cc in no)
 
 -- what was appended goes on from what was told
@@ -51,13 +53,13 @@ more-shown m w old mid head fed piece h r v e a =
 pub last-shown : (m : ValueRules) (w : Wiring) (old mid : ValueReader) (head fed : List ℕ) (h : List DumpEvent)
     → rules_of old ≡ m → wiring_of old ≡ w → events_of old ≡ []
     → Appends (told_after (rules_of old) (wiring_of old) (tokens_after head fed))
-    (all_told_after (rules_of old) (wiring_of old) (last_tokens_after head fed)) (events_of old) (events_of mid)
+    (told_to_end (rules_of old) (wiring_of old) head fed) (events_of old) (events_of mid)
     → (h ++ told_after m w (tokens_after head fed)) ++ events_of mid
-    ≡ h ++ all_told_after m w (last_tokens_after head fed)
+    ≡ h ++ told_to_end m w head fed
 last-shown m w old mid head fed h r v e a =
     ap (λ x. (h ++ x) ++ events_of mid) (λ i. told_after (sym r i) (sym v i) (tokens_after head fed))
     ∙ joined _ _ _ _ h e a
-    ∙ ap (λ x. h ++ x) (λ i. all_told_after (r i) (v i) (last_tokens_after head fed))
+    ∙ ap (λ x. h ++ x) (λ i. told_to_end (r i) (v i) head fed)
 
 -- a reader behind a piece whose events were seen
 pub seen-more : (before after : List DumpEvent → Type 0) (m : ValueRules) (w : Wiring) (old mid new : ValueReader)
@@ -74,11 +76,11 @@ seen-more before after m w old mid new head fed piece s k j stands taken fresh s
 }
 
 -- the fault that is answered
-fault-of : (result : Result Unit ScanStop) (fault : VcdFault) (o : Option VcdFault) → result ≡ Err (scans.Bad fault)
+fault-of : {X : Type 0} (result : Result X ScanStop) (fault : VcdFault) (o : Option VcdFault) → result ≡ Err (scans.Bad fault)
     → Answers result o → o ≡ Some fault
 fault-of result fault o e a = subst (λ x. Answers x o) e a
 
-same-stop : (result : Result Unit ScanStop) (a b : ScanStop) → result ≡ Err a → result ≡ Err b → a ≡ b
+same-stop : {X : Type 0} (result : Result X ScanStop) (a b : ScanStop) → result ≡ Err a → result ≡ Err b → a ≡ b
 same-stop result a b e f = cc
 
 -- a reader that answers a fault has read it now or before
@@ -128,26 +130,27 @@ seen-fault before after m w old new head fed piece fault result s k stands refus
     }
 
 -- at the end of a text
-pub ends-well : (before after : List DumpEvent → Type 0) (m : ValueRules) (w : Wiring) (old : ValueReader)
-    (head fed : List ℕ) → Seen before m w old head fed
-    → fault_behind (rules_of old) (wiring_of old) (last_tokens_after head fed) (length (head ++ fed)) ≡ None
-    → after (all_told_after m w (last_tokens_after head fed)) → EndsWell after m w head fed
-ends-well before after m w old head fed s answer shown = record {
-  none = (λ i. fault_behind (sym s.rules i) (sym s.wiring i) (last_tokens_after head fed) (length (head ++ fed))) ∙ answer;
+pub ends-well : (early : Option EarlyEnd) (before after : List DumpEvent → Type 0) (m : ValueRules) (w : Wiring)
+    (old : ValueReader) (head fed : List ℕ) → Seen before m w old head fed
+    → fault_to_end (rules_of old) (wiring_of old) head fed ≡ None
+    → option_map early_told early ≡ early_end_after (rules_of old) (wiring_of old) head fed
+    → after (told_to_end m w head fed) → EndsWell early after m w head fed
+ends-well early before after m w old head fed s answer ended shown = record {
+  none = (λ i. fault_to_end (sym s.rules i) (sym s.wiring i) head fed) ∙ answer;
+  early_end = ended ∙ (λ i. early_end_after (s.rules i) (s.wiring i) head fed);
   shown = shown;
 }
 
 pub ends-badly : (before : List DumpEvent → Type 0) (m : ValueRules) (w : Wiring) (old : ValueReader)
-    (head fed : List ℕ) (fault : VcdFault) (result : Result Unit ScanStop) → Seen before m w old head fed
-    → (refusal_of old ≡ None → Answers result
-    (fault_behind (rules_of old) (wiring_of old) (last_tokens_after head fed) (length (head ++ fed))))
+    (head fed : List ℕ) (fault : VcdFault) (result : Result (Option EarlyEnd) ScanStop) → Seen before m w old head fed
+    → (refusal_of old ≡ None → Answers result (fault_to_end (rules_of old) (wiring_of old) head fed))
     → result ≡ Err (scans.Bad fault) → ((stop : ScanStop) → refusal_of old ≡ Some stop → result ≡ Err stop)
     → EndsBadly m w head fed fault
 ends-badly before m w old head fed fault result s answer e again = by (refusal_of old) refl s.refused
   where
     by : (o : Option ScanStop) → refusal_of old ≡ o → Refuses m w head fed o → EndsBadly m w head fed fault
-    by None o r = inr ((λ i. fault_behind (sym s.rules i) (sym s.wiring i) (last_tokens_after head fed)
-        (length (head ++ fed))) ∙ fault-of result fault _ e (answer o))
+    by None o r =
+        inr ((λ i. fault_to_end (sym s.rules i) (sym s.wiring i) head fed) ∙ fault-of result fault _ e (answer o))
     by (Some scans.Memory) o r = absurd r
     by (Some (scans.Bad seen)) o r =
         inl (subst (λ x. Refuses m w head fed (Some x)) (same-stop result _ _ (again (scans.Bad seen) o) e) r)
@@ -161,7 +164,7 @@ sampled_at s = record { edge = s.edge; takes_first = s.takes_first }
 -- the rules of a reader by these rules
 pub rules-same : (s : Sampling) (c : Course) (rules : CourseRules) → course_rules_of c ≡ rules → rules.edge ≡ s.edge
     → rules.takes_first ≡ s.takes_first → late_of c ≡ s.late.items
-    → values_by (record { has_wide_digits = true; takes_any = true; tells_holes = true; ends_early = false }) c
+    → values_by (record { has_wide_digits = true; takes_any = true; tells_holes = true; ends_early = true }) c
     ≡ of_values (rules_for s)
 rules-same s c rules e f g h = (λ i. record (of_values (rules_for s)) {
   edge = (ap (λ (x : CourseRules). x.edge) e ∙ f) i;

@@ -1,8 +1,9 @@
 -- Stops of a source and of a watcher.
-use Rattle.std.proofs.Common.{◌≡◌, ℕ, List, Result, Err, subst}
+use Rattle.std.proofs.Common.{◌≡◌, ℕ, List, Option, Result, Err, subst}
 use Rattle.vcd_way.specs.Declarations.{Declaration}
 use Rattle.vcd_way.specs.Ways.{ValueRules, Way}
 use Rattle.vcd_way.specs.Events.{DumpEvent}
+use Rattle.vcd_scan.specs.declared.early.EarlyEnd.{EarlyEnd}
 use Rattle.vcd_scan.specs.Wired.{Wiring}
 use Rattle.scope_watch.specs.declared.stop.ScopeStop.{ScopeStop}
 use Rattle.scope_watch.specs.declared.stop.ScopeStop.TheVariants as stops
@@ -28,7 +29,7 @@ finishes-watcher stops.WriteFault seen m w head fed h = tt
 finishes-watcher stops.Memory seen m w head fed h = tt
 
 -- an answer that is one stop is no other
-abbrev pub answered : ScopeStop → Result Unit ScopeStop
+abbrev pub answered : ScopeStop → Result (Option EarlyEnd) ScopeStop
 answered stop = Err stop
 
 pub same-stop : (a b : ScopeStop) → answered a ≡ answered b → a ≡ b

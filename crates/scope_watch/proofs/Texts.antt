@@ -1,18 +1,20 @@
 -- What a reader of values answers is what the whole text tells.
-use Rattle.std.proofs.Common.{◌≡◌, Bool, true, false, Option, ◌<◌, ◌^◌, ℕ, ◌⊎◌, inl, inr, if◌then◌else◌, List, [], ◌∷◌, ◌++◌, length, Some, None, Result, Ok, Err}
+use Rattle.std.proofs.Common.{◌≡◌, Bool, true, false, not, ◌&&◌, is_some, option_map, Option, ◌<◌, ◌^◌, ℕ, ◌⊎◌, inl, inr, if◌then◌else◌, List, [], ◌∷◌, ◌++◌, length, Some, None, Result, Ok, Err}
 use Rattle.std.proofs.Common.{refl, sym, ap, subst, ◌∙◌, append_assoc}
 use Rattle.vcd_grammar.specs.declared.fault.VcdFault.{VcdFault}
 use Rattle.vcd_grammar.specs.Tokens.{Token, tokens_so_far, tokens_of, ended_at}
 use Rattle.vcd_way.specs.Declarations.{Declaration}
 use Rattle.vcd_way.specs.Ways.{ValueRules, Way}
 use Rattle.vcd_way.specs.Events.{DumpEvent}
-use Rattle.vcd_way.specs.Answers.{fault_so_far_by, first_fault_by, events_by}
+use Rattle.vcd_way.specs.Answers.{EarlyEnd, fault_so_far_by, first_fault_by, early_end_by, events_by}
 use Rattle.vcd_scan.specs.Wired.{Wiring}
-use Rattle.vcd_scan.specs.Standing.{known_after, tokens_after, last_tokens_after, all_told_after, told_after, fault_behind}
+use Rattle.vcd_scan.specs.declared.early.EarlyEnd.{EarlyEnd as EndedEarly}
+use Rattle.vcd_scan.specs.Standing.{known_after, tokens_after, last_tokens_after, told_after, all_told_after, fault_behind}
+use Rattle.vcd_scan.specs.Ending.{ends_early_after, early_end_after, fault_to_end, told_to_end}
 use Rattle.vcd_joined.specs.Choosing.{Choice, choosing, IsTaken, of_values}
 use Rattle.vcd_joined.specs.Behind.{gathered_in, IsHeader}
-use Rattle.vcd_joined.specs.Texts.{IsHeadWith, IsWholeWith, is_early_behind}
-use Rattle.vcd_way.specs.Steps.{is_past_header_at}
+use Rattle.vcd_joined.specs.Texts.{IsHeadWith, IsWholeWith}
+use Rattle.vcd_way.specs.Steps.{is_past_header_at, open_from, hides_stamp}
 use Rattle.vcd_header.specs.Gathering.{header_fault_so_far, header_fault_of}
 use Rattle.scope_watch.specs.declared.header.Behind.{Behind}
 use Rattle.scope_watch.specs.declared.header.Begun.{Begun}
@@ -27,15 +29,15 @@ pub record Laws : Type 0 where
   pub so_far : (c : Choice) (m : ValueRules) (w : Wiring) (head fed : List ℕ) → IsHeadWith c m w head
       → fault_so_far_by (choosing c m) (head ++ fed) ≡ (known_after (of_values m) w (tokens_after head fed)).fault
   pub fault : (c : Choice) (m : ValueRules) (w : Wiring) (head fed : List ℕ) → IsHeadWith c m w head
-      → first_fault_by (choosing c m) (head ++ fed)
-      ≡ (if is_early_behind m w head fed then None
-      else fault_behind (of_values m) w (last_tokens_after head fed) (length (head ++ fed)))
+      → first_fault_by (choosing c m) (head ++ fed) ≡ fault_to_end (of_values m) w head fed
+  pub early : (c : Choice) (m : ValueRules) (w : Wiring) (head fed : List ℕ) → IsHeadWith c m w head
+      → early_end_by (choosing c m) (head ++ fed) ≡ early_end_after (of_values m) w head fed
   pub events : (c : Choice) (m : ValueRules) (w : Wiring) (head fed : List ℕ) → IsHeadWith c m w head
-      → events_by (choosing c m) (head ++ fed)
-      ≡ (if is_early_behind m w head fed then told_after (of_values m) w (tokens_after head fed)
-      else all_told_after (of_values m) w (last_tokens_after head fed))
+      → events_by (choosing c m) (head ++ fed) ≡ told_to_end (of_values m) w head fed
   pub none : (c : Choice) (m : ValueRules) (text : List ℕ) → IsHeader m (tokens_of text)
       → first_fault_by (choosing c m) text ≡ None
+  pub well : (c : Choice) (m : ValueRules) (text : List ℕ) → IsHeader m (tokens_of text)
+      → early_end_by (choosing c m) text ≡ None
   pub all : (c : Choice) (m : ValueRules) (w : Wiring) (text : List ℕ) → IsWholeWith c m w text
       → events_by (choosing c m) text ≡ all_told_after (of_values m) w []
   pub stays : (way : Way (List Declaration)) (fed more : List ℕ) (f : VcdFault) → fault_so_far_by way fed ≡ Some f
@@ -54,14 +56,15 @@ fault-inside laws c s w head fed fault h (inl shown) =
 fault-inside laws c s w head fed fault h (inr e) = laws.fault c (rules_for s) w head fed h ∙ e
 
 inside : (laws : Laws) (c : Choice) (s : Sampling) (w : Wiring) (head fed : List ℕ) (seen : List DumpEvent → Type 0)
-    (result : Result Unit ScopeStop) → IsHeadWith c (rules_for s) w head
+    (result : Result (Option EndedEarly) ScopeStop) → IsHeadWith c (rules_for s) w head
     → (result ≡ Err stops.TooLong → 2 ^ 40 < length (head ++ fed))
     → Finishes result seen (of_values (rules_for s)) w head fed
     → IsWatched result seen (choosing c (rules_for s)) (head ++ fed)
-inside laws c s w head fed seen (Ok u) h long f = (
-  laws.fault c (rules_for s) w head fed h ∙ f.none,
-  subst (λ x. seen x) (sym (laws.events c (rules_for s) w head fed h)) f.shown,
-)
+inside laws c s w head fed seen (Ok early) h long f = record {
+  none = laws.fault c (rules_for s) w head fed h ∙ f.none;
+  early_end = f.early_end ∙ sym (laws.early c (rules_for s) w head fed h);
+  shown = subst (λ x. seen x) (sym (laws.events c (rules_for s) w head fed h)) f.shown;
+}
 inside laws c s w head fed seen (Err (stops.Bad fault)) h long f = fault-inside laws c s w head fed fault h f
 inside laws c s w head fed seen (Err stops.TooLong) h long f = long refl
 inside laws c s w head fed seen (Err stops.ReadFault) h long f = tt
@@ -80,25 +83,52 @@ no-fault : (m : ValueRules) (w : Wiring) (some more : List ℕ) (fault : VcdFaul
 no-fault m w [] more fault e h = cc
 no-fault m w (b ∷ some) more fault e h = cc
 
-no-end : (m : ValueRules) (w : Wiring) (ts : List Token) (fault : VcdFault) → ts ≡ []
-    → fault_behind m w ts 0 ≡ Some fault → ⊥
-no-end m w [] fault e h = cc
-no-end m w (t ∷ ts) fault e h = cc
+-- such a text has no fault behind it
+none-behind : (m : ValueRules) (w : Wiring) → fault_behind m w (last_tokens_after [] []) 0 ≡ None
+none-behind m w = ap (λ ts. fault_behind m w ts 0) none-last
+
+not-early : (a b c : Bool) (f : Option VcdFault) → f ≡ None → (a && b && c && is_some f) ≡ false
+not-early true true true f h = ap is_some h
+not-early true true false f h = refl
+not-early true false c f h = refl
+not-early false b c f h = refl
+
+none-early : (m : ValueRules) (w : Wiring) → ends_early_after m w [] [] ≡ false
+none-early m w =
+    not-early m.ends_early (not (is_some (known_after m w (tokens_after [] [])).fault))
+    (not (hides_stamp (known_after m w (last_tokens_after [] [])).spot)) _ (none-behind m w)
+
+no-end : (m : ValueRules) (w : Wiring) (fault : VcdFault) → fault_to_end m w [] [] ≡ Some fault → ⊥
+no-end m w fault h =
+    let wrong = sym (λ i. if none-early m w i then None else none-behind m w i) ∙ h in let no : ⊥ = cc in no
+
+told-none : (m : ValueRules) (w : Wiring) → told_to_end m w [] [] ≡ all_told_after m w []
+told-none m w =
+    ap (λ b. if b then told_after m w (tokens_after [] []) else all_told_after m w (last_tokens_after [] []))
+    (none-early m w)
+    ∙ ap (λ ts. all_told_after m w ts) none-last
+
+ended-none : (m : ValueRules) (w : Wiring) → early_end_after m w [] [] ≡ None
+ended-none m w =
+    let last = last_tokens_after [] [] in
+    let early : Option EarlyEnd = option_map
+    (λ fault. record { fault = fault; open_from = open_from (known_after m w last).spot }) (fault_behind m w last 0) in
+    ap (λ b. if b then early else None) (none-early m w)
 
 no-bad : (m : ValueRules) (w : Wiring) (fault : VcdFault) → EndsBadly m w [] [] fault → ⊥
 no-bad m w fault (inl shown) = no-fault m w shown.some shown.more fault shown.whole shown.first
-no-bad m w fault (inr e) = no-end m w (last_tokens_after [] []) fault none-last e
+no-bad m w fault (inr e) = no-end m w fault e
 
 whole : (laws : Laws) (c : Choice) (s : Sampling) (w : Wiring) (text : List ℕ) (seen : List DumpEvent → Type 0)
-    (result : Result Unit ScopeStop) → IsWholeWith c (rules_for s) w text
+    (result : Result (Option EndedEarly) ScopeStop) → IsWholeWith c (rules_for s) w text
     → (result ≡ Err stops.TooLong → 2 ^ 40 < length text)
     → Finishes result seen (of_values (rules_for s)) w [] []
     → IsWatched result seen (choosing c (rules_for s)) text
-whole laws c s w text seen (Ok u) h long f = (
-  laws.none c (rules_for s) text h.header,
-  subst (λ x. seen x) (ap (λ ts. all_told_after (of_values (rules_for s)) w ts) none-last
-      ∙ sym (laws.all c (rules_for s) w text h)) f.shown,
-)
+whole laws c s w text seen (Ok early) h long f = record {
+  none = laws.none c (rules_for s) text h.header;
+  early_end = f.early_end ∙ ended-none (of_values (rules_for s)) w ∙ sym (laws.well c (rules_for s) text h.header);
+  shown = subst (λ x. seen x) (told-none (of_values (rules_for s)) w ∙ sym (laws.all c (rules_for s) w text h)) f.shown;
+}
 whole laws c s w text seen (Err (stops.Bad fault)) h long f = absurd (no-bad (of_values (rules_for s)) w fault f)
 whole laws c s w text seen (Err stops.TooLong) h long f = long refl
 whole laws c s w text seen (Err stops.ReadFault) h long f = tt
@@ -110,7 +140,7 @@ whole laws c s w text seen (Err stops.Memory) h long f = tt
 
 -- what is answered of the values is right of the whole text
 pub watched : (laws : Laws) (c : Choice) (s : Sampling) (w : Wiring) (b : Behind) (ts : List Token) (text left : List ℕ)
-    (seen : List DumpEvent → Type 0) (result : Result Unit ScopeStop)
+    (seen : List DumpEvent → Type 0) (result : Result (Option EndedEarly) ScopeStop)
     → (at : StandsBehind (rules_for s) b ts text left) → IsTaken c (gathered_in (rules_for s) ts).header w
     → (result ≡ Err stops.TooLong → 2 ^ 40 < length text)
     → Finishes result seen (of_values (rules_for s)) w at.head (b.rest.items ++ left)

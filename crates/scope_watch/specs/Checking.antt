@@ -1,19 +1,19 @@
 -- What is found of a dump.
-use Rattle.std.specs.Prelude.{◌≡◌, ◌<◌, ◌^◌, ◌⊎◌, ℕ, List, ◌++◌, length, Some, None, Result, Ok, Err}
+use Rattle.std.specs.Prelude.{◌≡◌, ◌<◌, ◌^◌, ◌⊎◌, ℕ, List, ◌++◌, length, Some, None, option_map, Result, Ok, Err}
 use Rattle.fsb_signal.specs.declared.marks.Marks.{Marks}
 use Rattle.vcd_grammar.specs.declared.fault.VcdFault.{VcdFault}
 use Rattle.vcd_grammar.specs.Judging.{marks_of_lines}
 use Rattle.vcd_grammar.specs.Tokens.{Token, tokens_of}
 use Rattle.vcd_way.specs.Declarations.{Declaration}
 use Rattle.vcd_way.specs.Ways.{ValueRules, Way}
-use Rattle.vcd_way.specs.Answers.{first_fault_by, events_by}
+use Rattle.vcd_way.specs.Answers.{first_fault_by, early_end_by, events_by}
+use Rattle.vcd_scan.specs.Ending.{early_told}
 use Rattle.vcd_joined.specs.Behind.{IsHeader, gathered_in}
 use Rattle.scope_wiring.specs.declared.wiring.Choice.{Choice}
 use Rattle.scope_wiring.specs.declared.wiring.Wiring.{Wiring}
 use Rattle.scope_wiring.specs.declared.wiring.Picking.TheVariants as pickings
 use Rattle.scope_wiring.specs.Pickings.{IsPicking}
 use Rattle.scope_way.specs.Wired.{wired_way, wired_lines}
-use Rattle.scope_check.specs.declared.finding.Judged.{Judged}
 use Rattle.scope_check.specs.declared.part.Part.{Part}
 use Rattle.scope_check.specs.Findings.{IsFoundIn}
 use Rattle.scope_watch.specs.declared.stop.ScopeStop.{ScopeStop}
@@ -21,15 +21,22 @@ use Rattle.scope_watch.specs.declared.stop.ScopeStop.TheVariants as stops
 use Rattle.scope_watch.specs.declared.header.Header.{Header}
 use Rattle.scope_watch.specs.declared.values.Sampling.{Sampling}
 use Rattle.scope_watch.specs.declared.check.Checked.{Checked}
+use Rattle.scope_watch.specs.declared.check.JudgedText.{JudgedText}
 use Rattle.scope_watch.specs.declared.check.Finding.{Finding}
 use Rattle.scope_watch.specs.declared.check.Finding.TheVariants as findings
 use Rattle.scope_watch.specs.Heading.{Shows, IsHeaderFault}
 use Rattle.scope_watch.specs.Watching.{rules_for}
 
+-- a whole text, read in a way, has no fault; this is the verdict on this part of its events, with these marks, and
+-- this its early end, if it has one
+pub record IsJudgedText (told : JudgedText) (part : Part) (marks : Marks) (way : Way (List Declaration)) (text : List ℕ) : Type 0 where
+  pub none : first_fault_by way text ≡ None
+  pub found : IsFoundIn told.judged part marks (events_by way text)
+  pub early_end : option_map early_told told.early_end ≡ early_end_by way text
+
 -- what is judged of this part of a whole text, read in a way, with these marks
-abbrev pub IsJudgedAs : Result Judged ScopeStop → Part → Marks → Way (List Declaration) → List ℕ → Type 0
-IsJudgedAs (Ok judged) part marks way text =
-    (first_fault_by way text ≡ None) × IsFoundIn judged part marks (events_by way text)
+abbrev pub IsJudgedAs : Result JudgedText ScopeStop → Part → Marks → Way (List Declaration) → List ℕ → Type 0
+IsJudgedAs (Ok told) part marks way text = IsJudgedText told part marks way text
 IsJudgedAs (Err (stops.Bad fault)) part marks way text = first_fault_by way text ≡ Some fault
 IsJudgedAs (Err stops.TooLong) part marks way text = 2 ^ 40 < length text
 IsJudgedAs (Err stops.TooMany) part marks way text = Unit {0}
@@ -55,9 +62,9 @@ pub record IsWiredBy (choice : Choice) (s : Sampling) (h : Header) (w : Wiring) 
 abbrev pub IsFinding : Finding → Choice → Part → Sampling → Header → List ℕ → Type 0
 IsFinding (findings.Refused refusal) choice part s h text =
     Declares (rules_for s) h text × IsPicking h.variables.items choice (pickings.Refused refusal)
-IsFinding (findings.Judged w judged) choice part s h text =
+IsFinding (findings.Judged w told) choice part s h text =
     IsWiredBy choice s h w text
-    × IsJudgedAs (Ok judged) part (marks_of_lines (wired_lines w.wires.items)) (wired_way w.wires.items (rules_for s)) text
+    × IsJudgedAs (Ok told) part (marks_of_lines (wired_lines w.wires.items)) (wired_way w.wires.items (rules_for s)) text
 
 -- the first fault of a text behind a header of which these wires are picked
 pub record IsFaultBehind (choice : Choice) (s : Sampling) (text : List ℕ) (fault : VcdFault) : Type 0 where

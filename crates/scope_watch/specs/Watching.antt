@@ -1,28 +1,29 @@
 -- What was read of values, and shown.
-use Rattle.std.specs.Prelude.{◌≡◌, ◌<◌, ◌^◌, ◌⊎◌, ℕ, false, List, [], ◌++◌, length, Option, Some, None, Result, Ok, Err}
+use Rattle.std.specs.Prelude.{◌≡◌, ◌<◌, ◌^◌, ◌⊎◌, ℕ, List, [], ◌++◌, length, Option, Some, None, option_map, Result, Ok, Err}
 use Rattle.vcd_grammar.specs.declared.fault.VcdFault.{VcdFault}
 use Rattle.vcd_way.specs.Declarations.{Declaration}
 use Rattle.vcd_way.specs.Ways.{ValueRules, Way}
-use Rattle.vcd_way.specs.Answers.{first_fault_by, events_by}
+use Rattle.vcd_way.specs.Answers.{first_fault_by, early_end_by, events_by}
 use Rattle.vcd_way.specs.Wide.{wide_rules}
 use Rattle.vcd_way.specs.Events.{DumpEvent}
+use Rattle.vcd_scan.specs.declared.early.EarlyEnd.{EarlyEnd}
 use Rattle.vcd_scan.specs.declared.reader.ValueReader.{ValueReader}
 use Rattle.vcd_scan.specs.declared.stop.ScanStop.{ScanStop}
 use Rattle.vcd_scan.specs.declared.stop.ScanStop.TheVariants as scans
 use Rattle.vcd_scan.specs.Wired.{Wiring}
 use Rattle.vcd_scan.specs.Standing.{Stands, refusal_of, rules_of, wiring_of, events_of}
-use Rattle.vcd_scan.specs.Standing.{tokens_after, last_tokens_after, known_after, told_after, all_told_after, fault_behind}
+use Rattle.vcd_scan.specs.Standing.{tokens_after, known_after, told_after}
+use Rattle.vcd_scan.specs.Ending.{early_told, early_end_after, fault_to_end, told_to_end}
 use Rattle.scope_watch.specs.declared.stop.ScopeStop.{ScopeStop}
 use Rattle.scope_watch.specs.declared.stop.ScopeStop.TheVariants as stops
 use Rattle.scope_watch.specs.declared.values.Sampling.{Sampling}
 
--- the rules by which a dump of any tool is read, where it is sampled so; one that ends early is refused
+-- the rules by which a dump of any tool is read, where it is sampled so
 abbrev pub rules_for : Sampling → ValueRules
 rules_for s = record wide_rules {
   edge = s.edge;
   takes_first = s.takes_first;
   late = s.late.items;
-  ends_early = false;
 }
 
 -- some of the first bytes behind a header show this fault to a reader of these wires
@@ -57,20 +58,21 @@ IsStopOfWatching stops.TooMany = Unit {0}
 IsStopOfWatching stops.WriteFault = Unit {0}
 IsStopOfWatching stops.Memory = Unit {0}
 
--- the text ends well behind these bytes, and all that it tells was seen
-pub record EndsWell (seen : List DumpEvent → Type 0) (m : ValueRules) (w : Wiring) (head fed : List ℕ) : Type 0 where
-  pub none : fault_behind m w (last_tokens_after head fed) (length (head ++ fed)) ≡ None
-  pub shown : seen (all_told_after m w (last_tokens_after head fed))
+-- the text ends well behind these bytes, or so early, and all that it tells was seen
+pub record EndsWell (early : Option EarlyEnd) (seen : List DumpEvent → Type 0) (m : ValueRules) (w : Wiring) (head fed : List ℕ) : Type 0 where
+  pub none : fault_to_end m w head fed ≡ None
+  pub early_end : option_map early_told early ≡ early_end_after m w head fed
+  pub shown : seen (told_to_end m w head fed)
 
 -- the text has a fault behind its header: some of its bytes show it, or it ends there
 abbrev pub EndsBadly : ValueRules → Wiring → List ℕ → List ℕ → VcdFault → Type 0
 EndsBadly m w head fed fault =
     ShowsFaultBehind m w head fed fault
-    ⊎ (fault_behind m w (last_tokens_after head fed) (length (head ++ fed)) ≡ Some fault)
+    ⊎ (fault_to_end m w head fed ≡ Some fault)
 
 -- what is answered of a text that ends behind these bytes
-abbrev pub Finishes : Result Unit ScopeStop → (List DumpEvent → Type 0) → ValueRules → Wiring → List ℕ → List ℕ → Type 0
-Finishes (Ok u) seen m w head fed = EndsWell seen m w head fed
+abbrev pub Finishes : Result (Option EarlyEnd) ScopeStop → (List DumpEvent → Type 0) → ValueRules → Wiring → List ℕ → List ℕ → Type 0
+Finishes (Ok early) seen m w head fed = EndsWell early seen m w head fed
 Finishes (Err (stops.Bad fault)) seen m w head fed = EndsBadly m w head fed fault
 Finishes (Err stops.TooMany) seen m w head fed = Unit {0}
 Finishes (Err stops.WriteFault) seen m w head fed = Unit {0}
@@ -87,9 +89,15 @@ IsStopOfEnd stops.TooMany = Unit {0}
 IsStopOfEnd stops.WriteFault = Unit {0}
 IsStopOfEnd stops.Memory = Unit {0}
 
+-- a whole text, read in a way whose events are shown, has no fault and this early end, if one
+pub record IsRead (early : Option EarlyEnd) (seen : List DumpEvent → Type 0) (way : Way (List Declaration)) (text : List ℕ) : Type 0 where
+  pub none : first_fault_by way text ≡ None
+  pub early_end : option_map early_told early ≡ early_end_by way text
+  pub shown : seen (events_by way text)
+
 -- what is answered of a whole text, read in a way whose events are shown
-abbrev pub IsWatched : Result Unit ScopeStop → (List DumpEvent → Type 0) → Way (List Declaration) → List ℕ → Type 0
-IsWatched (Ok u) seen way text = (first_fault_by way text ≡ None) × seen (events_by way text)
+abbrev pub IsWatched : Result (Option EarlyEnd) ScopeStop → (List DumpEvent → Type 0) → Way (List Declaration) → List ℕ → Type 0
+IsWatched (Ok early) seen way text = IsRead early seen way text
 IsWatched (Err (stops.Bad fault)) seen way text = first_fault_by way text ≡ Some fault
 IsWatched (Err stops.TooLong) seen way text = 2 ^ 40 < length text
 IsWatched (Err stops.TooMany) seen way text = Unit {0}

@@ -22,7 +22,15 @@ use scope_wiring::{Choice, Refusal, Wiring};
 use std::alloc::Global;
 use vcd_course::CourseEvent;
 use vcd_joined::picked_wires_choose;
-use vcd_scan::Wires;
+use vcd_scan::{EarlyEnd, Wires};
+
+/// What was judged of a dump.
+#[derive(Debug, Drop)]
+pub struct JudgedText {
+    pub judged: Judged,
+    /// The end of a dump that ends early: what is whole before it was judged.
+    pub early_end: Option<EarlyEnd>,
+}
 
 /// What is found of a dump.
 #[derive(Debug, Drop)]
@@ -30,7 +38,7 @@ pub enum Finding {
     /// The wires of the bus are not picked.
     Refused(Refusal),
     /// They are these, and this was judged of them.
-    Judged(Wiring, Judged),
+    Judged(Wiring, JudgedText),
 }
 
 /// A dump that was checked.
@@ -72,7 +80,7 @@ pub fn judge_values<S: Source>(
     marks: Marks,
     part: Part,
     sampling: Sampling,
-) -> Result<Judged, ScopeStop>
+) -> Result<JudgedText, ScopeStop>
     requires some { 0 < length room.old }
     requires begun { IsReady behind }
     ensures judged { IsTrue S.tells → (c : Taking) (ts : List Token) (text : List ℕ) →
@@ -90,8 +98,11 @@ pub fn judge_values<S: Source>(
         part,
         marks,
     };
-    watch_values(alloc, source, room, behind, wires, sampling, &mut judge)?;
-    Ok(judge.judging.judged())
+    let early_end = watch_values(alloc, source, room, behind, wires, sampling, &mut judge)?;
+    Ok(JudgedText {
+        judged: judge.judging.judged(),
+        early_end,
+    })
 }
 
 /// Begins the source under the name, picks the wires of the bus in its header, and judges this part of their values. Where
@@ -126,10 +137,10 @@ pub fn check_dump<S: Source>(
             let marks = marks_of(&bus.wiring.wires);
             let behind = begun.behind;
             let wires = bus.wires;
-            let judged = judge_values(alloc, source, room, behind, wires, marks, part, sampling)?;
+            let told = judge_values(alloc, source, room, behind, wires, marks, part, sampling)?;
             Ok(Checked {
                 header: begun.header,
-                finding: Finding::Judged(bus.wiring, judged),
+                finding: Finding::Judged(bus.wiring, told),
             })
         }
     }

@@ -22,15 +22,15 @@ use fsb_io::Source;
 use std::alloc::Global;
 use vcd_course::{Course, CourseEvent, CourseRules};
 use vcd_joined::{headers_may_be_all, texts_end_as_the_readers_say};
-use vcd_scan::{ScanRules, ScanStop, ValueReader, Wires};
+use vcd_scan::{EarlyEnd, ScanRules, ScanStop, ValueReader, Wires};
 use vcd_way::Edge;
 
-/// What is let pass among the values of any tool's dump. A text that ends early is refused.
+/// What is let pass among the values of any tool's dump.
 const VALUE_RULES: ScanRules = ScanRules {
     has_wide_digits: true,
     takes_any: true,
     tells_holes: true,
-    ends_early: false,
+    ends_early: true,
 };
 
 /// When the lines are sampled.
@@ -45,7 +45,7 @@ pub struct Sampling {
 }
 
 /// Reads on behind a header to the end of the source, in pieces that fit the room, and shows the watcher each event
-/// once, in its order. A fault is told once the source was read to its end.
+/// once, in its order. A fault is told once the source was read to its end. Of a dump that ends early this is told.
 ///
 /// Of a watcher that stops, or behind a fault, the events that were shown are the first ones.
 pub fn watch_values<S: Source, W: EventWatcher>(
@@ -56,7 +56,7 @@ pub fn watch_values<S: Source, W: EventWatcher>(
     wires: Wires,
     sampling: Sampling,
     watcher: &mut W,
-) -> Result<(), ScopeStop>
+) -> Result<Option<EarlyEnd>, ScopeStop>
     requires some { 0 < length room.old }
     requires begun { IsReady behind }
     requires ready { (first : W) × (h : List DumpEvent) × W.has_seen first watcher.old h }
@@ -93,7 +93,7 @@ fn watch_left<S: Source, W: EventWatcher>(
     reader: &mut ValueReader,
     taken: u64,
     watcher: &mut W,
-) -> Result<(), ScopeStop>
+) -> Result<Option<EarlyEnd>, ScopeStop>
     requires some { 0 < length room.old }
     requires at { (first : W) × (h : List DumpEvent) × (m : ValueRules) × (w : Wiring)
         × (head fed : List ℕ)
@@ -149,7 +149,10 @@ fn take<W: EventWatcher>(
 }
 
 /// Reads the end, and shows the last events.
-fn end<W: EventWatcher>(reader: &mut ValueReader, watcher: &mut W) -> Result<(), ScopeStop>
+fn end<W: EventWatcher>(
+    reader: &mut ValueReader,
+    watcher: &mut W,
+) -> Result<Option<EarlyEnd>, ScopeStop>
     requires { (first : W) × (h : List DumpEvent) × (m : ValueRules) × (w : Wiring)
         × (head fed : List ℕ)
         × Seen (λ es. W.has_seen first watcher.old (h ++ es)) m w reader.old head fed
@@ -161,7 +164,10 @@ fn end<W: EventWatcher>(reader: &mut ValueReader, watcher: &mut W) -> Result<(),
     ensures stop { (stop : ScopeStop) → result ≡ Err stop → IsStopOfEnd stop }
 {
     match reader.finish() {
-        Ok(()) => Ok(show(reader, watcher)?),
+        Ok(early_end) => {
+            show(reader, watcher)?;
+            Ok(early_end)
+        }
         Err(ScanStop::Memory) => Err(ScopeStop::Memory),
         Err(ScanStop::Bad(fault)) => Err(ScopeStop::Bad(fault)),
     }

@@ -1,13 +1,13 @@
 -- What is told of a text, and its faults, are what the readers tell.
 use Rattle.std.proofs.Common.{◌≡◌, ℕ, Bool, true, false, not, ◌&&◌, if◌then◌else◌, is_some, List, [], ◌∷◌, ◌++◌, length}
-use Rattle.std.proofs.Common.{None, refl, sym, ap, ◌∙◌, append_assoc, append-nil}
+use Rattle.std.proofs.Common.{Option, None, option_map, refl, sym, ap, ◌∙◌, append_assoc, append-nil}
 use Rattle.vcd_grammar.specs.Tokens.{Token, tokens_so_far, tokens_of, open_run, ended_at}
 use Rattle.vcd_way.specs.Declarations.{Declaration}
 use Rattle.vcd_way.specs.Ways.{ValueRules}
 use Rattle.vcd_way.specs.Pieces.{Happening, Comes, Gets, Switches, pieces_of, over}
-use Rattle.vcd_way.specs.Steps.{DumpState, first_state, happenings_in, unknown_from_here, is_past_header_at, hides_stamp}
+use Rattle.vcd_way.specs.Steps.{DumpState, first_state, happenings_in, unknown_from_here, is_past_header_at, open_from, hides_stamp}
 use Rattle.vcd_way.specs.Events.{course_at_first, events_from}
-use Rattle.vcd_way.specs.Answers.{state_of, pieces_in, fault_at_end, whole_fault, is_early, first_fault_by, events_by}
+use Rattle.vcd_way.specs.Answers.{state_of, pieces_in, fault_at_end, whole_fault, EarlyEnd, is_early, first_fault_by, early_end_by, events_by}
 use Rattle.vcd_way.specs.Answers.{events_so_far_by, events_before_end_by, fault_so_far_by, header_by}
 use Rattle.vcd_way.proofs.Interface.{tokens_longer, past-behind, state-append}
 use Rattle.vcd_course.specs.Opening.{OpenPiece, first_open, after_happening, after_happenings, ended_in, told_at, told_in}
@@ -17,9 +17,10 @@ use Rattle.vcd_scan.specs.Wired.{Wiring, wired}
 use Rattle.vcd_scan.specs.Begun.{begun}
 use Rattle.vcd_scan.specs.Standing.{tokens_after, last_tokens_after, known_after, first_open_of, told_after}
 use Rattle.vcd_scan.specs.Standing.{fault_behind, all_told_after}
+use Rattle.vcd_scan.specs.Ending.{ends_early_after, early_end_after, fault_to_end, told_to_end}
 use Rattle.vcd_joined.specs.Choosing.{Choice, choosing, IsTaken, of_values}
 use Rattle.vcd_joined.specs.Behind.{gathered_in, IsHeader, behind}
-use Rattle.vcd_joined.specs.Texts.{IsHeadWith, IsWholeWith, is_early_behind}
+use Rattle.vcd_joined.specs.Texts.{IsHeadWith, IsWholeWith}
 use Rattle.vcd_joined.proofs.Header.{known-open, quiet-open, known-at-end, begins-at-end}
 use Rattle.vcd_joined.proofs.Values.{known-behind, happened-behind}
 
@@ -143,7 +144,7 @@ whole-behind c m w head fed h =
     ap (λ (s : DumpState (List Declaration)). fault_at_end s.fault s.spot (length (head ++ fed))) (known-whole c m w head fed h)
 
 early-behind : (c : Choice) (m : ValueRules) (w : Wiring) (head fed : List ℕ) → IsHeadWith c m w head
-    → is_early (choosing c m) (head ++ fed) ≡ is_early_behind m w head fed
+    → is_early (choosing c m) (head ++ fed) ≡ ends_early_after (of_values m) w head fed
 early-behind c m w head fed h =
     let r = known_after (of_values m) w (tokens_after head fed) in
     let last = last_tokens_after head fed in
@@ -156,18 +157,23 @@ early-behind c m w head fed h =
     && (b && not (hides_stamp (known_after (of_values m) w last).spot)) && is_some stops) past
 
 pub first_fault-is : (c : Choice) (m : ValueRules) (w : Wiring) (head fed : List ℕ) → IsHeadWith c m w head
-    → first_fault_by (choosing c m) (head ++ fed)
-    ≡ (if is_early_behind m w head fed then None
-    else fault_behind (of_values m) w (last_tokens_after head fed) (length (head ++ fed)))
+    → first_fault_by (choosing c m) (head ++ fed) ≡ fault_to_end (of_values m) w head fed
 unfolding first_fault_by
 first_fault-is c m w head fed h =
     λ i. if early-behind c m w head fed h i then None else whole-behind c m w head fed h i
 
+pub early_end-is : (c : Choice) (m : ValueRules) (w : Wiring) (head fed : List ℕ) → IsHeadWith c m w head
+    → early_end_by (choosing c m) (head ++ fed) ≡ early_end_after (of_values m) w head fed
+unfolding early_end_by
+early_end-is c m w head fed h =
+    λ i. if early-behind c m w head fed h i then
+    option_map (λ fault. record { fault = fault; open_from = open_from (known-whole c m w head fed h i).spot })
+    (whole-behind c m w head fed h i)
+    else None
+
 pub events-are : (c : Choice) (m : ValueRules) (w : Wiring) (head fed : List ℕ) → OverTold → AllTold
     → IsHeadWith c m w head
-    → events_by (choosing c m) (head ++ fed)
-    ≡ (if is_early_behind m w head fed then told_after (of_values m) w (tokens_after head fed)
-    else all_told_after (of_values m) w (last_tokens_after head fed))
+    → events_by (choosing c m) (head ++ fed) ≡ told_to_end (of_values m) w head fed
 unfolding events_by
 events-are c m w head fed law all h =
     let told =
@@ -207,6 +213,15 @@ pub faultless-header : (c : Choice) (m : ValueRules) (text : List ℕ) → IsHea
 unfolding first_fault_by
 faultless-header c m text h =
     (λ i. if header-not-early c m text h i then None else no-fault c m text h i)
+
+pub header-ends-well : (c : Choice) (m : ValueRules) (text : List ℕ) → IsHeader m (tokens_of text)
+    → early_end_by (choosing c m) text ≡ None
+unfolding early_end_by
+header-ends-well c m text h =
+    let spot = (state_of (choosing c m) (tokens_of text)).spot in
+    let early : Option EarlyEnd =
+    option_map (λ fault. record { fault = fault; open_from = open_from spot }) (whole_fault (choosing c m) text) in
+    ap (λ b. if b then early else None) (header-not-early c m text h)
 
 pub whole-header : (c : Choice) (m : ValueRules) (text : List ℕ) → IsHeader m (tokens_of text)
     → header_by (choosing c m) text ≡ (gathered_in m (tokens_of text)).header

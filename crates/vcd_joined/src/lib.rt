@@ -4,21 +4,22 @@
 //! the contracts of both readers are stated.
 #![tactic(auto)]
 
-ghost use Rattle.std.specs.Prelude.{◌≡◌, ℕ, ◌++◌, false, List, [], None, length, if◌then◌else◌};
+ghost use Rattle.std.specs.Prelude.{◌≡◌, ℕ, ◌++◌, false, List, [], None};
 ghost use Rattle.vcd_grammar.specs.Tokens.{Token, tokens_so_far, tokens_of};
 ghost use Rattle.vcd_way.specs.Declarations.{Declaration};
 ghost use Rattle.vcd_way.specs.Ways.{ValueRules};
 ghost use Rattle.vcd_way.specs.Steps.{first_state, happenings_in, is_past_header_at, unknown_from_here};
-ghost use Rattle.vcd_way.specs.Answers.{state_of, events_so_far_by, events_before_end_by, events_by, header_by, fault_so_far_by, first_fault_by};
+ghost use Rattle.vcd_way.specs.Answers.{state_of, events_so_far_by, events_before_end_by, events_by, early_end_by, header_by, fault_so_far_by, first_fault_by};
 ghost use Rattle.scope_wiring.specs.declared.wire.Wire.{Wire};
 ghost use Rattle.scope_way.specs.Wired.{way_by};
 ghost use Rattle.vcd_header.specs.Gathering.{header_fault_so_far, header_fault_of};
 ghost use Rattle.vcd_scan.specs.Begun.{begun};
 ghost use Rattle.vcd_scan.specs.Wired.{Wiring, wired};
-ghost use Rattle.vcd_scan.specs.Standing.{known_after, tokens_after, last_tokens_after, told_after, all_told_after, fault_behind};
+ghost use Rattle.vcd_scan.specs.Standing.{known_after, tokens_after, last_tokens_after, told_after, all_told_after};
+ghost use Rattle.vcd_scan.specs.Ending.{early_end_after, fault_to_end, told_to_end};
 ghost use Rattle.vcd_joined.specs.Choosing.{Choice, choosing, IsTaken, of_values};
 ghost use Rattle.vcd_joined.specs.Behind.{gathered_in, IsHeader, behind};
-ghost use Rattle.vcd_joined.specs.Texts.{IsHeadWith, IsWholeWith, is_early_behind};
+ghost use Rattle.vcd_joined.specs.Texts.{IsHeadWith, IsWholeWith};
 ghost use Rattle.vcd_joined.specs.Picking.{picking};
 
 use vcd_course::told_step_by_step;
@@ -80,7 +81,8 @@ pub fn events_are_told_behind()
 
 /// The first fault by the way is the one in the header, in first bytes and in a whole text; behind
 /// the header it is the one that a reader of the wires finds, and so is what the text tells in all.
-/// A text that ends early has no fault, and tells what is over.
+/// A text that ends early has no fault, tells what is over, and its early end is what that reader
+/// says.
 pub fn texts_end_as_the_readers_say()
     ensures fault_in_header { (c : Choice) (m : ValueRules) (fed : List ℕ) →
         is_past_header_at (gathered_in m (tokens_so_far fed)).spot ≡ false →
@@ -94,23 +96,24 @@ pub fn texts_end_as_the_readers_say()
         ≡ (known_after (of_values m) w (tokens_after head fed)).fault }
     ensures fault { (c : Choice) (m : ValueRules) (w : Wiring) (head fed : List ℕ) →
         IsHeadWith c m w head →
-        first_fault_by (choosing c m) (head ++ fed)
-        ≡ (if is_early_behind m w head fed then None
-        else fault_behind (of_values m) w (last_tokens_after head fed) (length (head ++ fed))) }
+        first_fault_by (choosing c m) (head ++ fed) ≡ fault_to_end (of_values m) w head fed }
+    ensures early { (c : Choice) (m : ValueRules) (w : Wiring) (head fed : List ℕ) →
+        IsHeadWith c m w head →
+        early_end_by (choosing c m) (head ++ fed) ≡ early_end_after (of_values m) w head fed }
     ensures events { (c : Choice) (m : ValueRules) (w : Wiring) (head fed : List ℕ) →
         IsHeadWith c m w head →
-        events_by (choosing c m) (head ++ fed)
-        ≡ (if is_early_behind m w head fed then told_after (of_values m) w (tokens_after head fed)
-        else all_told_after (of_values m) w (last_tokens_after head fed)) }
+        events_by (choosing c m) (head ++ fed) ≡ told_to_end (of_values m) w head fed }
 {
     told_step_by_step();
 }
 
-/// A text may end with the `$end` of its header: it has no fault, and tells what a reader of the
-/// wires tells of nothing.
+/// A text may end with the `$end` of its header: it has no fault and no early end, and tells what a
+/// reader of the wires tells of nothing.
 pub fn headers_may_be_all()
     ensures fault { (c : Choice) (m : ValueRules) (text : List ℕ) → IsHeader m (tokens_of text) →
         first_fault_by (choosing c m) text ≡ None }
+    ensures early { (c : Choice) (m : ValueRules) (text : List ℕ) → IsHeader m (tokens_of text) →
+        early_end_by (choosing c m) text ≡ None }
     ensures header { (c : Choice) (m : ValueRules) (text : List ℕ) → IsHeader m (tokens_of text) →
         header_by (choosing c m) text ≡ (gathered_in m (tokens_of text)).header }
     ensures events { (c : Choice) (m : ValueRules) (w : Wiring) (text : List ℕ) →

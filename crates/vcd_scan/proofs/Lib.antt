@@ -1,4 +1,6 @@
 mod Events
+mod Endings
+mod Quiet
 mod Reading
 mod Readers
 mod Steps

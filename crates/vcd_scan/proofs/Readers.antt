@@ -1,17 +1,19 @@
 -- A value reader that has read more bytes.
-use Rattle.std.proofs.Common.{◌≡◌, ℕ, ◌+◌, ◌-◌, List, ◌++◌, length, take, drop, true, is_some, sym, ap}
+use Rattle.std.proofs.Common.{◌≡◌, ℕ, ◌+◌, ◌-◌, Bool, not, ◌&&◌, Option, None, List, ◌++◌, length, take, drop, true, is_some, refl, sym, ap}
 use Rattle.std.proofs.Common.{◌∙◌, append_assoc}
 use Rattle.vcd_grammar.specs.Tokens.{Token, tokens_from, open_run, open_run_from}
 use Rattle.vcd_way.specs.Ways.{ValueRules}
-use Rattle.vcd_way.specs.Steps.{DumpState, state_after, happenings_in}
+use Rattle.vcd_grammar.specs.declared.fault.VcdFault.{VcdFault}
+use Rattle.vcd_way.specs.Steps.{DumpState, state_after, happenings_in, hides_stamp, open_from}
 use Rattle.vcd_way.specs.Events.{DumpEvent}
 use Rattle.vcd_course.specs.Opening.{after_happenings, ended_in, told_in}
 use Rattle.vcd_scan.specs.declared.reader.ValueReader.{ValueReader}
 use Rattle.vcd_scan.specs.Wired.{Wiring, wired}
 use Rattle.vcd_scan.specs.Told.{state_told, open_in}
-use Rattle.vcd_scan.specs.Standing.{tokens_after, known_after, open_after, told_after, rules_of, wiring_of, events_of, Took, Keeps, Appends}
+use Rattle.vcd_scan.specs.Standing.{tokens_after, known_after, open_after, told_after, rules_of, wiring_of, events_of, Took, Works, Keeps, Appends}
 use Rattle.vcd_scan.specs.Standing.{last_tokens_after, fault_behind, all_told_after}
 use Rattle.vcd_way.specs.Answers.{fault_at_end}
+use Rattle.vcd_scan.proofs.Endings.{fault_of, lets_end}
 use Rattle.vcd_scan.proofs.Reading.{known-append, open-tokens, told-tokens, known-faulty, told-faulty, rest_tokens, whole_of, more_of, appends_more}
 
 -- the machine has taken more tokens
@@ -175,3 +177,37 @@ told_all start now before new old ts keeps took first more =
       appended = more ∙ ap (λ x. x ++ last) first.appended ∙ append_assoc old first.added last;
       complete = (λ i. first.complete i ++ same i) ∙ append_assoc before first.added last;
     }
+
+-- the reader has shown no fault
+pub sound-first : (start : ValueReader) (head fed : List ℕ) → Works start head fed
+    → (known_after (rules_of start) (wiring_of start) (tokens_after head fed)).fault ≡ None
+sound-first start head fed w =
+    sym (fault_took start start (tokens_after head fed) (record { rules = refl; wiring = refl }) w.reads.took) ∙ w.faultless
+
+-- the fault at the end of the text, as the machine says it
+pub end-fault : (start now : ValueReader) (head fed : List ℕ) (place : ℕ) (answer : Option VcdFault) → Keeps start now
+    → Took now (last_tokens_after head fed) → place ≡ length (head ++ fed)
+    → answer ≡ fault_at_end (state_told now.machine).fault (state_told now.machine).spot place
+    → fault_of (rules_of start) (wiring_of start) head fed ≡ answer
+end-fault start now head fed place answer keeps took at is =
+    sym (is ∙ ap (fault_at_end (state_told now.machine).fault (state_told now.machine).spot) at
+    ∙ fault_last start now (last_tokens_after head fed) (length (head ++ fed)) keeps took)
+
+-- whether it is let pass, as the machine says it
+pub end-lets : (start now : ValueReader) (head fed : List ℕ) (answer : Bool) → Keeps start now
+    → Took now (last_tokens_after head fed)
+    → answer ≡ ((rules_of now).ends_early && not (hides_stamp (state_told now.machine).spot))
+    → lets_end (rules_of start) (wiring_of start) head fed ≡ answer
+end-lets start now head fed answer keeps took is =
+    let ts = last_tokens_after head fed in
+    sym (is ∙ (λ i. (rules_of now).ends_early && not (hides_stamp (took.state i).spot))
+    ∙ (λ i. (keeps.rules i).ends_early && not (hides_stamp (known_after (keeps.rules i) (keeps.wiring i) ts).spot)))
+
+-- where what stands open there begins
+pub end-open : (start now : ValueReader) (head fed : List ℕ) (answer : Option ℕ) → Keeps start now
+    → Took now (last_tokens_after head fed) → answer ≡ open_from (state_told now.machine).spot
+    → open_from (known_after (rules_of start) (wiring_of start) (last_tokens_after head fed)).spot ≡ answer
+end-open start now head fed answer keeps took is =
+    let ts = last_tokens_after head fed in
+    sym (is ∙ ap (λ (s : DumpState Wiring). open_from s.spot) took.state
+    ∙ (λ i. open_from (known_after (keeps.rules i) (keeps.wiring i) ts).spot))

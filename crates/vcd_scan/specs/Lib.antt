@@ -3,6 +3,7 @@ pub mod Digits
 pub mod Told
 pub mod Standing
 pub mod Begun
+pub mod Ending
 pub mod CodeNumbers
 pub mod CodePlaces
 pub mod Placed

@@ -6,12 +6,14 @@
 //! `vcd_way` defines them.
 #![tactic(auto)]
 
+pub use early::EarlyEnd;
 pub use machine::ScanRules;
 pub use reader::ValueReader;
 pub use stop::ScanStop;
 pub use table::Wires;
 
 mod digits;
+mod early;
 mod machine;
 mod numbers;
 mod places;

@@ -1,9 +1,9 @@
-ghost use Rattle.std.specs.Prelude.{◌≡◌, ℕ, ◌++◌, [], ◌∷◌, None, Some, IfOk, OnOk, ◌&&◌, if◌then◌else◌};
+ghost use Rattle.std.specs.Prelude.{◌≡◌, ℕ, ◌++◌, [], ◌∷◌, None, Some, IfOk, OnOk, ◌&&◌, not, if◌then◌else◌};
 ghost use Rattle.vcd_grammar.specs.Digits.{time_in};
 ghost use Rattle.vcd_grammar.specs.Words.{stamp_word, scalar_word, is_read_past, Foreign, Mark, Section as opens_section};
 ghost use Rattle.vcd_way.specs.Steps.{breaks, moves_to, comes, stamp_step, scalar_step, word_step, vector_by, value_word_by, step, stops, resumes, mark_step, vector_step, other_step, if_short, remark_step, is_too_wide_for, AtCode};
 ghost use Rattle.vcd_way.specs.Ways.{ValueRules};
-ghost use Rattle.vcd_way.specs.Steps.{vector_digits, is_unreadable};
+ghost use Rattle.vcd_way.specs.Steps.{vector_digits, is_unreadable, hides_stamp, open_from};
 ghost use Rattle.vcd_scan.specs.Digits.{digit_by};
 ghost use Rattle.vcd_header.specs.Told.{section_told};
 ghost use Rattle.vcd_course.specs.Opening.{ended_in};
@@ -15,7 +15,7 @@ ghost use Rattle.vcd_scan.specs.Begun.{begun};
 
 use crate::digits::{are_digits, digit_of, read_digits};
 use crate::table::Wires;
-use crate::words::{is_off_word, is_on_word, is_read_past, is_unreadable, time_in};
+use crate::words::{hold_stamp, is_off_word, is_on_word, is_read_past, is_unreadable, time_in};
 use std::alloc::{AllocError, Global};
 use std::mem;
 use vcd_course::{Course, CourseEvent, Stamp};
@@ -622,15 +622,48 @@ impl Machine {
         }
     }
 
-    /// Whether a text may end here.
-    pub(crate) fn is_between_values(&self) -> bool
-        ensures { (place : ℕ) → self.now.fault ≡ None →
-            fault_at_end (state_told self.now).fault (state_told self.now).spot place
-            ≡ (if result then None else Some (record { place = place; cause = VcdCause.Cut })) }
+    /// The fault of a text that ends here, at this place, if it is one.
+    pub(crate) fn fault_at(&self, place: u64) -> Option<VcdFault>
+        ensures { result ≡ fault_at_end (state_told self.now).fault (state_told self.now).spot place }
+    {
+        if self.fault.is_some() {
+            return self.fault;
+        }
+        match self.spot {
+            Place::Values => None,
+            Place::Code(_) | Place::OtherCode(_) | Place::Remark => Some(VcdFault {
+                place,
+                cause: VcdCause::Cut,
+            }),
+        }
+    }
+
+    /// Whether a fault at the end of a text is let pass here: no open section holds a stamp.
+    pub(crate) fn lets_end(&self) -> bool
+        ensures { result
+            ≡ ((rules_in self.now).ends_early && not (hides_stamp (state_told self.now).spot)) }
+    {
+        self.rules.ends_early && !self.hides_stamp()
+    }
+
+    /// Whether a section stands open that holds what looks like a time stamp.
+    fn hides_stamp(&self) -> bool
+        ensures { result ≡ hides_stamp (state_told self.now).spot }
     {
         match self.spot {
-            Place::Values => true,
-            Place::Code(_) | Place::OtherCode(_) | Place::Remark => false,
+            Place::Remark => hold_stamp(self.section.words.as_slice()),
+            Place::Values | Place::Code(_) | Place::OtherCode(_) => false,
+        }
+    }
+
+    /// Where the section or the value begins that stands open.
+    pub(crate) fn open_from(&self) -> Option<u64>
+        ensures { result ≡ open_from (state_told self.now).spot }
+    {
+        match self.spot {
+            Place::Values => None,
+            Place::Code(from) | Place::OtherCode(from) => Some(from),
+            Place::Remark => Some(self.section.place),
         }
     }
 }

@@ -1,18 +1,19 @@
-ghost use Rattle.std.specs.Prelude.{◌≡◌, ◌<◌, ◌≤◌, ◌+◌, ◌^◌, ◌++◌, ℕ, List, [], length, take, None, Some, Err, map, IfOk, OnOk};
+ghost use Rattle.std.specs.Prelude.{◌≡◌, ◌<◌, ◌≤◌, ◌+◌, ◌^◌, ◌++◌, ℕ, List, [], length, take, None, Some, Err, map, option_map, IfOk, OnOk};
 ghost use Rattle.vcd_cut.specs.Standing.{Stands as CutterStands};
 ghost use Rattle.vcd_course.specs.Told.{event_told, open_told};
 ghost use Rattle.vcd_course.specs.Opening.{first_open};
 ghost use Rattle.vcd_scan.specs.Wired.{wires_told};
 ghost use Rattle.vcd_scan.specs.Told.{values_by};
-ghost use Rattle.vcd_scan.specs.Standing.{Works, Stands, Reads, Took, Keeps, Answers, Appends, AppendsBy, refusal_of, refusal_in, rules_of, wiring_of, events_of, tokens_after, last_tokens_after, known_after, told_after, fault_behind, all_told_after};
+ghost use Rattle.vcd_scan.specs.Standing.{Works, Stands, Reads, Took, Keeps, Answers, Appends, AppendsBy, refusal_of, refusal_in, rules_of, wiring_of, events_of, tokens_after, last_tokens_after, known_after, told_after};
+ghost use Rattle.vcd_scan.specs.Ending.{early_told, early_end_after, fault_to_end, told_to_end};
 
+use crate::early::EarlyEnd;
 use crate::machine::{Machine, ScanRules};
 use crate::stop::ScanStop;
 use crate::table::Wires;
 use std::alloc::{AllocError, Global};
 use vcd_course::{Course, CourseEvent};
 use vcd_cut::Cutter;
-use vcd_grammar::{VcdCause, VcdFault};
 
 /// Reads the values of a dump in pieces of any size.
 #[derive(Drop)]
@@ -138,8 +139,8 @@ impl ValueReader {
     }
 
     /// The end of the text. Tells the samples of the last block too, where the text may end there.
-    /// A text that ends early is refused here.
-    pub fn finish(&mut self) -> Result<(), ScanStop>
+    /// Of a text that ends early it tells this, and no more than the pieces that are over.
+    pub fn finish(&mut self) -> Result<Option<EarlyEnd>, ScanStop>
         // No `finish` has answered Ok.
         requires { (head fed : List ℕ) × Stands self.old head fed × (length (head ++ fed) + 1 < 2
             ^ 64) }
@@ -147,12 +148,14 @@ impl ValueReader {
         ensures keeps { Keeps self.old self.new }
         ensures answer { (head fed : List ℕ) → Stands self.old head fed → refusal_of self.old ≡
             None →
-            Answers result (fault_behind (rules_of self.old) (wiring_of self.old)
-            (last_tokens_after head fed) (length (head ++ fed))) }
+            Answers result (fault_to_end (rules_of self.old) (wiring_of self.old) head fed) }
+        ensures early { (head fed : List ℕ) → Stands self.old head fed →
+            IfOk result (λ end. option_map early_told end
+            ≡ early_end_after (rules_of self.old) (wiring_of self.old) head fed) }
         ensures told { (head fed : List ℕ) → Stands self.old head fed →
             OnOk result (Appends
             (told_after (rules_of self.old) (wiring_of self.old) (tokens_after head fed))
-            (all_told_after (rules_of self.old) (wiring_of self.old) (last_tokens_after head fed))
+            (told_to_end (rules_of self.old) (wiring_of self.old) head fed)
             (events_of self.old) (events_of self.new)) }
         ensures again { (stop : ScanStop) → refusal_of self.old ≡ Some stop → result ≡ Err stop }
     {
@@ -167,34 +170,39 @@ impl ValueReader {
     }
 
     /// The end of the text, where nothing was refused.
-    fn end(&mut self) -> Result<(), ScanStop>
+    fn end(&mut self) -> Result<Option<EarlyEnd>, ScanStop>
         requires { (head fed : List ℕ) × Works self.old head fed × (length (head ++ fed) + 1 < 2 ^
             64) }
         ensures refusal { refusal_of self.new ≡ refusal_of self.old }
         ensures keeps { Keeps self.old self.new }
         ensures answer { (head fed : List ℕ) → Works self.old head fed →
-            Answers result (fault_behind (rules_of self.old) (wiring_of self.old)
-            (last_tokens_after head fed) (length (head ++ fed))) }
+            Answers result (fault_to_end (rules_of self.old) (wiring_of self.old) head fed) }
+        ensures early { (head fed : List ℕ) → Works self.old head fed →
+            IfOk result (λ end. option_map early_told end
+            ≡ early_end_after (rules_of self.old) (wiring_of self.old) head fed) }
         ensures told { (head fed : List ℕ) → Works self.old head fed →
             OnOk result (Appends
             (told_after (rules_of self.old) (wiring_of self.old) (tokens_after head fed))
-            (all_told_after (rules_of self.old) (wiring_of self.old) (last_tokens_after head fed))
+            (told_to_end (rules_of self.old) (wiring_of self.old) head fed)
             (events_of self.old) (events_of self.new)) }
     {
         let place = self.cutter.place();
         self.last()?;
-        match self.machine.fault {
-            Some(fault) => return Err(ScanStop::Bad(fault)),
-            None => {}
+        match self.machine.fault_at(place) {
+            None => {
+                self.machine.close()?;
+                Ok(None)
+            }
+            Some(fault) => {
+                if !self.machine.lets_end() {
+                    return Err(ScanStop::Bad(fault));
+                }
+                Ok(Some(EarlyEnd {
+                    fault,
+                    open_from: self.machine.open_from(),
+                }))
+            }
         }
-        if !self.machine.is_between_values() {
-            return Err(ScanStop::Bad(VcdFault {
-                place,
-                cause: VcdCause::Cut,
-            }));
-        }
-        self.machine.close()?;
-        Ok(())
     }
 
     /// The last token.

@@ -1,9 +1,11 @@
 //! What a token says by itself.
 
 ghost use Rattle.std.specs.Prelude.{◌≡◌, codes};
-ghost use Rattle.vcd_grammar.specs.Digits.{time_in};
+ghost use Rattle.std.specs.List.{list_all, list_any};
+ghost use Rattle.vcd_grammar.specs.Digits.{is_digit, is_number, time_in};
 ghost use Rattle.vcd_grammar.specs.Words.{is_read_past, same};
-ghost use Rattle.vcd_way.specs.Steps.{is_unreadable};
+ghost use Rattle.vcd_way.specs.Steps.{is_like_stamp, is_unreadable};
+ghost use Rattle.vcd_header.specs.Told.{words_told};
 
 use vcd_header::{is_end, number_up_to};
 
@@ -47,4 +49,49 @@ pub(crate) fn is_unreadable(digits: &[u8]) -> bool
     ensures { result ≡ is_unreadable digits.now }
 {
     digits.len() == 0 || 70_000 <= digits.len()
+}
+
+/// Whether one of the words is a time stamp elsewhere.
+pub(crate) fn hold_stamp(words: &[Vec<u8>]) -> bool
+    ensures { result ≡ list_any is_like_stamp (words_told words.now) }
+{
+    let mut rest = words;
+    while let Some((word, more)) = rest.split_first() {
+        if is_like_stamp(word) {
+            return true;
+        }
+        rest = more;
+    }
+    false
+}
+
+/// Whether the word is a time stamp elsewhere.
+fn is_like_stamp(word: &[u8]) -> bool
+    ensures { result ≡ is_like_stamp word.now }
+{
+    match word {
+        [] => false,
+        [first, digits @ ..] => *first == b'#' && is_number(digits),
+    }
+}
+
+/// Whether the word is one decimal digit or more.
+fn is_number(word: &[u8]) -> bool
+    ensures { result ≡ is_number word.now }
+{
+    word.len() != 0 && are_decimal(word)
+}
+
+/// Whether each byte is a decimal digit.
+fn are_decimal(word: &[u8]) -> bool
+    ensures { result ≡ list_all is_digit word.now }
+{
+    word.iter().all(|byte| is_digit(*byte))
+}
+
+/// Whether the byte is a decimal digit.
+fn is_digit(byte: u8) -> bool
+    ensures { result ≡ is_digit byte }
+{
+    48 <= byte && byte <= 57
 }

@@ -1,8 +1,11 @@
-use Rattle.vcd_joined.proofs.Events.{faultless-header, whole-header, told-by-header}
+use Rattle.vcd_joined.proofs.Events.{faultless-header, header-ends-well, whole-header, told-by-header}
 use Rattle.vcd_joined.proofs.headers_may_be_all.Goals as goal
 
 pub returns-clause-fault : goal.returns-clause-fault
 returns-clause-fault c = faultless-header
+
+pub returns-clause-early : goal.returns-clause-early
+returns-clause-early c = header-ends-well
 
 pub returns-clause-header : goal.returns-clause-header
 returns-clause-header c = whole-header

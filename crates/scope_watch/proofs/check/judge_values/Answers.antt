@@ -7,15 +7,19 @@ pub watch_values-requires-clause-ready : goal.watch_values-requires-clause-ready
 watch_values-requires-clause-ready g c =
     let judge : Judge = record { judging = c.new.result; part = c.args.part; marks = c.args.marks } in (judge, [], c.new.ensures)
 
-pub returns-in_err-watch_values-clause-judged : goal.returns-in_err-watch_values-clause-judged
-returns-in_err-watch_values-clause-judged g c = λ tells choice ts text at taken.
+pub returns-in_err-early_end-clause-judged : goal.returns-in_err-early_end-clause-judged
+returns-in_err-early_end-clause-judged g c = λ tells choice ts text at taken.
     let judge : Judge = record { judging = c.new.result; part = c.args.part; marks = c.args.marks } in
-    let same : c.from_residual.result ≡ Err c.in_err-watch_values.field-0.0 = search rules in
+    let same : c.from_residual.result ≡ Err c.in_err-early_end.field-0.0 = search rules in
     rw same (judged-stop _ _ c.args.part c.args.marks _ text
-    (c.in_err-watch_values.ensures.read tells judge [] choice ts text c.new.ensures at taken))
+    (c.in_err-early_end.ensures.read tells judge [] choice ts text c.new.ensures at taken))
 
 pub returns-clause-judged : goal.returns-clause-judged
 returns-clause-judged g c = λ tells choice ts text at taken.
     let judge : Judge = record { judging = c.new.result; part = c.args.part; marks = c.args.marks } in
-    let seen = c.in_ok-watch_values.ensures.read tells judge [] choice ts text c.new.ensures at taken in
-    (seen.0, c.judged.ensures c.args.part c.args.marks _ seen.1)
+    let read = c.in_ok-early_end.ensures.read tells judge [] choice ts text c.new.ensures at taken in
+    record {
+      none = read.none;
+      found = c.judged.ensures c.args.part c.args.marks _ read.shown;
+      early_end = read.early_end;
+    }

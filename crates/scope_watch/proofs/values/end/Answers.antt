@@ -9,8 +9,8 @@ finish-requires g c = (c.requires.4, c.requires.5, c.requires.6.stands, c.requir
 pub returns-in_ok-show-in-Ok-clause-finishes : goal.returns-in_ok-show-in-Ok-clause-finishes
 returns-in_ok-show-in-Ok-clause-finishes g c = λ first h m w head fed s.
     let last = c.in-Ok.ensures in
-    let none = not-refused _ _ refl last.again in
-    ends-well _ _ m w c.args.reader.now head fed s (last.answer head fed s.stands none)
+    let none = not-refused _ _ _ refl last.again in
+    ends-well _ _ _ m w c.args.reader.now head fed s (last.answer head fed s.stands none) (last.early head fed s.stands)
     (subst (λ es. g.W.EventWatcher.has_seen first c.show.new.watcher es)
     (last-shown m w c.args.reader.now c.finish.new.self head fed h s.rules s.wiring (s.taken none) (last.told head fed s.stands))
     (c.in_ok-show-in-Ok.ensures.shown first (h ++ told_after m w (tokens_after head fed)) (s.shown none)))

@@ -11,7 +11,7 @@ returns-in_ok-show-in-Ok-clause-seen g c = λ first h m w head fed s.
     let piece = c.args.piece.now in
     let fed_now = c.in-Ok.ensures in
     let shown_now = c.in_ok-show-in-Ok.ensures in
-    let none = not-refused _ _ refl fed_now.again in
+    let none = not-refused _ _ _ refl fed_now.again in
     seen-more _ _ m w c.args.reader.now c.feed.new.self c.show.new.reader head fed piece s fed_now.keeps shown_now.keeps
     (shown_now.stands head (fed ++ piece) (fed_now.stands head fed s.stands)) shown_now.events
     (shown_now.refusal ∙ fed_now.refusal)

@@ -67,8 +67,10 @@ returns-clause-read g c = λ tells first h choice ts text has at taken.
     let laws : Laws = record {
       so_far = c.texts_end_as_the_readers_say.ensures.fault_so_far;
       fault = c.texts_end_as_the_readers_say.ensures.fault;
+      early = c.texts_end_as_the_readers_say.ensures.early;
       events = c.texts_end_as_the_readers_say.ensures.events;
       none = c.headers_may_be_all.ensures.fault;
+      well = c.headers_may_be_all.ensures.early;
       all = c.headers_may_be_all.ensures.events;
       stays = c.faults_stay.ensures;
     } in

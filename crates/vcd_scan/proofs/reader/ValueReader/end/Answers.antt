@@ -1,44 +1,40 @@
-use Rattle.std.proofs.Common.{◌++◌, length, None, Some, if◌then◌else◌, sym, ap, ◌∙◌}
-use Rattle.vcd_way.specs.Answers.{fault_at_end}
-use Rattle.vcd_grammar.specs.declared.fault.VcdCause.TheVariants as causes
-use Rattle.vcd_scan.specs.Told.{state_told}
-use Rattle.vcd_scan.specs.Standing.{rules_of, wiring_of, events_of, tokens_after, last_tokens_after, told_after}
-use Rattle.vcd_scan.proofs.Readers.{fault_last, told_all}
+use Rattle.std.proofs.Common.{◌++◌, true, false, is_some, length, None, Some, sym, ap, subst, ◌∙◌}
+use Rattle.vcd_scan.specs.Told.{events_told}
+use Rattle.vcd_scan.specs.Standing.{Appends, rules_of, wiring_of, events_of, tokens_after, last_tokens_after, told_after}
+use Rattle.vcd_scan.proofs.Quiet.{told-quiet}
+use Rattle.vcd_scan.proofs.Endings.{well-is, early-is, told-where, told-early}
+use Rattle.vcd_scan.proofs.Readers.{sound-first, end-fault, end-lets, told_all}
 use Rattle.vcd_scan.proofs.reader.ValueReader.end.Goals as goal
 
-pub returns-in-Some-clause-answer : goal.returns-in-Some-clause-answer
-returns-in-Some-clause-answer c = λ head fed w.
+pub returns-in_ok-close-in-None-clause-told : goal.returns-in_ok-close-in-None-clause-told
+returns-in_ok-close-in-None-clause-told c = λ head fed w.
     let start = c.args.self.now in
     let now = c.last.new.self in
-    sym (fault_last start now (last_tokens_after head fed) (length (head ++ fed)) c.last.ensures.keeps
-    (c.in_ok-last.ensures.took head fed w))
-    ∙ ap (λ f. fault_at_end f (state_told now.machine).spot (length (head ++ fed))) c.in-Some.is
-
-pub returns-then-not-is_between_values-clause-answer : goal.returns-then-not-is_between_values-clause-answer
-returns-then-not-is_between_values-clause-answer c = λ head fed w.
-    let start = c.args.self.now in
-    let now = c.last.new.self in
-    sym (fault_last start now (last_tokens_after head fed) (length (head ++ fed)) c.last.ensures.keeps
-    (c.in_ok-last.ensures.took head fed w))
-    ∙ c.is_between_values.ensures (length (head ++ fed)) c.in-None.is
-    ∙ ap (λ b. if b then None else Some (record { place = length (head ++ fed); cause = causes.Cut }))
-    c.if-not-is_between_values.true
-    ∙ (λ i. Some (record { place = sym (c.place-place.ensures (head ++ fed) w.reads.cutter) i; cause = causes.Cut }))
-
-pub returns-clause-answer : goal.returns-clause-answer
-returns-clause-answer c = λ head fed w.
-    let start = c.args.self.now in
-    let now = c.last.new.self in
-    sym (fault_last start now (last_tokens_after head fed) (length (head ++ fed)) c.last.ensures.keeps
-    (c.in_ok-last.ensures.took head fed w))
-    ∙ c.is_between_values.ensures (length (head ++ fed)) c.in-None.is
-    ∙ ap (λ b. if b then None else Some (record { place = length (head ++ fed); cause = causes.Cut }))
-    c.if-not-is_between_values.false
-
-pub returns-clause-told : goal.returns-clause-told
-returns-clause-told c = λ head fed w.
-    let start = c.args.self.now in
-    told_all start c.last.new.self
-    (told_after (rules_of start) (wiring_of start) (tokens_after head fed)) _ (events_of start)
+    let m = rules_of start in
+    let wires = wiring_of start in
+    let fault = end-fault start now head fed c.place-place.result None c.last.ensures.keeps
+    (c.in_ok-last.ensures.took head fed w) (c.place-place.ensures (head ++ fed) w.reads.cutter)
+    (sym c.in-None.is ∙ c.fault_at.ensures) in
+    let new = events_told c.close.new.self.told.items in
+    subst (λ x. Appends (told_after m wires (tokens_after head fed)) x (events_of start) new)
+    (sym (told-where m wires head fed (well-is m wires head fed fault)))
+    (told_all start now (told_after m wires (tokens_after head fed)) new (events_of start)
     (last_tokens_after head fed) c.last.ensures.keeps (c.in_ok-last.ensures.took head fed w)
-    (c.in_ok-last.ensures.told head fed w) c.in_ok-close.ensures.told
+    (c.in_ok-last.ensures.told head fed w) c.in_ok-close-in-None.ensures.told)
+
+pub returns-else-not-lets_end-clause-told : goal.returns-else-not-lets_end-clause-told
+returns-else-not-lets_end-clause-told c = λ head fed w.
+    let start = c.args.self.now in
+    let now = c.last.new.self in
+    let m = rules_of start in
+    let wires = wiring_of start in
+    let sound = sound-first start head fed w in
+    let fault = end-fault start now head fed c.place-place.result (Some c.in-Some.fault) c.last.ensures.keeps
+    (c.in_ok-last.ensures.took head fed w) (c.place-place.ensures (head ++ fed) w.reads.cutter)
+    (sym c.in-Some.is ∙ c.fault_at.ensures) in
+    let early = early-is m wires head fed c.in-Some.fault sound fault
+    ∙ end-lets start now head fed c.lets_end.result c.last.ensures.keeps (c.in_ok-last.ensures.took head fed w)
+    c.lets_end.ensures ∙ c.if-not-lets_end.false in
+    subst (λ x. Appends (told_after m wires (tokens_after head fed)) x (events_of start) (events_of now))
+    (told-quiet m wires head fed (length (head ++ fed)) sound (ap is_some fault) ∙ sym (told-early m wires head fed early))
+    (c.in_ok-last.ensures.told head fed w)
