@@ -1,0 +1,9 @@
+pub mod Entries
+pub mod Declaring
+pub mod Stamps
+pub mod Changes
+pub mod Lines
+pub mod Digits
+pub mod SampleBack
+pub mod Clocks
+pub mod Whole
