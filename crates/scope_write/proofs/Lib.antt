@@ -7,3 +7,6 @@ pub mod Digits
 pub mod SampleBack
 pub mod Clocks
 pub mod Whole
+pub mod ValueText
+pub mod HeaderText
+pub mod Growing

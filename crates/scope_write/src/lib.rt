@@ -1,14 +1,16 @@
-//! The dump of picked lines.
+//! Writes samples of picked lines as a dump, unknown values included, clock by clock and without memory.
+//!
+//! `DumpWriter` writes a header that declares the lines that are there, and then the text of each sample. By the strict
+//! grammar, the one that p6bench reads by, the text says exactly these samples (`shown_dumps_read_back`).
+//!
+//! Next: vcd_write, which writes what p6bench simulates, of known samples alone.
 #![tactic(auto)]
 
-ghost use Rattle.std.specs.Prelude.{List, Bool};
-ghost use Rattle.fsb_signal.specs.declared.sample.Sample.{Sample};
-ghost use Rattle.vcd_grammar.specs.Reading.{Reads};
-ghost use Rattle.scope_write.specs.Text.{shown_dump};
-ghost use Rattle.scope_write.specs.Samples.{AreShown, marks_there};
+pub use laws::shown_dumps_read_back;
+pub use writer::DumpWriter;
 
-/// The text of samples says, by the strict grammar, these samples, and has the marks of the lines that are there.
-pub fn shown_dumps_read_back()
-    ensures { (there : List Bool) (w : List Sample) → AreShown there w →
-        Reads (shown_dump there w) (marks_there there) w }
-{}
+mod clock;
+mod header;
+mod laws;
+mod value;
+mod writer;
