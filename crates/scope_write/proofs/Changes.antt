@@ -6,7 +6,7 @@ use Rattle.std.specs.Int.{bit_at}
 use Rattle.std.specs.List.{list_all}
 use Rattle.std.proofs.lemmas.Bool.{ne_eqb, le-ltb, eqb-true}
 use Rattle.std.proofs.lemmas.List.{take_all}
-use Rattle.fsb_signal.specs.DumpText.{dump_code_of, width_of, digit_of}
+use Rattle.fsb_signal.specs.DumpText.{dump_code_of, width_of}
 use Rattle.vcd_grammar.specs.Tokens.{is_white}
 use Rattle.vcd_grammar.specs.Digits.{is_value_digit, extended}
 use Rattle.vcd_grammar.specs.Words.{value_word}

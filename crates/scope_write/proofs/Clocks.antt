@@ -1,6 +1,6 @@
 -- The texts of the clocks, one after another: what they do, and the samples of their blocks.
 use Rattle.std.proofs.Common.{◌≡◌, ℕ, ◌+◌, ◌*◌, ◌^◌, ◌<◌, ◌≤◌, Bool, true, List, [], ◌∷◌, ◌++◌, length, refl, sym, ap, ◌∙◌}
-use Rattle.std.proofs.Common.{arith, append_assoc, append-nil, codes, decimal, ◌⊎◌, inl, inr, subst, Option, Some, None}
+use Rattle.std.proofs.Common.{arith, append_assoc, append-nil, codes, decimal, inl, inr, subst, Option, Some}
 use Rattle.std.proofs.Math.Path.{ap₂}
 use Rattle.fsb_signal.specs.declared.sample.Sample.{Sample}
 use Rattle.fsb_signal.specs.DumpText.{texts_from}
@@ -15,7 +15,7 @@ use Rattle.scope_write.specs.Samples.{IsSilent, Has64Lines}
 use Rattle.scope_write.proofs.Entries.{shown}
 use Rattle.scope_write.proofs.Stamps.{IsAfter, does-stamp}
 use Rattle.scope_write.proofs.Changes.{IsShown, an_entry, does-scalar}
-use Rattle.scope_write.proofs.Lines.{line_of, lines_of, by_number, fall, change_if, does-changes, behind-fall, IsCarried}
+use Rattle.scope_write.proofs.Lines.{line_of, lines_of, fall, change_if, does-changes, behind-fall}
 use Rattle.scope_write.proofs.Lines.{later-carried}
 use Rattle.scope_write.proofs.SampleBack.{shown-back}
 

@@ -1,5 +1,5 @@
 -- What the header says: the declarations of the entries that are written, each in its place.
-use Rattle.std.proofs.Common.{◌≡◌, ℕ, zero, suc, ◌+◌, ◌<◌, Bool, true, false, List, [], ◌∷◌, ◌++◌, map, Option, Some}
+use Rattle.std.proofs.Common.{◌≡◌, ℕ, zero, suc, ◌+◌, ◌<◌, Bool, true, false, List, [], ◌∷◌, ◌++◌, map}
 use Rattle.std.proofs.Common.{None, refl, sym, ap, ◌∙◌, arith, append-nil, codes, subst}
 use Rattle.std.specs.Prelude.{if◌then◌else◌}
 use Rattle.std.specs.Fmt.{digits}
@@ -9,7 +9,7 @@ use Rattle.vcd_grammar.specs.Tokens.{tokens_from, open_run_from, ended_at, grown
 use Rattle.vcd_grammar.specs.Digits.{number_up_to}
 use Rattle.vcd_grammar.specs.Words.{header_word, is_foreign_type}
 use Rattle.vcd_grammar.specs.Codes.{Code, with_code}
-use Rattle.vcd_grammar.specs.Blocks.{Change, BlockEvent, Changed}
+use Rattle.vcd_grammar.specs.Blocks.{Change, Changed}
 use Rattle.vcd_grammar.specs.Judging.{Known, Header, nothing, turn, drafted, declared, closed, behind, events_in, is_declared}
 use Rattle.vcd_laws.proofs.Pieces.{Does, does-nothing, does-both}
 use Rattle.vcd_laws.proofs.Known.{sets, changed, next, none}

@@ -1,14 +1,14 @@
 -- The digits of all lines, and what changes make of them.
-use Rattle.std.proofs.Common.{◌≡◌, ℕ, zero, suc, ◌+◌, ◌-◌, ◌<◌, ◌≤◌, Bool, true, false, not, List, [], ◌∷◌, ◌++◌, length, map, take}
-use Rattle.std.proofs.Common.{drop, set, get_or, refl, sym, ap, ◌∙◌, arith, Option, Some, None, replicate}
-use Rattle.std.specs.Prelude.{◌==◌, ◌&&◌, if◌then◌else◌, slice_set}
+use Rattle.std.proofs.Common.{◌≡◌, ℕ, zero, suc, ◌+◌, ◌<◌, Bool, true, false, not, List, [], ◌∷◌, length, map}
+use Rattle.std.proofs.Common.{set, get_or, refl, sym, ap, ◌∙◌, arith, Option, Some, None, replicate}
+use Rattle.std.specs.Prelude.{◌&&◌, if◌then◌else◌, slice_set}
 use Rattle.std.proofs.Math.Path.{ap₂}
 use Rattle.std.proofs.lemmas.Bool.{eqb-true, and_parts}
 use Rattle.fsb_signal.specs.declared.sample.Sample.{Sample}
 use Rattle.fsb_signal.specs.DumpText.{width_of, value_of, texts_from}
 use Rattle.vcd_grammar.specs.Digits.{extended}
-use Rattle.vcd_grammar.specs.Blocks.{Change, Block, Changed}
-use Rattle.vcd_grammar.specs.Values.{Values, at_first, set_lines, values_behind}
+use Rattle.vcd_grammar.specs.Blocks.{Change}
+use Rattle.vcd_grammar.specs.Values.{Values, at_first, values_behind}
 use Rattle.vcd_laws.proofs.Pieces.{Does, does-nothing, does-both}
 use Rattle.vcd_laws.proofs.Known.{sets, changed, next, none}
 use Rattle.vcd_laws.proofs.Lines.{mixed, values_behind-append, changed-append, changes_of}

@@ -1,5 +1,5 @@
 -- The digits of a sample give the sample back, also what is unknown in it.
-use Rattle.std.proofs.Common.{◌≡◌, ℕ, zero, suc, ◌+◌, ◌*◌, ◌/◌, ◌%◌, ◌^◌, ◌<◌, Bool, true, false, List, [], ◌∷◌, map, refl, sym, ap, ◌∙◌}
+use Rattle.std.proofs.Common.{◌≡◌, ℕ, zero, suc, ◌+◌, ◌*◌, ◌%◌, ◌^◌, ◌<◌, Bool, true, false, List, [], ◌∷◌, map, refl, sym, ap, ◌∙◌}
 use Rattle.std.proofs.Common.{arith, replicate}
 use Rattle.std.proofs.Math.Path.{ap₂}
 use Rattle.std.specs.Prelude.{if◌then◌else◌, nat_lt, slice_index}
@@ -9,7 +9,6 @@ use Rattle.std.specs.Int.RustNames.{bit_and}
 use Rattle.std.specs.Int.Bits.{and_zero_r, xor_zero_r}
 use Rattle.std.proofs.Math.Nat.{mod-eq_of_lt}
 use Rattle.std.proofs.lemmas.Bool.{ltb-true, and_parts}
-use Rattle.fsb_signal.specs.declared.lines.Lines.{Lines}
 use Rattle.fsb_signal.specs.declared.sample.Sample.{Sample}
 use Rattle.fsb_signal.specs.Samples.{known_sample}
 use Rattle.fsb_signal.specs.DumpText.{width_of, value_of, digits_of}

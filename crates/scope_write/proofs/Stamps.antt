@@ -10,7 +10,7 @@ use Rattle.vcd_grammar.specs.Tokens.{is_white}
 use Rattle.vcd_grammar.specs.Digits.{is_digit, number_from, number_up_to, time_in}
 use Rattle.vcd_grammar.specs.Words.{value_word}
 use Rattle.vcd_grammar.specs.Blocks.{Later}
-use Rattle.vcd_grammar.specs.Judging.{TokenTurn, turn, stamped, later}
+use Rattle.vcd_grammar.specs.Judging.{turn, stamped}
 use Rattle.vcd_laws.proofs.Pieces.{Word, Does, does-token, is_plain}
 use Rattle.scope_write.proofs.Entries.{shown}
 

@@ -1,23 +1,22 @@
 -- The text of some samples reads back.
-use Rattle.std.proofs.Common.{◌≡◌, ℕ, suc, ◌+◌, ◌*◌, ◌^◌, ◌<◌, ◌≤◌, Bool, true, List, [], ◌∷◌, ◌++◌, length, refl, sym, ap, ◌∙◌}
+use Rattle.std.proofs.Common.{◌≡◌, ℕ, suc, ◌^◌, ◌≤◌, Bool, List, [], ◌∷◌, ◌++◌, length, refl, sym, ap, ◌∙◌}
 use Rattle.std.proofs.Common.{arith, append-nil, Option, Some, None, All}
 use Rattle.std.proofs.Math.Path.{ap₂}
-use Rattle.fsb_signal.specs.declared.marks.Marks.{Marks}
 use Rattle.fsb_signal.specs.declared.sample.Sample.{Sample}
 use Rattle.vcd_grammar.specs.Tokens.{ended_at, tokens_from, open_run_from, tokens_of}
 use Rattle.vcd_grammar.specs.Digits.{extended}
 use Rattle.vcd_grammar.specs.Blocks.{Block, BlockEvent, blocks_of, blocks_from}
 use Rattle.vcd_grammar.specs.Values.{at_first, values_behind, samples_in}
-use Rattle.vcd_grammar.specs.Judging.{Known, nothing, behind, events_in, marks_of_lines, is_declared}
+use Rattle.vcd_grammar.specs.Judging.{Known, nothing, behind, events_in, marks_of_lines}
 use Rattle.vcd_grammar.specs.Reading.{or_cut, first_fault, marks_of, samples_of, Reads}
 use Rattle.vcd_laws.proofs.Pieces.{Does, does-both}
 use Rattle.vcd_laws.proofs.Known.{sets, changed}
-use Rattle.scope_write.specs.Text.{is_there, is_written, shown_header, shown_clocks, shown_dump}
+use Rattle.scope_write.specs.Text.{is_written, shown_header, shown_clocks, shown_dump}
 use Rattle.scope_write.specs.Samples.{IsSilent, Has64Lines, AreShown, marks_there}
 use Rattle.scope_write.proofs.Entries.{numbers_below, shown, declared-is}
 use Rattle.scope_write.proofs.Declaring.{unknown_below, does-header}
-use Rattle.scope_write.proofs.Lines.{by_number, initial, lines_of, fall, values-unknown, behind-fall, first-carried}
-use Rattle.scope_write.proofs.Clocks.{clock_events, Lead, lead-clocks, blocks-changed, IsWhole, AreWhole, clock-blocks}
+use Rattle.scope_write.proofs.Lines.{by_number, initial, fall, values-unknown, behind-fall, first-carried}
+use Rattle.scope_write.proofs.Clocks.{clock_events, Lead, lead-clocks, blocks-changed, AreWhole, clock-blocks}
 use Rattle.scope_write.proofs.Clocks.{samples-clocks}
 
 -- ---- a text that ends its last token, from its first byte on

@@ -1,5 +1,5 @@
 -- What a writer of a dump has written.
-use Rattle.std.specs.Prelude.{◌≡◌, ℕ, Bool, List, [], ◌∷◌, length, Option, Some, None}
+use Rattle.std.specs.Prelude.{◌≡◌, Bool, List, [], ◌∷◌, length, Option, Some, None}
 use Rattle.fsb_signal.specs.declared.sample.Sample.{Sample}
 use Rattle.scope_write.specs.declared.writer.DumpWriter.{DumpWriter}
 

@@ -6,7 +6,7 @@
 //! Next: vcd_write, which writes what p6bench simulates, of known samples alone.
 #![tactic(auto)]
 
-pub use laws::shown_dumps_read_back;
+pub use laws::{sample_has_64_lines, shown_dumps_read_back};
 pub use writer::DumpWriter;
 
 mod clock;

@@ -1,7 +1,6 @@
-use Rattle.std.proofs.Common.{append-nil, ◌≡◌, ◌+◌, ◌-◌, ◌≤◌, arith, sym, ◌++◌, subst}
+use Rattle.std.proofs.Common.{append-nil, arith, sym}
 use Rattle.fsb_signal.specs.DumpText.{texts_from}
 use Rattle.fsb_signal.proofs.Interface.{texts_from-step}
-use Rattle.scope_write.specs.Text.{shown_change}
 use Rattle.scope_write.proofs.value.put_changes.Goals as goal
 
 pub loop-number-init : goal.loop-number-init
