@@ -1,0 +1,12 @@
+pub mod Entries
+pub mod Declaring
+pub mod Stamps
+pub mod Changes
+pub mod Lines
+pub mod Digits
+pub mod SampleBack
+pub mod Clocks
+pub mod Whole
+pub mod ValueText
+pub mod HeaderText
+pub mod Growing
