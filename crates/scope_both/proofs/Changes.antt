@@ -1,7 +1,5 @@
 -- What happens to the lines in two ways, and the events that are told of it.
-use Rattle.std.proofs.Common.{◌≡◌, ℕ, Bool, true, List, [], ◌∷◌, ◌++◌, length, Option, Some, None, refl, sym, ap, ◌∙◌}
-use Rattle.std.specs.List.{list_all}
-use Rattle.std.proofs.lemmas.Bool.{and_parts}
+use Rattle.std.proofs.Common.{◌≡◌, Bool, List, [], ◌∷◌, ◌++◌, Option, Some, refl, sym, ap, ◌∙◌}
 use Rattle.vcd_grammar.specs.Values.{Values}
 use Rattle.vcd_way.specs.Pieces.{Stamp, TapChange, Happening, Comes, Gets, Switches, pieces_from}
 use Rattle.vcd_way.specs.Events.{Course, course_after, set_taps, values_after, sample_in_block, events_from}

@@ -1,6 +1,6 @@
 -- In the header, a token that is no fault in the strict way does the same in the way of wires.
 use Rattle.std.proofs.Common.{◌≡◌, ℕ, ◌≤◌, Bool, true, false, ◌&&◌, ◌||◌, ◌==◌, if◌then◌else◌, List, [], ◌∷◌, ◌++◌}
-use Rattle.std.proofs.Common.{codes, nat_eq, nat_le, Option, Some, None, refl, sym, ap, subst, ◌∙◌, append-nil, arith}
+use Rattle.std.proofs.Common.{nat_eq, nat_le, Option, Some, None, refl, sym, ap, subst, ◌∙◌, append-nil, arith}
 use Rattle.std.proofs.lemmas.Bool.{eqb-true, and_parts, leb-true, le-leb}
 use Rattle.fsb_signal.specs.DumpText.{width_of}
 use Rattle.fsb_signal.specs.Table.{table, signal_number}
@@ -13,14 +13,13 @@ use Rattle.vcd_grammar.specs.Words.{is_foreign_type, name_in}
 use Rattle.vcd_grammar.specs.Codes.{with_code}
 use Rattle.vcd_grammar.specs.Judging.{is_declared, missing_from}
 use Rattle.vcd_way.specs.Declarations.{DumpSection, Declaration, declaration_of, declaration_with, with_word, word_of_section}
-use Rattle.vcd_way.specs.Ways.{Kept, Keeps, Refuses, Way}
-use Rattle.vcd_way.specs.Steps.{Spot, AtPreface, AtHeader, InSection, AtValues, DumpState, Step, reads_past, moves_to, breaks}
+use Rattle.vcd_way.specs.Ways.{Keeps, Refuses}
+use Rattle.vcd_way.specs.Steps.{Spot, AtPreface, AtHeader, InSection, AtValues, Step, reads_past, moves_to, breaks}
 use Rattle.vcd_way.specs.Steps.{header_step, if_short, unknown_from_here, kept_step, declared_step, path_after}
 use Rattle.vcd_way.specs.Steps.{section_kept, section_end, is_declaring, section_step, step_at, step, section_at}
 use Rattle.vcd_way.specs.Strict.{StrictHeader, strict, with_other, with_strict_line, strict_named, strict_declares}
 use Rattle.vcd_way.specs.Strict.{strict_closed, strict_closes}
 use Rattle.vcd_way.proofs.Interface.{sound-step}
-use Rattle.scope_both.specs.Usual.{usual_rules}
 use Rattle.scope_both.proofs.Codes.{Knows, knows-more}
 use Rattle.scope_both.proofs.Steps.{Strictly, Gathered, Lines, Taps, taking}
 

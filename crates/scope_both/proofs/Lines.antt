@@ -6,7 +6,6 @@ use Rattle.fsb_signal.specs.DumpText.{width_of}
 use Rattle.vcd_grammar.specs.Digits.{extended}
 use Rattle.vcd_grammar.specs.Values.{Values}
 use Rattle.vcd_grammar.specs.Judging.{is_declared}
-use Rattle.vcd_way.specs.declared.tap.Tap.{Tap}
 use Rattle.vcd_way.specs.Events.{whole, set_taps}
 use Rattle.vcd_way.specs.Steps.{is_too_wide_for}
 

@@ -1,5 +1,5 @@
 -- Where no token is `$dumpoff`, no hole is told.
-use Rattle.std.proofs.Common.{◌≡◌, ℕ, Bool, true, false, not, ◌&&◌, ◌||◌, ◌==◌, if◌then◌else◌, is_some, List, [], ◌∷◌, ◌++◌}
+use Rattle.std.proofs.Common.{◌≡◌, ℕ, Bool, true, false, not, ◌&&◌, ◌==◌, if◌then◌else◌, is_some, List, [], ◌∷◌, ◌++◌}
 use Rattle.std.proofs.Common.{codes, nat_lt, Option, Some, None, refl, sym, ap, subst, ◌∙◌}
 use Rattle.std.specs.List.{list_all}
 use Rattle.std.proofs.lemmas.Bool.{and_parts, not-true}
@@ -16,9 +16,9 @@ use Rattle.vcd_way.specs.Events.{sample_in_block, events_from, is_edge, digit_af
 use Rattle.vcd_grammar.specs.Values.{Values, sample_of, clock_of}
 use Rattle.vcd_way.specs.Steps.{Spot, AtPreface, AtHeader, InSection, AtValues, AtCode, AtOtherCode, InRemark, DumpState}
 use Rattle.vcd_way.specs.Steps.{Step, reads_past, moves_to, breaks, if_short, header_step, unknown_from_here, kept_step}
-use Rattle.vcd_way.specs.Steps.{declared_step, section_kept, section_end, is_declaring, digits_by, value_word_by, comes}
+use Rattle.vcd_way.specs.Steps.{declared_step, section_end, is_declaring, digits_by, value_word_by, comes}
 use Rattle.vcd_way.specs.Steps.{stamp_step, given, scalar_step, is_too_wide_for, vector_digits, vector_step, other_step}
-use Rattle.vcd_way.specs.Steps.{stops, resumes, mark_step, value_step, may_be_long, step_at, step, state_after}
+use Rattle.vcd_way.specs.Steps.{stops, resumes, mark_step, value_step, may_be_long, step_at, step}
 use Rattle.vcd_way.specs.Steps.{happenings_in}
 use Rattle.vcd_grammar.specs.Tokens.{tokens_of}
 use Rattle.vcd_way.specs.Events.{course_at_first}

@@ -1,9 +1,7 @@
 -- What both ways say of a text.
-use Rattle.std.proofs.Common.{◌≡◌, ℕ, Bool, true, List, length, None, sym, ap, ◌∙◌}
-use Rattle.fsb_signal.specs.declared.marks.Marks.{Marks}
+use Rattle.std.proofs.Common.{◌≡◌, ℕ, Bool, true, List, None}
 use Rattle.vcd_grammar.specs.Judging.{marks_of_lines}
 use Rattle.vcd_way.specs.Ways.{ValueRules}
-use Rattle.vcd_way.specs.Events.{samples_among}
 use Rattle.vcd_way.specs.Answers.{header_by, first_fault_by, events_by}
 use Rattle.vcd_way.specs.Strict.{strict, marks_by}
 use Rattle.scope_wiring.specs.declared.wire.Wire.{Wire}

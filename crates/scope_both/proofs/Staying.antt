@@ -9,9 +9,9 @@ use Rattle.vcd_way.specs.Declarations.{with_word}
 use Rattle.vcd_way.specs.declared.tap.Tap.{Tap}
 use Rattle.vcd_way.specs.Ways.{Way}
 use Rattle.vcd_way.specs.Steps.{Spot, AtPreface, AtHeader, InSection, AtValues, AtCode, AtOtherCode, InRemark, DumpState}
-use Rattle.vcd_way.specs.Steps.{Step, reads_past, moves_to, breaks, if_short, digits_by, value_word_by, comes, stamp_step}
+use Rattle.vcd_way.specs.Steps.{Step, reads_past, moves_to, breaks, digits_by, value_word_by, comes, stamp_step}
 use Rattle.vcd_way.specs.Steps.{given, scalar_step, is_too_wide_for, vector_step, other_step, mark_step, value_step}
-use Rattle.vcd_way.specs.Steps.{vector_digits, may_be_long, word_step, stops, resumes, step_at, step, state_after}
+use Rattle.vcd_way.specs.Steps.{vector_digits, may_be_long, stops, resumes, step_at, step, state_after}
 use Rattle.vcd_way.specs.Steps.{is_past_header_at}
 use Rattle.vcd_way.proofs.Interface.{past-behind, fault-behind}
 

@@ -1,29 +1,27 @@
 -- Behind the header, a token that is no fault in the strict way does the same in the way of wires that take the same.
-use Rattle.std.proofs.Common.{◌≡◌, ℕ, Bool, true, false, not, ◌&&◌, ◌||◌, if◌then◌else◌, is_some, List, [], ◌∷◌, ◌++◌}
-use Rattle.std.proofs.Common.{codes, length, map, nat_lt, option_map, Option, Some, None, refl, sym, ap, subst, ◌∙◌}
+use Rattle.std.proofs.Common.{◌≡◌, ℕ, Bool, true, false, not, ◌&&◌, if◌then◌else◌, List, [], ◌∷◌, ◌++◌}
+use Rattle.std.proofs.Common.{codes, map, nat_lt, option_map, Option, Some, None, refl, sym, ap, subst, ◌∙◌}
 use Rattle.std.specs.List.{list_all}
 use Rattle.std.proofs.lemmas.Bool.{and_parts, not-true}
-use Rattle.vcd_grammar.specs.declared.fault.VcdFault.{VcdFault}
 use Rattle.vcd_grammar.specs.declared.fault.VcdCause.{VcdCause}
 use Rattle.vcd_grammar.specs.declared.fault.VcdCause.TheVariants as causes
 use Rattle.vcd_grammar.specs.Tokens.{Token, is_long}
 use Rattle.vcd_grammar.specs.Digits.{is_value_digit}
 use Rattle.vcd_grammar.specs.Words.{ValueWord, Stamp, Scalar, Vector, Foreign, Mark, Section, Wrong, same, is_end}
 use Rattle.vcd_grammar.specs.Codes.{lines_of}
-use Rattle.vcd_way.specs.Declarations.{DumpSection, Declaration, with_word}
+use Rattle.vcd_way.specs.Declarations.{Declaration, with_word}
 use Rattle.vcd_way.specs.declared.tap.Tap.{Tap}
-use Rattle.vcd_way.specs.Ways.{Keeps, ValueRules, Way}
-use Rattle.vcd_way.specs.Pieces.{Happening}
+use Rattle.vcd_way.specs.Ways.{Keeps, Way}
 use Rattle.vcd_way.specs.Events.{whole}
 use Rattle.vcd_way.specs.Steps.{Spot, AtPreface, AtHeader, InSection, AtValues, AtCode, AtOtherCode, InRemark, DumpState}
-use Rattle.vcd_way.specs.Steps.{Step, reads_past, moves_to, breaks, if_short, digits_by, value_word_by, comes, stamp_step}
+use Rattle.vcd_way.specs.Steps.{Step, reads_past, moves_to, breaks, digits_by, value_word_by, comes, stamp_step}
 use Rattle.vcd_way.specs.Steps.{given, scalar_step, is_too_wide_for, is_unreadable, vector_step, other_step, mark_step}
-use Rattle.vcd_way.specs.Steps.{value_step, vector_digits, may_be_long, word_step, remark_step, stops, resumes, step_at}
+use Rattle.vcd_way.specs.Steps.{value_step, may_be_long, stops, resumes, step_at}
 use Rattle.vcd_way.specs.Steps.{step, section_at}
 use Rattle.vcd_way.specs.Strict.{StrictHeader, strict_rules, strict}
 use Rattle.vcd_way.proofs.Interface.{sound-step}
 use Rattle.scope_both.specs.Usual.{usual_rules}
-use Rattle.scope_both.proofs.Words.{strict-digits, usual-digits, is_wrong, are_sound, is_sound_word, SameWord, same-word}
+use Rattle.scope_both.proofs.Words.{strict-digits, usual-digits, is_wrong, are_sound, is_sound_word, same-word}
 use Rattle.scope_both.proofs.Lines.{SameLines, same-set, same-fit}
 use Rattle.scope_both.proofs.Changes.{Alike, plain}
 

@@ -4,13 +4,13 @@ use Rattle.std.proofs.Common.{Option, Some, None, refl, sym, ap, subst, ◌∙�
 use Rattle.std.specs.List.{list_all}
 use Rattle.std.proofs.lemmas.Bool.{and_parts}
 use Rattle.vcd_grammar.specs.declared.fault.VcdFault.{VcdFault}
-use Rattle.vcd_grammar.specs.Tokens.{Token, tokens_of, tokens_so_far}
-use Rattle.vcd_way.specs.Ways.{ValueRules, Way}
+use Rattle.vcd_grammar.specs.Tokens.{tokens_of, tokens_so_far}
+use Rattle.vcd_way.specs.Ways.{ValueRules}
 use Rattle.vcd_way.specs.Pieces.{Stamp, TapChange, DumpSwitch, Off, On, Happening, Comes, Gets, Switches, pieces_from}
 use Rattle.vcd_way.specs.Events.{DumpEvent, Sampled, Hole, Resumed, switch_event, Course, course_at_first, course_after}
 use Rattle.vcd_way.specs.Events.{values_after, unknown_in, sample_in_block, events_from, samples_among}
 use Rattle.vcd_way.specs.Steps.{Spot, AtPreface, AtHeader, InSection, AtValues, AtCode, AtOtherCode, InRemark}
-use Rattle.vcd_way.specs.Steps.{first_state, state_after, happenings_in, is_past_header_at, hides_stamp}
+use Rattle.vcd_way.specs.Steps.{first_state, happenings_in, is_past_header_at, hides_stamp}
 use Rattle.vcd_way.specs.Answers.{state_of, fault_at_end, whole_fault, is_early, first_fault_by, events_by, events_so_far_by}
 use Rattle.vcd_way.specs.Answers.{header_by}
 use Rattle.vcd_way.specs.Strict.{strict}
@@ -18,8 +18,8 @@ use Rattle.scope_both.specs.Usual.{usual_rules}
 use Rattle.scope_both.proofs.Changes.{plain}
 use Rattle.scope_both.proofs.Codes.{Knows}
 use Rattle.scope_both.proofs.Steps.{Lines, Taps, taking, Takes}
-use Rattle.scope_both.proofs.Heads.{Heads, Outside}
-use Rattle.scope_both.proofs.Tokens.{TakesAll, Told, all-told}
+use Rattle.scope_both.proofs.Heads.{Outside}
+use Rattle.scope_both.proofs.Tokens.{Told, all-told}
 
 -- a sample
 abbrev pub is_sampled : DumpEvent → Bool

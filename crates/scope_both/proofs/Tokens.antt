@@ -1,11 +1,10 @@
 -- Tokens without a fault in the strict way do the same in the way of wires.
-use Rattle.std.proofs.Common.{◌≡◌, ℕ, Bool, true, List, [], ◌∷◌, ◌++◌, map, Option, Some, None, refl, sym, ap, subst, ◌∙◌}
+use Rattle.std.proofs.Common.{◌≡◌, ℕ, Bool, true, List, [], ◌∷◌, ◌++◌, map, Option, None, refl, sym, ap, subst, ◌∙◌}
 use Rattle.vcd_grammar.specs.Tokens.{Token}
 use Rattle.vcd_grammar.specs.Values.{at_first}
-use Rattle.vcd_way.specs.Declarations.{Declaration}
-use Rattle.vcd_way.specs.Pieces.{Stamp, TapChange, Happening, Gets, pieces_from}
+use Rattle.vcd_way.specs.Pieces.{Stamp, TapChange, Happening, pieces_from}
 use Rattle.vcd_way.specs.Events.{whole, set_taps, values_after, course_at_first, events_from}
-use Rattle.vcd_way.specs.Steps.{Spot, AtPreface, AtHeader, InSection, AtValues, DumpState, Step, unknown_from_here}
+use Rattle.vcd_way.specs.Steps.{Spot, AtValues, unknown_from_here}
 use Rattle.vcd_way.specs.Steps.{step, state_after, happenings_in, is_past_header_at}
 use Rattle.vcd_way.specs.Strict.{StrictHeader, strict_rules, strict}
 use Rattle.scope_both.specs.Usual.{usual_rules}
@@ -14,7 +13,7 @@ use Rattle.scope_both.proofs.Lines.{same-set, set-more}
 use Rattle.scope_both.proofs.Changes.{Alike, plain, plain-append, alike-append, after-snoc, same-events}
 use Rattle.scope_both.proofs.Codes.{Knows}
 use Rattle.scope_both.proofs.Steps.{Strictly, Gathered, Lines, Taps, taking, Takes, is_sound, Behind, same-step}
-use Rattle.scope_both.proofs.Heads.{Heads, Place, Outside, Inside, GoesOn, IsOver, Heading, On, Over, same-head}
+use Rattle.scope_both.proofs.Heads.{Heads, Place, Outside, Inside, GoesOn, IsOver, On, Over, same-head}
 
 -- ---- behind the header
 

@@ -5,14 +5,14 @@ use Rattle.std.specs.List.{filter_map, cons_option}
 use Rattle.std.specs.Option.{option_map_or}
 use Rattle.vcd_grammar.specs.Words.{same}
 use Rattle.vcd_grammar.specs.Codes.{lines_of}
-use Rattle.vcd_grammar.specs.Judging.{is_declared, marks_of_lines}
+use Rattle.vcd_grammar.specs.Judging.{marks_of_lines}
 use Rattle.vcd_way.specs.Declarations.{Declaration}
 use Rattle.vcd_way.specs.declared.tap.Tap.{Tap}
 use Rattle.vcd_way.specs.Events.{whole}
 use Rattle.vcd_way.specs.Strict.{StrictHeader, marks_by}
 use Rattle.scope_wiring.specs.declared.wire.Wire.{Wire}
 use Rattle.scope_way.specs.Wired.{tap_if_coded, tap_by_code, taps_by_code, wired_lines}
-use Rattle.scope_both.specs.Taking.{AreSameLines, lines_by_wires, strict_lines, TakesTheSame}
+use Rattle.scope_both.specs.Taking.{AreSameLines, lines_by_wires, TakesTheSame}
 use Rattle.scope_both.proofs.Codes.{is_coded, Knows}
 use Rattle.scope_both.proofs.Steps.{Lines, Taps, HasLines, Takes}
 

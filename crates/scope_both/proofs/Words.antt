@@ -1,8 +1,8 @@
 -- What a token between values says: what the strict way takes, says the same to one that lets more pass.
 use Rattle.std.proofs.Common.{◌≡◌, ◌≤◌, ℕ, Bool, true, false, not, ◌&&◌, ◌||◌, ◌==◌, if◌then◌else◌, is_some, List, [], ◌∷◌}
-use Rattle.std.proofs.Common.{length, nat_le, nat_lt, Option, Some, None, refl, sym, ap, subst, ◌∙◌, arith}
+use Rattle.std.proofs.Common.{length, nat_le, Option, Some, None, refl, sym, ap, ◌∙◌, arith}
 use Rattle.std.specs.List.{list_all}
-use Rattle.std.proofs.lemmas.Bool.{eqb-true, ne_eqb, ltb-false, le-ltb, lt-leb, and_parts}
+use Rattle.std.proofs.lemmas.Bool.{eqb-true, ne_eqb, ltb-false, lt-leb, and_parts}
 use Rattle.vcd_grammar.specs.Tokens.{longest, is_long}
 use Rattle.vcd_grammar.specs.Digits.{is_value_digit, time_in}
 use Rattle.vcd_grammar.specs.Words.{ValueWord, Stamp, Scalar, Vector, Foreign, Mark, Section, Wrong, stamp_word, scalar_word}
