@@ -1,0 +1,12 @@
+mod Staying
+mod Words
+mod Lines
+mod Changes
+mod Steps
+mod Codes
+mod Heads
+mod Tokens
+mod Texts
+mod Quiet
+mod Wires
+mod Readings

@@ -1,0 +1,3 @@
+pub mod Usual
+pub mod Taking
+pub mod Alike
