@@ -1,0 +1,4 @@
+pub mod Rows
+pub mod Happened
+pub mod RowAfter
+pub mod Kept
