@@ -1,4 +1,4 @@
-use Rattle.std.proofs.Common.{◌≡◌, ◌≤◌, ◌+◌, ◌++◌, ◌∷◌, [], List, length, take, arith, sym, subst, ◌∙◌}
+use Rattle.std.proofs.Common.{◌≡◌, ◌≤◌, ◌++◌, ◌∷◌, [], List, length, arith, sym, subst, ◌∙◌}
 use Rattle.std.proofs.lemmas.List.{length-take-le, take_all}
 use Rattle.fsb_signal.specs.declared.sample.Sample.{Sample}
 use Rattle.scope_ring.specs.Ring.{Stands}
