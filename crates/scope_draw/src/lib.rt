@@ -2,9 +2,9 @@
 //!
 //! `drawing` shows the last fourteen clocks that a ring keeps: a ruler of clock numbers, and below it a row for ADS# and for
 //! each line that is asserted or unknown in them. The words of requests and of data stand under their clocks. Nothing is
-//! promised of the text; it is tested, in rows_reports.
+//! promised of the text.
 //!
-//! Next: scope_ring, which keeps the samples, and scope_report, which prints a drawing below a verdict.
+//! Next: scope_ring, which keeps the samples.
 #![tactic(auto)]
 
 pub use rows::drawing;

@@ -4,7 +4,7 @@
 //! when it was made. `Stands` says which samples it was fed; `sample_at` answers by the number of a clock what was sampled
 //! there, as long as it is kept.
 //!
-//! Next: scope_watch, whose judge feeds it, and scope_draw, which draws it.
+//! Next: scope_draw, which draws what a ring keeps.
 #![tactic(auto)]
 
 pub use ring::Ring;
