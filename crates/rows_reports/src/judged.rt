@@ -77,6 +77,12 @@ rejected at clock 0, 5 ns (line 22 of the file): rule 2, request spacing
   Mostly wrong: ADS# lasts two clocks, a model begins a request every second
   clock, or the dump begins in the middle of traffic.
   p6scope rule 2 prints this rule
+
+            0*  1   2
+  ADS#    \\___________
+  REQ      x   x   x
+  A        x   x   x
+
 ";
 
 const UNKNOWN: &str = "\

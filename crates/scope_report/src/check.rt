@@ -7,7 +7,9 @@ use crate::scopes::Heading;
 use crate::text::{put, put_bytes, put_count, put_listed, put_number};
 use crate::verdict::put_verdict;
 use scope_check::{Begin, Bound, Judged, Verdict};
+use scope_draw::drawing;
 use scope_pick::{Variable, is_listed};
+use scope_ring::Ring;
 use scope_wiring::{Choice, Home, Wiring, settled_lines};
 use std::alloc::{AllocError, Global};
 use vcd_course::Stamp;
@@ -18,7 +20,8 @@ use vcd_scan::EarlyEnd;
 const DATA: u8 = 19;
 
 /// What was judged of a file, and found: the scope and the lines that are not there, the verdict, and of a broken rule
-/// what it asks; then what of the file was not judged, as the end of one that ends early.
+/// what it asks, and the lines around the broken clock, which the ring has kept; then what of the file was not judged, as
+/// the end of one that ends early.
 pub fn check_text(
     alloc: Global,
     file: &str,
@@ -28,6 +31,7 @@ pub fn check_text(
     wiring: &Wiring,
     judged: &Judged,
     early_end: Option<EarlyEnd>,
+    last: &Ring,
 ) -> Result<Vec<u8>, AllocError> {
     let scale = Scale::of(alloc, remarks)?;
     let heading = Heading::new(alloc, variables)?;
@@ -35,6 +39,7 @@ pub fn check_text(
     let mut text = Vec::new(alloc);
     put_wires(&mut text, alloc, file, variables, choice, wiring)?;
     put_found(&mut text, alloc, judged, scale)?;
+    put_drawing(&mut text, alloc, judged, last)?;
     put_unread_data(&mut text, wiring)?;
     put_start(&mut text, judged)?;
     put_deferral(&mut text, judged)?;
@@ -144,6 +149,24 @@ fn put_rule(text: &mut Vec<u8>, rule: u8) -> Result<(), AllocError> {
     put(text, "  p6scope rule ")?;
     put_number(text, u64::from(rule))?;
     put(text, " prints this rule\n")
+}
+
+// The lines around the broken clock.
+fn put_drawing(
+    text: &mut Vec<u8>,
+    alloc: Global,
+    judged: &Judged,
+    last: &Ring,
+) -> Result<(), AllocError> {
+    match judged.verdict {
+        Verdict::Broken { clock, .. } => {
+            let rows = drawing(alloc, last, clock)?;
+            put(text, "\n")?;
+            text.extend_from_slice(&rows)?;
+            put(text, "\n")
+        }
+        Verdict::Nothing | Verdict::Accepted => Ok(()),
+    }
 }
 
 fn unjudged_cause(judged: &Judged) -> &'static str {

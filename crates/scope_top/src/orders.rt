@@ -301,6 +301,7 @@ fn tell_checked<O: Sink, E: Sink>(
                 wiring,
                 &told.judged,
                 told.early_end,
+                &told.last,
             )?;
             tell(out, &text)?;
         }

@@ -10,9 +10,9 @@ use Rattle.scope_check.specs.declared.part.Part.{Part}
 use Rattle.scope_wiring.specs.declared.wiring.Choice.{Choice}
 use Rattle.scope_wiring.specs.declared.wiring.Wiring.{Wiring}
 use Rattle.scope_way.specs.Wired.{wired_way}
-use Rattle.scope_watch.specs.declared.check.JudgedText.{JudgedText}
 use Rattle.scope_watch.specs.declared.header.Header.{Header}
 use Rattle.scope_watch.specs.declared.header.Begun.{Begun}
+use Rattle.scope_watch.specs.declared.check.JudgedText.{JudgedText}
 use Rattle.scope_watch.specs.declared.stop.ScopeStop.{ScopeStop}
 use Rattle.scope_watch.specs.declared.stop.ScopeStop.TheVariants as stops
 use Rattle.scope_watch.specs.declared.values.Sampling.{Sampling}

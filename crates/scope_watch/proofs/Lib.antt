@@ -5,3 +5,4 @@ mod Texts
 mod Picks
 mod Stopping
 mod Checks
+mod Clocks

@@ -8,6 +8,7 @@ use Rattle.vcd_way.specs.Declarations.{Declaration}
 use Rattle.vcd_way.specs.Ways.{ValueRules, Way}
 use Rattle.vcd_way.specs.Answers.{first_fault_by, early_end_by, events_by}
 use Rattle.vcd_scan.specs.Ending.{early_told}
+use Rattle.vcd_way.specs.Events.{samples_among}
 use Rattle.vcd_joined.specs.Behind.{IsHeader, gathered_in}
 use Rattle.scope_wiring.specs.declared.wiring.Choice.{Choice}
 use Rattle.scope_wiring.specs.declared.wiring.Wiring.{Wiring}
@@ -16,6 +17,7 @@ use Rattle.scope_wiring.specs.Pickings.{IsPicking}
 use Rattle.scope_way.specs.Wired.{wired_way, wired_lines}
 use Rattle.scope_check.specs.declared.part.Part.{Part}
 use Rattle.scope_check.specs.Findings.{IsFoundIn}
+use Rattle.scope_ring.specs.Ring.{FedFirst}
 use Rattle.scope_watch.specs.declared.stop.ScopeStop.{ScopeStop}
 use Rattle.scope_watch.specs.declared.stop.ScopeStop.TheVariants as stops
 use Rattle.scope_watch.specs.declared.header.Header.{Header}
@@ -28,11 +30,12 @@ use Rattle.scope_watch.specs.Heading.{Shows, IsHeaderFault}
 use Rattle.scope_watch.specs.Watching.{rules_for}
 
 -- a whole text, read in a way, has no fault; this is the verdict on this part of its events, with these marks, and
--- this its early end, if it has one
+-- this its early end, if it has one; these samples were fed to the ring one after another from clock 0 on
 pub record IsJudgedText (told : JudgedText) (part : Part) (marks : Marks) (way : Way (List Declaration)) (text : List ℕ) : Type 0 where
   pub none : first_fault_by way text ≡ None
   pub found : IsFoundIn told.judged part marks (events_by way text)
   pub early_end : option_map early_told told.early_end ≡ early_end_by way text
+  pub last : FedFirst told.last (samples_among (events_by way text))
 
 -- what is judged of this part of a whole text, read in a way, with these marks
 abbrev pub IsJudgedAs : Result JudgedText ScopeStop → Part → Marks → Way (List Declaration) → List ℕ → Type 0

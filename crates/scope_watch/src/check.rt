@@ -1,10 +1,13 @@
 //! The check of a dump: its events are judged as they come.
-ghost use Rattle.std.specs.Prelude.{◌≡◌, ◌≤◌, ◌<◌, ℕ, List, Err, Some, IsTrue, OnOk, length};
+ghost use Rattle.std.specs.Prelude.{◌≡◌, ◌≤◌, ◌<◌, ◌++◌, ◌∷◌, ℕ, List, [], Err, Some, IsTrue, OnOk, length};
 ghost use Rattle.fsb_io.specs.Faults.{Rose};
 ghost use Rattle.vcd_grammar.specs.Tokens.{Token};
+ghost use Rattle.vcd_way.specs.Events.{DumpEvent, samples_among};
+ghost use Rattle.vcd_course.specs.Told.{event_told};
 ghost use Rattle.vcd_scan.specs.Wired.{wires_told};
 ghost use Rattle.vcd_joined.specs.Behind.{gathered_in};
 ghost use Rattle.vcd_joined.specs.Choosing.{Choice as Taking, choosing, IsTaken};
+ghost use Rattle.scope_ring.specs.Ring.{FedFirst};
 ghost use Rattle.scope_watch.specs.Heading.{IsReady, StandsBehind};
 ghost use Rattle.scope_watch.specs.Watching.{rules_for};
 ghost use Rattle.scope_watch.specs.Checking.{IsJudgedAs, IsChecked};
@@ -17,10 +20,11 @@ use crate::values::{Sampling, watch_values};
 use crate::watcher::EventWatcher;
 use fsb_io::Source;
 use fsb_signal::Marks;
-use scope_check::{Judged, Judging, Part, TooMany};
+use scope_check::{Judged, Judging, Part, TooMany, Verdict};
+use scope_ring::Ring;
 use scope_wiring::{Choice, Refusal, Wiring};
 use std::alloc::Global;
-use vcd_course::CourseEvent;
+use vcd_course::{CourseEvent, Told};
 use vcd_joined::picked_wires_choose;
 use vcd_scan::{EarlyEnd, Wires};
 
@@ -30,6 +34,8 @@ pub struct JudgedText {
     pub judged: Judged,
     /// The end of a dump that ends early: what is whole before it was judged.
     pub early_end: Option<EarlyEnd>,
+    /// The last samples up to two clocks behind the broken one; without one, up to the end.
+    pub last: Ring,
 }
 
 /// What is found of a dump.
@@ -54,16 +60,46 @@ struct Judge {
     judging: Judging,
     part: Part,
     marks: Marks,
+    last: Ring,
+}
+
+/// How many clocks are kept up to two behind a broken one.
+fn end_of(verdict: &Verdict) -> u64 {
+    match verdict {
+        Verdict::Broken { clock, .. } => clock.saturating_add(3),
+        Verdict::Nothing | Verdict::Accepted => u64::MAX,
+    }
+}
+
+/// Shows the ring the next event of a dump, up to which this was judged.
+fn keep(last: &mut Ring, event: &CourseEvent, judged: &Judged)
+    requires { (es : List DumpEvent) × FedFirst last.old (samples_among es)
+        × (judged.now.clocks ≡ length (samples_among (es ++ event_told event.now ∷ []))) }
+    ensures { (es : List DumpEvent) → FedFirst last.old (samples_among es) →
+        judged.now.clocks ≡ length (samples_among (es ++ event_told event.now ∷ [])) →
+        FedFirst last.new (samples_among (es ++ event_told event.now ∷ [])) }
+{
+    match event.told {
+        Told::Sampled(sample) => last.follow(&sample, judged.clocks, end_of(&judged.verdict)),
+        Told::Hole => {}
+        Told::Resumed => {}
+    }
 }
 
 impl EventWatcher for Judge {
+    ghost use Rattle.vcd_way.specs.Events.{samples_among};
     ghost use Rattle.scope_check.specs.Standing.{Stands};
+    ghost use Rattle.scope_ring.specs.Ring.{FedFirst};
 
-    ghost has_seen = { λ first now events. Stands now.judging first.part first.marks events };
+    ghost has_seen = { λ first now events. Stands now.judging first.part first.marks events
+        × FedFirst now.last (samples_among events) };
 
     fn see(&mut self, event: &CourseEvent) -> Result<(), WatchStop> {
         match self.judging.take(event) {
-            Ok(()) => Ok(()),
+            Ok(()) => {
+                keep(&mut self.last, event, &self.judging.judged());
+                Ok(())
+            }
             Err(TooMany) => Err(WatchStop::TooMany),
         }
     }
@@ -93,15 +129,19 @@ pub fn judge_values<S: Source>(
     ensures name_stays { IsTrue S.tells → S.begun_as source.new ≡ S.begun_as source.old }
     ensures holds_stays { IsTrue S.tells → S.holds source.new ≡ S.holds source.old }
 {
+    let last = Ring::new(alloc)?;
+    let judging = Judging::new(marks, part);
     let mut judge = Judge {
-        judging: Judging::new(marks, part),
+        judging,
         part,
         marks,
+        last,
     };
     let early_end = watch_values(alloc, source, room, behind, wires, sampling, &mut judge)?;
     Ok(JudgedText {
         judged: judge.judging.judged(),
         early_end,
+        last: judge.last,
     })
 }
 

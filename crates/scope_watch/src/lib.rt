@@ -4,7 +4,7 @@
 //! `read_header` reads up to the end of the header, `pick_bus` picks the wires among its variables, `watch_values` reads
 //! on to the end of the source, and `check_dump` does all of it with the judge as the watcher. What is answered is what
 //! vcd_way defines of the whole text in the way of the picked wires; of a dump that ends early, of what is whole of it.
-//! No events are kept: memory does not grow with them.
+//! Of the events the last few samples are kept: memory does not grow with them.
 //!
 //! Next: scope_wiring, which picks, vcd_scan, which reads values, and scope_check, which judges.
 #![tactic(auto)]
