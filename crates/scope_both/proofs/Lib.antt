@@ -9,4 +9,5 @@ mod Tokens
 mod Texts
 mod Quiet
 mod Wires
+mod Finds
 mod Readings

@@ -25,10 +25,11 @@ use Rattle.vcd_way.specs.Events.{course_at_first}
 use Rattle.vcd_way.specs.Steps.{first_state}
 use Rattle.vcd_way.specs.Answers.{first_fault_by, events_by}
 use Rattle.vcd_way.specs.Strict.{strict}
+use Rattle.scope_check.specs.Parts.{is_sampled}
 use Rattle.scope_both.specs.Usual.{usual_rules}
 use Rattle.scope_both.specs.Alike.{never_stops}
 use Rattle.scope_both.proofs.Steps.{Lines, Taps, taking}
-use Rattle.scope_both.proofs.Texts.{is_sampled, TakesAllOf, whole-events}
+use Rattle.scope_both.proofs.Texts.{TakesAllOf, whole-events}
 
 -- the dump does not stop or go on there
 abbrev is_plain : Happening → Bool

@@ -14,18 +14,13 @@ use Rattle.vcd_way.specs.Steps.{first_state, happenings_in, is_past_header_at, h
 use Rattle.vcd_way.specs.Answers.{state_of, fault_at_end, whole_fault, is_early, first_fault_by, events_by, events_so_far_by}
 use Rattle.vcd_way.specs.Answers.{header_by}
 use Rattle.vcd_way.specs.Strict.{strict}
+use Rattle.scope_check.specs.Parts.{is_sampled}
 use Rattle.scope_both.specs.Usual.{usual_rules}
 use Rattle.scope_both.proofs.Changes.{plain}
 use Rattle.scope_both.proofs.Codes.{Knows}
 use Rattle.scope_both.proofs.Steps.{Lines, Taps, taking, Takes}
 use Rattle.scope_both.proofs.Heads.{Outside}
 use Rattle.scope_both.proofs.Tokens.{Told, all-told}
-
--- a sample
-abbrev pub is_sampled : DumpEvent → Bool
-is_sampled (Sampled sample stamp) = true
-is_sampled (Hole stamp) = false
-is_sampled (Resumed stamp) = false
 
 -- ---- where a text ends
 

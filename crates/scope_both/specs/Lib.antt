@@ -1,3 +1,4 @@
 pub mod Usual
 pub mod Taking
 pub mod Alike
+pub mod Finding
