@@ -13,7 +13,7 @@ use Rattle.fsb_rules.specs.Checker.{as_broken}
 use Rattle.fsb_trace.specs.Verdict.{verdict}
 use Rattle.scope_check.specs.declared.finding.Judged.{Judged}
 use Rattle.scope_check.specs.Findings.{IsFoundIn}
-use Rattle.scope_both.specs.Finding.{begins_known, IsJudgedWhole}
+use Rattle.scope_both.specs.Finding.{begins_known, whole_part, IsJudgedWhole}
 use Rattle.scope_both.proofs.Finds.{found-whole}
 use Rattle.scope_both.specs.Usual.{usual_rules}
 use Rattle.scope_both.specs.Taking.{TakesStrictly}
@@ -54,7 +54,7 @@ wired-marks ws m text takes = same-marks ws (header_by (wired_way ws m) text) (h
 pub wired-found : (ws : List Wire) (early : Bool) (text : List ℕ) (w : List Sample) (marks : Marks) (f : Judged)
     → first_fault_by strict text ≡ None → w ≡ samples_among (events_by strict text)
     → marks ≡ marks_by (header_by strict text) → IsReadAlike ws (usual_rules early) text → begins_known w ≡ true
-    → IsFoundIn f (marks_of_lines (wired_lines ws)) (events_by (wired_way ws (usual_rules early)) text)
+    → IsFoundIn f whole_part (marks_of_lines (wired_lines ws)) (events_by (wired_way ws (usual_rules early)) text)
     → IsJudgedWhole f (length w) (as_broken (verdict marks w))
 wired-found ws early text w marks f h a b k r found =
     let m = usual_rules early in
