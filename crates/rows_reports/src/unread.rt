@@ -79,10 +79,22 @@ fn each_failing_call_is_told_with_status_4(rt: HostRuntime) {
 /// Words for what is not done yet, and the text.
 const UNOFFERED: [(&str, &str); 5] = [
     ("pick|x.vcd", "pick: this is not done yet\n"),
-    ("check|--at|5ns|x.vcd", "--at with a time: this is not done yet\n"),
-    ("check|--from|5ns|x.vcd", "--from with a time: this is not done yet\n"),
-    ("check|--to|5ns|x.vcd", "--to with a time: this is not done yet\n"),
-    ("check|--quiet|5|x.vcd", "--quiet without --from: this is not done yet\n"),
+    (
+        "check|--at|5ns|x.vcd",
+        "--at with a time: this is not done yet\n",
+    ),
+    (
+        "check|--from|5ns|x.vcd",
+        "--from with a time: this is not done yet\n",
+    ),
+    (
+        "check|--to|5ns|x.vcd",
+        "--to with a time: this is not done yet\n",
+    ),
+    (
+        "check|--quiet|5|x.vcd",
+        "--quiet without --from: this is not done yet\n",
+    ),
 ];
 
 #[test]

@@ -128,7 +128,9 @@ fn parts_begin_and_end_where_they_say(rt: HostRuntime) {
             begin: *begin,
             to: *to,
         };
-        let checked = checked_part(alloc, &text, 64, &[], part).ok().expect(&rt, "checked");
+        let checked = checked_part(alloc, &text, 64, &[], part)
+            .ok()
+            .expect(&rt, "checked");
         match &checked.finding {
             Finding::Judged(_, told) => {
                 assert!(rt; told.judged.clocks == 3);

@@ -23,6 +23,9 @@ fn behind_each_history_the_next_agent_comes_first(rt: HostRuntime) {
         for _ in 0..3 {
             samples.push(asking).expect(&rt, "memory");
         }
-        assert!(rt; winner_at(&samples, 10) == Some(Who::Symmetric(next)), "{agent}");
+        assert!(rt;
+            winner_at(&samples, 10) == Some(Who::Symmetric(next)),
+            "{agent}"
+        );
     }
 }

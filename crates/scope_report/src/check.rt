@@ -203,7 +203,11 @@ fn put_start(text: &mut Vec<u8>, judged: &Judged) -> Result<(), AllocError> {
     if judged.judged == 0 || judged.start == 0 {
         Ok(())
     } else {
-        put_clock(text, u64::from(judged.start), " is the first that is judged: ")?;
+        put_clock(
+            text,
+            u64::from(judged.start),
+            " is the first that is judged: ",
+        )?;
         put_begin(text, judged.part.begin)
     }
 }

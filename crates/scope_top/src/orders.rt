@@ -320,12 +320,7 @@ pub fn ending_found(finding: &Finding) -> Ending
 }
 
 // Tells why a dump was not read.
-fn stopped<E: Sink>(
-    alloc: Global,
-    name: &str,
-    stop: ScopeStop,
-    err: &mut E,
-) -> Result<Ending, Stop>
+fn stopped<E: Sink>(alloc: Global, name: &str, stop: ScopeStop, err: &mut E) -> Result<Ending, Stop>
     ensures of_text { OnOk result (IsOfText stop) }
     ensures ends { IfOk result (λ ending. ending ≡ Ending.Unjudged) }
     ensures dump { result ≡ Err Stop.Dump → stop ≡ ScopeStop.ReadFault }

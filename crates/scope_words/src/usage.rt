@@ -107,7 +107,10 @@ fn with_part<'a>(
     let verb = with(verb, part(alloc, "at", "C", help));
     let help = "Judges from the first quiet clock at or above this one on";
     let verb = with(verb, part(alloc, "from", "C", help));
-    let verb = with(verb, part(alloc, "to", "C", "The last clock that is judged"));
+    let verb = with(
+        verb,
+        part(alloc, "to", "C", "The last clock that is judged"),
+    );
     let help = "How many clocks without an asserted line --from wants [default: 32]";
     with(verb, part(alloc, "quiet", "N", help))
 }
