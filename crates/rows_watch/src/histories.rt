@@ -1,7 +1,8 @@
 //! What may have come before a part that begins later.
 
+use fsb_arbiter::Arbiter;
 use fsb_signal::{Lines, Marks, Sample};
-use fsb_trace::{Who, verdict, winner_at};
+use fsb_trace::{Who, verdict};
 use scope_later::history_of;
 
 #[test]
@@ -16,16 +17,15 @@ fn each_history_is_accepted(rt: HostRuntime) {
 
 #[test]
 fn behind_each_history_the_next_agent_comes_first(rt: HostRuntime) {
-    let alloc = rt.alloc();
     let asking = Sample::known(Lines(15), 0, 0, 0);
     for (agent, next) in [(0, 1), (1, 2), (2, 3), (3, 0)] {
-        let mut samples = Vec::from_array(alloc, history_of(agent)).expect(&rt, "memory");
-        for _ in 0..3 {
-            samples.push(asking).expect(&rt, "memory");
+        let mut arbiter = Arbiter::new();
+        for sample in history_of(agent).iter() {
+            arbiter.absorb(sample);
         }
-        assert!(rt;
-            winner_at(&samples, 10) == Some(Who::Symmetric(next)),
-            "{agent}"
-        );
+        for _ in 0..2 {
+            arbiter.absorb(&asking);
+        }
+        assert!(rt; arbiter.winner() == Some(Who::Symmetric(next)), "{agent}");
     }
 }
