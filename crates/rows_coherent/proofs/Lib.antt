@@ -1,6 +1,6 @@
 pub mod Dated
-mod HandedOverBeforeArrival
-mod DeferredWithReply
-mod LostUpgradeHanded
+mod StoreHandedOverBeforeArrival
+mod DeferredAndReplied
+mod UpgradeLostAndHanded
 mod CoherentMore
 mod WorkedLoads

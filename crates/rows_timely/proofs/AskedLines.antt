@@ -13,12 +13,12 @@ use Rattle.fsb_hazard.proofs.Interface.{join_commutes, join_nothing}
 use Rattle.fsb_timely.specs.Asked.{IsChosen, IsHold, Asked}
 use Rattle.rows_timely.proofs.LaidOut.{some_request, told_lines, choice_for, choices_for, hold_for, holds_for}
 
-length-choices : (lines : List HazardLine) (n : ℕ) → length (choices_for lines n) ≡ n
+pub length-choices : (lines : List HazardLine) (n : ℕ) → length (choices_for lines n) ≡ n
 length-choices lines zero = refl
 length-choices lines (suc n) =
     length-append (choices_for lines n) (choice_for lines n ∷ []) ∙ ap (λ k. k + 1) (length-choices lines n) ∙ add-one n
 
-length-holds : (lines : List HazardLine) (n : ℕ) → length (holds_for lines n) ≡ n
+pub length-holds : (lines : List HazardLine) (n : ℕ) → length (holds_for lines n) ≡ n
 length-holds lines zero = refl
 length-holds lines (suc n) =
     length-append (holds_for lines n) (hold_for lines n ∷ []) ∙ ap (λ k. k + 1) (length-holds lines n) ∙ add-one n

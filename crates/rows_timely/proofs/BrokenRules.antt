@@ -1,8 +1,7 @@
 -- A changed run for each phase rule: a worked run in which one clock is another one breaks that rule there, and no rule
 -- before it, nor any rule at an earlier clock. All of it is computed.
 use Rattle.std.proofs.Common.{◌≡◌, refl, [], ◌∷◌, Some, lit<, set, take}
-use Rattle.fsb_signal.specs.declared.lines.TheConstants.Lines.{ADS, AERR, AP0, BNR, BREQ0, BREQ1, BREQ2, BREQ3, DBSY}
-use Rattle.fsb_signal.specs.declared.lines.TheConstants.Lines.{DRDY, HIT, LOCK, RP, RS0, RS1, RS2, TRDY}
+use Rattle.fsb_signal.specs.declared.lines.TheConstants.Lines.{HIT}
 use Rattle.fsb_signal.specs.declared.marks.Marks.{Marks}
 use Rattle.fsb_signal.specs.declared.sample.Sample.{Sample}
 use Rattle.fsb_signal.specs.Parity.{is_address_odd, is_request_odd, marks_in}
@@ -17,13 +16,15 @@ use Rattle.fsb_trace.specs.Rules.{is_id_taken_by, is_outstanding_of_winner, is_b
 use Rattle.fsb_trace.specs.Rules.{has_parity_at, is_address_parity_wrong, is_request_parity_wrong}
 use Rattle.fsb_trace.specs.Rules.{is_marked_address_wrong, is_marked_request_wrong, phase_rules, breaks}
 use Rattle.fsb_trace.specs.Verdict.{is_broken, breaks_a_rule, least_rule, verdict}
-use Rattle.rows_timely.proofs.DirtyVictimWrittenBack.{trace as victim_written_back}
-use Rattle.rows_timely.proofs.LaidOut.{changed, clock, idle}
-use Rattle.rows_timely.proofs.LoadThenStoreHit.{trace as load}
-use Rattle.rows_timely.proofs.LookAheadTwo.{trace as two_loads}
+use Rattle.rows_timely.proofs.DirtyVictimWrittenBack.{run as victim_written_back}
+use Rattle.rows_timely.proofs.LaidOut.{changed}
+use Rattle.rows_timely.proofs.LoadThenStoreHit.{run as load}
+use Rattle.rows_timely.proofs.LookAheadTwo.{run as two_loads}
 use Rattle.rows_timely.proofs.Opened.{opened}
-use Rattle.rows_timely.proofs.ParityOfALoad.{trace as load_with_parity}
-use Rattle.rows_timely.proofs.QueueFull.{trace as eight_in_flight}
+use Rattle.rows_timely.proofs.ParityOfALoad.{run as load_with_parity}
+use Rattle.rows_timely.proofs.QueueFull.{run as eight_in_flight}
+use Rattle.rows_timely.proofs.Words.{◌+◌, on, pair, chunk, idle, b0, b1, b2, b3, lock, bnr, ads, aerr, hit, rs, trdy}
+use Rattle.rows_timely.proofs.Words.{dbsy, drdy, ap0, rp}
 
 -- a sample in which HIT# is unknown
 abbrev pub unknown_hit : Sample
@@ -31,9 +32,7 @@ unknown_hit = record idle { unknown = record { 0 = HIT.0 }; disjoint = refl; lin
 
 -- the first chunk of a load, with a bit of D unknown
 abbrev pub unknown_chunk : Sample
-unknown_chunk = record (clock (RS0 ∷ RS1 ∷ RS2 ∷ DBSY ∷ DRDY ∷ []) 0x0 0x0 0x0) {
-  dbus = record { bits = 0; unknown = 1; disjoint = refl };
-}
+unknown_chunk = record (on (rs 7 + dbsy + drdy)) { dbus = record { bits = 0; unknown = 1; disjoint = refl } }
 
 -- a dump of profile 1, without parity lines, and one of profile 2, with both
 abbrev pub without_parity : Marks
@@ -44,29 +43,27 @@ with_parity = marks_in 2
 
 -- rule by rule: the changed clock, and the rule that is broken there first
 pub computes :
-    (verdict without_parity (changed load 5 unknown_hit) ≡ Some (5, 1))
-    × (verdict without_parity (changed load 4 (clock (BREQ0 ∷ ADS ∷ []) 0x6 0x8 0x0)) ≡ Some (4, 2))
-    × (verdict without_parity (changed load 3 (clock [] 0x3 0x2 0x0)) ≡ Some (3, 3))
-    × (verdict without_parity
-    (changed eight_in_flight 26 (clock (BREQ0 ∷ BREQ1 ∷ BREQ2 ∷ BREQ3 ∷ ADS ∷ DRDY ∷ []) 0x6 0x10 0x0))
+    (verdict without_parity (changed load.trace 5 unknown_hit) ≡ Some (5, 1))
+    × (verdict without_parity (changed load.trace 4 (pair (b0 + ads) 0x6 0x8)) ≡ Some (4, 2))
+    × (verdict without_parity (changed load.trace 3 (pair 0 0x3 0x2)) ≡ Some (3, 3))
+    × (verdict without_parity (changed eight_in_flight.trace 26 (pair (b0 + b1 + b2 + b3 + ads + drdy) 0x6 0x10))
     ≡ Some (26, 4))
-    × (verdict without_parity (take 3 (set load 0 (clock (BREQ0 ∷ BNR ∷ []) 0x0 0x0 0x0))) ≡ Some (2, 5))
-    × (verdict without_parity (take 3 (set load 0 idle)) ≡ Some (2, 6))
-    × (verdict without_parity (changed load 3 (clock [] 0x2 0x20002 0x0)) ≡ Some (3, 7))
-    × (verdict without_parity (changed load 3 (clock (BREQ0 ∷ []) 0x2 0x2 0x0)) ≡ Some (3, 8))
-    × (verdict without_parity (changed load 5 (clock (LOCK ∷ []) 0x0 0x0 0x0)) ≡ Some (5, 9))
-    × (verdict without_parity (changed load 4 (clock (AERR ∷ []) 0x0 0x0 0x0)) ≡ Some (4, 10))
-    × (verdict without_parity (changed load 5 (clock (HIT ∷ []) 0x0 0x0 0x0)) ≡ Some (5, 11))
-    × (verdict without_parity (changed victim_written_back 18 (clock (HIT ∷ []) 0x0 0x0 0x0)) ≡ Some (18, 12))
-    × (verdict without_parity (changed load 7 (clock (RS0 ∷ RS1 ∷ RS2 ∷ DBSY ∷ DRDY ∷ []) 0x0 0x0 0x7)) ≡ Some (7, 13))
-    × (verdict without_parity (changed load 8 (clock (RS0 ∷ []) 0x0 0x0 0x0)) ≡ Some (8, 14))
-    × (verdict without_parity (changed load 8 (clock (TRDY ∷ RS0 ∷ RS1 ∷ RS2 ∷ DBSY ∷ DRDY ∷ []) 0x0 0x0 0x7))
-    ≡ Some (8, 15))
-    × (verdict without_parity (changed load 9 (clock (DRDY ∷ []) 0x0 0x0 0x0)) ≡ Some (9, 16))
-    × (verdict without_parity (changed load 8 unknown_chunk) ≡ Some (8, 17))
-    × (verdict without_parity (changed two_loads 7 (clock [] 0x2 0x2 0x0)) ≡ Some (7, 18))
-    × (verdict with_parity (changed load_with_parity 2 (clock (BREQ0 ∷ ADS ∷ RP ∷ []) 0x6 0x8 0x0)) ≡ Some (2, 19))
-    × (verdict with_parity (changed load_with_parity 2 (clock (BREQ0 ∷ ADS ∷ AP0 ∷ []) 0x6 0x8 0x0)) ≡ Some (2, 20))
+    × (verdict without_parity (take 3 (set load.trace 0 (on (b0 + bnr)))) ≡ Some (2, 5))
+    × (verdict without_parity (take 3 (set load.trace 0 idle)) ≡ Some (2, 6))
+    × (verdict without_parity (changed load.trace 3 (pair 0 0x2 0x20002)) ≡ Some (3, 7))
+    × (verdict without_parity (changed load.trace 3 (pair b0 0x2 0x2)) ≡ Some (3, 8))
+    × (verdict without_parity (changed load.trace 5 (on lock)) ≡ Some (5, 9))
+    × (verdict without_parity (changed load.trace 4 (on aerr)) ≡ Some (4, 10))
+    × (verdict without_parity (changed load.trace 5 (on hit)) ≡ Some (5, 11))
+    × (verdict without_parity (changed victim_written_back.trace 18 (on hit)) ≡ Some (18, 12))
+    × (verdict without_parity (changed load.trace 7 (chunk (rs 7 + dbsy + drdy) 0x7)) ≡ Some (7, 13))
+    × (verdict without_parity (changed load.trace 8 (on (rs 1))) ≡ Some (8, 14))
+    × (verdict without_parity (changed load.trace 8 (chunk (rs 7 + trdy + dbsy + drdy) 0x7)) ≡ Some (8, 15))
+    × (verdict without_parity (changed load.trace 9 (on drdy)) ≡ Some (9, 16))
+    × (verdict without_parity (changed load.trace 8 unknown_chunk) ≡ Some (8, 17))
+    × (verdict without_parity (changed two_loads.trace 7 (pair 0 0x2 0x2)) ≡ Some (7, 18))
+    × (verdict with_parity (changed load_with_parity.trace 2 (pair (b0 + ads + rp) 0x6 0x8)) ≡ Some (2, 19))
+    × (verdict with_parity (changed load_with_parity.trace 2 (pair (b0 + ads + ap0) 0x6 0x8)) ≡ Some (2, 20))
 unfolding opened is_address_odd is_request_odd is_broken breaks_a_rule least_rule verdict
     has_unknown_line is_request_too_soon is_code_unlawful is_queue_full is_request_blocked has_no_winner
     is_own_id is_identified is_identity_wrong is_asked_wrongly is_some_asked_wrongly is_lock_alone is_error_alone

@@ -1,101 +1,14 @@
--- A load of chunk three: the chunks come in the order 3, 2, 1, 0.
-use Rattle.std.proofs.Common.{◌≡◌, ℕ, zero, suc, refl, List, [], ◌∷◌, None, true, false, replicate, arith, lit<}
-use Rattle.fsb_access.proofs.Interface.{steps_of-nobody}
-use Rattle.fsb_access.specs.ScriptOrder.{AreOfItems, script_of, steps_of}
-use Rattle.fsb_access.specs.declared.access.Access.TheVariants.{Load}
-use Rattle.fsb_access.specs.declared.item.Item.TheVariants.{One}
-use Rattle.fsb_access.specs.declared.log.Done.{Done}
-use Rattle.fsb_script.specs.Plans.{PlanView}
-use Rattle.fsb_signal.specs.declared.lines.TheConstants.Lines.{BREQ0, ADS, RS0, RS1, RS2, DBSY, DRDY}
-use Rattle.fsb_trace.specs.At.{Trace}
-use Rattle.fsb_timely.specs.Runs.{Run}
-use Rattle.fsb_timely.specs.Starts.{starts_requests}
-use Rattle.fsb_timely.specs.Carried.{carries_data}
-use Rattle.fsb_timely.specs.Timely.{holds_at, keeps}
-use Rattle.fsb_timely.specs.Simulated.{Simulated}
-use Rattle.fsb_timely.specs.Asked.{Asked}
-use Rattle.rows_timely.proofs.LaidOut.{clock, idle, changed, entry, setting, told_lines, run_of, every_part}
-use Rattle.rows_timely.proofs.Opened.{opened}
-use Rattle.rows_timely.proofs.Tests.{simulated_if, breaks_starts, breaks_data}
-use Rattle.rows_timely.proofs.AskedLines.{asked_for_lines}
-
-abbrev pub plan : PlanView
-plan = record {
-  scripts = (One (Load 8 0x58) ∷ []) ∷ [];
-  clocks = 60;
-  cache = 64;
-  ahead = 1;
-  profile = 1;
-  bridge = None;
-  mem = setting 0x58 0x01 ∷ setting 0x59 0x02 ∷ setting 0x5a 0x03 ∷ setting 0x5b 0x04 ∷ setting 0x5c 0x05
-      ∷ setting 0x5d 0x06 ∷ setting 0x5e 0x07 ∷ setting 0x5f 0x08 ∷ [];
-  hazards = [];
-}
-
-abbrev pub trace : Trace
-trace =
-    clock (BREQ0 ∷ []) 0x0 0x0 0x0
-    ∷ clock (BREQ0 ∷ []) 0x0 0x0 0x0
-    ∷ clock (BREQ0 ∷ ADS ∷ []) 0x6 0xb 0x0
-    ∷ clock [] 0x2 0x2 0x0
-    ∷ idle
-    ∷ idle
-    ∷ idle
-    ∷ idle
-    ∷ clock (RS0 ∷ RS1 ∷ RS2 ∷ DBSY ∷ DRDY ∷ []) 0x0 0x0 0x807060504030201
-    ∷ clock (DBSY ∷ DRDY ∷ []) 0x0 0x0 0x0
-    ∷ clock (DBSY ∷ DRDY ∷ []) 0x0 0x0 0x0
-    ∷ clock (DRDY ∷ []) 0x0 0x0 0x0
-    ∷ replicate 48 idle
-
-abbrev pub log : List Done
-log =
-    entry 11 0 0 0 (Load 8 0x58) 0x807060504030201
-    ∷ []
+-- Made by lab/worked_runs.py of the stored run burst_order_of_chunk_three; not to be edited.
+use Rattle.rows_timely.proofs.Words.{Run, scripted, plain, ◌+◌, [], ◌∷◌, ◌++◌, One, Load, setting, on, pair, chunk}
+use Rattle.rows_timely.proofs.Words.{idles, b0, ads, rs, dbsy, drdy, entry}
 
 abbrev pub run : Run
-run = run_of plan 1 trace log
-
--- the chunks come in ascending order
-abbrev pub run0 : Run
-run0 = run_of plan 1 (changed trace 8 (clock (RS0 ∷ RS1 ∷ RS2 ∷ DBSY ∷ DRDY ∷ []) 0x0 0x0 0x0)) log
-
--- chunk three comes with the last data
-abbrev pub run1 : Run
-run1 = run_of plan 1 (changed trace 11 (clock (DRDY ∷ []) 0x0 0x0 0x807060504030201)) log
-
--- the request has chunk 0
-abbrev pub run2 : Run
-run2 = run_of plan 1 (changed trace 2 (clock (BREQ0 ∷ ADS ∷ []) 0x6 0x8 0x0)) log
-
--- what is computed: the run keeps every part at each clock, and each changed run breaks one at the changed clock
-pub computes :
-    (keeps every_part run ≡ true)
-    × (holds_at carries_data run0 8 ≡ false)
-    × (holds_at carries_data run1 11 ≡ false)
-    × (holds_at starts_requests run2 2 ≡ false)
-unfolding opened
-computes = (refl, refl, refl, refl)
-
--- so the changed runs are no simulations
-pub none_is_simulated :
-    (¬ Simulated run0)
-    × (¬ Simulated run1)
-    × (¬ Simulated run2)
-unfolding opened
-none_is_simulated = (
-  breaks_data run0 8 (lit< tt) computes.1,
-  breaks_data run1 11 (lit< tt) computes.2,
-  breaks_starts run2 2 (lit< tt) computes.3,
-)
-
-follows : (agent : ℕ) → AreOfItems (script_of plan.scripts agent) (steps_of agent log)
-follows zero = record { items = 1; same = refl }
-follows (suc agent) = record { items = 0; same = steps_of-nobody 1 (suc agent) log refl (omega arith) }
-
-pub is_simulated : Simulated run
-unfolding opened
-is_simulated = simulated_if run computes.0 refl refl refl refl (record { follows = follows; together = refl }) refl
-
-pub is_asked : Asked (told_lines plan.hazards ∷ []) run.choices run.holds
-is_asked = asked_for_lines plan.hazards 1 60
+run = scripted
+    (record plain {
+      mem = setting 0x58 0x1 ∷ setting 0x59 0x2 ∷ setting 0x5a 0x3 ∷ setting 0x5b 0x4 ∷ setting 0x5c 0x5
+          ∷ setting 0x5d 0x6 ∷ setting 0x5e 0x7 ∷ setting 0x5f 0x8 ∷ [];
+    })
+    ((One (Load 8 0x58) ∷ []) ∷ [])
+    (on b0 ∷ on b0 ∷ pair (b0 + ads) 0x6 0xb ∷ pair 0 0x2 0x2 ∷ idles 4
+    ++ chunk (rs 7 + dbsy + drdy) 0x807060504030201 ∷ on (dbsy + drdy) ∷ on (dbsy + drdy) ∷ on drdy ∷ idles 48)
+    (entry 11 0 0 0 (Load 8 0x58) 0x807060504030201 ∷ [])

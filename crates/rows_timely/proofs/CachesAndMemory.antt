@@ -1,6 +1,5 @@
--- What caches and memory are to hold in the middle and at the end of five runs: the states, the bytes by the log,
--- and the
--- bytes that were put into memory.
+-- What caches and memory are to hold in the middle and at the end of five runs: the states, the bytes by the log, and
+-- the bytes that were put into memory.
 use Rattle.std.proofs.Common.{◌≡◌, true, false, refl, take, slice_index}
 use Rattle.fsb_line.specs.declared.state.Mesi.TheVariants.{Invalid, Shared, Exclusive, Modified}
 use Rattle.fsb_timely.specs.Runs.{Run, past_of}
@@ -8,26 +7,23 @@ use Rattle.fsb_timely.specs.Hits.{line_state_of}
 use Rattle.fsb_timely.specs.Kept.{is_named, bytes_now, bytes_put}
 use Rattle.rows_timely.proofs.Opened.{opened}
 use Rattle.rows_timely.proofs.LaidOut.{run_of}
-use Rattle.rows_timely.proofs.LoadThenStoreHit.{plan as hit_plan, trace as hit_trace, log as hit_log}
 use Rattle.rows_timely.proofs.LoadThenStoreHit.{run as hit_run}
-use Rattle.rows_timely.proofs.DirtyVictimWrittenBack.{plan as victim_plan, trace as victim_trace, log as victim_log}
 use Rattle.rows_timely.proofs.DirtyVictimWrittenBack.{run as victim_run}
-use Rattle.rows_timely.proofs.ThreeStoresChained.{plan as chain_plan, trace as chain_trace, log as chain_log}
 use Rattle.rows_timely.proofs.ThreeStoresChained.{run as chain_run}
 use Rattle.rows_timely.proofs.FourOwners.{run as owners_run}
 use Rattle.rows_timely.proofs.WindowEnds.{run as window_run}
 
 -- a load and a store that hits, after the load
 abbrev pub loaded : Run
-loaded = run_of hit_plan 1 (take 12 hit_trace) (take 1 hit_log)
+loaded = run_of hit_run.plan (take 12 hit_run.trace) (take 1 hit_run.log)
 
 -- a store, and the write-back of its line, before the write-back begins
 abbrev pub stored : Run
-stored = run_of victim_plan 1 (take 14 victim_trace) (take 1 victim_log)
+stored = run_of victim_run.plan (take 14 victim_run.trace) (take 1 victim_run.log)
 
 -- a line that is handed on twice, before its last bytes have come
 abbrev pub handing : Run
-handing = run_of chain_plan 3 (take 22 chain_trace) (take 2 chain_log)
+handing = run_of chain_run.plan (take 22 chain_run.trace) (take 2 chain_run.log)
 
 pub load_then_store_hit-keeps :
     (line_state_of (past_of loaded) 0 2 12 ≡ Exclusive)

@@ -9,7 +9,7 @@ use Rattle.fsb_timely.specs.Grants.{holds_line, is_ready}
 use Rattle.fsb_timely.specs.Kept.{Kept, is_named}
 use Rattle.rows_timely.proofs.Opened.{opened}
 use Rattle.rows_timely.proofs.LaidOut.{run_of}
-use Rattle.rows_timely.proofs.LoadThenStoreHit.{plan as hit_plan, trace as hit_trace, run as hit_run}
+use Rattle.rows_timely.proofs.LoadThenStoreHit.{run as hit_run}
 use Rattle.rows_timely.proofs.DirtyVictimWrittenBack.{run as victim_run}
 use Rattle.rows_timely.proofs.StoreHandedOverBeforeArrival.{run as handed_run}
 use Rattle.rows_timely.proofs.ThreeStoresChained.{run as chained_run}
@@ -18,7 +18,7 @@ use Rattle.rows_timely.proofs.LockedItemRetried.{run as locked_run}
 
 -- the load's line is held, and its bytes are still to come
 abbrev pub awaited : Run
-awaited = run_of hit_plan 1 (take 9 hit_trace) []
+awaited = run_of hit_run.plan (take 9 hit_run.trace) []
 
 -- the bytes that the plan sets
 abbrev pub old_bytes : List ℕ

@@ -1,107 +1,11 @@
--- A request is cancelled by an address error, and begins again.
-use Rattle.std.proofs.Common.{◌≡◌, ℕ, zero, suc, refl, List, [], ◌∷◌, None, true, false, replicate, arith, lit<}
-use Rattle.fsb_access.proofs.Interface.{steps_of-nobody}
-use Rattle.fsb_access.specs.ScriptOrder.{AreOfItems, script_of, steps_of}
-use Rattle.fsb_access.specs.declared.access.Access.TheVariants.{Load}
-use Rattle.fsb_access.specs.declared.item.Item.TheVariants.{One}
-use Rattle.fsb_access.specs.declared.log.Done.{Done}
-use Rattle.fsb_hazard.specs.declared.line.HazardLine.TheVariants.{Aerr as AerrLine}
-use Rattle.fsb_script.specs.Plans.{PlanView}
-use Rattle.fsb_signal.specs.declared.lines.TheConstants.Lines.{BREQ0, ADS, AERR, RS0, RS1, RS2, DBSY, DRDY}
-use Rattle.fsb_trace.specs.At.{Trace}
-use Rattle.fsb_timely.specs.Runs.{Run}
-use Rattle.fsb_timely.specs.Starts.{starts_requests, drives_request_lines}
-use Rattle.fsb_timely.specs.Snoops.{drives_hazards}
-use Rattle.fsb_timely.specs.Timely.{holds_at, keeps}
-use Rattle.fsb_timely.specs.Simulated.{Simulated}
-use Rattle.fsb_timely.specs.Asked.{Asked}
-use Rattle.rows_timely.proofs.LaidOut.{clock, idle, changed, entry, told_lines, run_of, every_part}
-use Rattle.rows_timely.proofs.Opened.{opened}
-use Rattle.rows_timely.proofs.Tests.{simulated_if, breaks_starts, breaks_request_lines, breaks_hazards}
-use Rattle.rows_timely.proofs.AskedLines.{asked_for_lines}
-
-abbrev pub plan : PlanView
-plan = record {
-  scripts = (One (Load 1 0x40) ∷ []) ∷ [];
-  clocks = 60;
-  cache = 64;
-  ahead = 1;
-  profile = 1;
-  bridge = None;
-  mem = [];
-  hazards = AerrLine 0 ∷ [];
-}
-
-abbrev pub trace : Trace
-trace =
-    clock (BREQ0 ∷ []) 0x0 0x0 0x0
-    ∷ clock (BREQ0 ∷ []) 0x0 0x0 0x0
-    ∷ clock (BREQ0 ∷ ADS ∷ []) 0x6 0x8 0x0
-    ∷ clock [] 0x2 0x2 0x0
-    ∷ idle
-    ∷ clock (AERR ∷ []) 0x0 0x0 0x0
-    ∷ clock (BREQ0 ∷ []) 0x0 0x0 0x0
-    ∷ clock (BREQ0 ∷ []) 0x0 0x0 0x0
-    ∷ clock (BREQ0 ∷ ADS ∷ []) 0x6 0x8 0x0
-    ∷ clock [] 0x2 0x2 0x0
-    ∷ idle
-    ∷ idle
-    ∷ idle
-    ∷ idle
-    ∷ clock (RS0 ∷ RS1 ∷ RS2 ∷ DBSY ∷ DRDY ∷ []) 0x0 0x0 0x0
-    ∷ clock (DBSY ∷ DRDY ∷ []) 0x0 0x0 0x0
-    ∷ clock (DBSY ∷ DRDY ∷ []) 0x0 0x0 0x0
-    ∷ clock (DRDY ∷ []) 0x0 0x0 0x0
-    ∷ replicate 42 idle
-
-abbrev pub log : List Done
-log =
-    entry 17 0 0 0 (Load 1 0x40) 0x0
-    ∷ []
+-- Made by lab/worked_runs.py of the stored run cancelled_by_address_error; not to be edited.
+use Rattle.rows_timely.proofs.Words.{Run, scripted, plain, ◌+◌, [], ◌∷◌, ◌++◌, One, Load, Aerr, on, pair, idle, idles}
+use Rattle.rows_timely.proofs.Words.{b0, ads, aerr, rs, dbsy, drdy, entry}
 
 abbrev pub run : Run
-run = run_of plan 2 trace log
-
--- AERR# is not asserted
-abbrev pub run0 : Run
-run0 = run_of plan 1 (changed trace 5 (idle)) log
-
--- BREQ0# comes again a clock early
-abbrev pub run1 : Run
-run1 = run_of plan 1 (changed trace 5 (clock (AERR ∷ BREQ0 ∷ []) 0x0 0x0 0x0)) log
-
--- the request begins again a clock early
-abbrev pub run2 : Run
-run2 = run_of plan 2 (changed trace 7 (clock (BREQ0 ∷ ADS ∷ []) 0x6 0x8 0x0)) log
-
--- what is computed: the run keeps every part at each clock, and each changed run breaks one at the changed clock
-pub computes :
-    (keeps every_part run ≡ true)
-    × (holds_at drives_hazards run0 5 ≡ false)
-    × (holds_at drives_request_lines run1 5 ≡ false)
-    × (holds_at starts_requests run2 7 ≡ false)
-unfolding opened
-computes = (refl, refl, refl, refl)
-
--- so the changed runs are no simulations
-pub none_is_simulated :
-    (¬ Simulated run0)
-    × (¬ Simulated run1)
-    × (¬ Simulated run2)
-unfolding opened
-none_is_simulated = (
-  breaks_hazards run0 5 (lit< tt) computes.1,
-  breaks_request_lines run1 5 (lit< tt) computes.2,
-  breaks_starts run2 7 (lit< tt) computes.3,
-)
-
-follows : (agent : ℕ) → AreOfItems (script_of plan.scripts agent) (steps_of agent log)
-follows zero = record { items = 1; same = refl }
-follows (suc agent) = record { items = 0; same = steps_of-nobody 1 (suc agent) log refl (omega arith) }
-
-pub is_simulated : Simulated run
-unfolding opened
-is_simulated = simulated_if run computes.0 refl refl refl refl (record { follows = follows; together = refl }) refl
-
-pub is_asked : Asked (told_lines plan.hazards ∷ []) run.choices run.holds
-is_asked = asked_for_lines plan.hazards 2 60
+run = scripted (record plain { hazards = Aerr 0 ∷ [] })
+    ((One (Load 1 0x40) ∷ []) ∷ [])
+    (on b0 ∷ on b0 ∷ pair (b0 + ads) 0x6 0x8 ∷ pair 0 0x2 0x2 ∷ idle ∷ on aerr ∷ on b0 ∷ on b0
+    ∷ pair (b0 + ads) 0x6 0x8 ∷ pair 0 0x2 0x2 ∷ idles 4 ++ on (rs 7 + dbsy + drdy) ∷ on (dbsy + drdy)
+    ∷ on (dbsy + drdy) ∷ on drdy ∷ idles 42)
+    (entry 17 0 0 0 (Load 1 0x40) 0x0 ∷ [])

@@ -1,115 +1,25 @@
--- A load is deferred in profile 2: upgrades of its line are retried until the reply.
-use Rattle.std.proofs.Common.{◌≡◌, ℕ, zero, suc, refl, List, [], ◌∷◌, Some, true, replicate, arith}
-use Rattle.fsb_access.proofs.Interface.{steps_of-nobody}
-use Rattle.fsb_access.specs.ScriptOrder.{AreOfItems, script_of, steps_of}
-use Rattle.fsb_access.specs.declared.access.Access.TheVariants.{Load, Store}
-use Rattle.fsb_access.specs.declared.access.Operand.TheVariants.{Literal}
-use Rattle.fsb_access.specs.declared.item.Item.TheVariants.{One}
-use Rattle.fsb_access.specs.declared.log.Done.{Done}
-use Rattle.fsb_hazard.specs.declared.line.HazardLine.TheVariants.{Defer as DeferLine}
-use Rattle.fsb_script.specs.Plans.{PlanView}
-use Rattle.fsb_signal.specs.declared.lines.TheConstants.Lines.{BREQ0, BREQ1, BPRI, ADS, HIT, HITM, DEFER, RS0, RS1, RS2}
-use Rattle.fsb_signal.specs.declared.lines.TheConstants.Lines.{TRDY, DBSY, DRDY, AP0, RP}
-use Rattle.fsb_trace.specs.At.{Trace}
-use Rattle.fsb_timely.specs.Runs.{Run}
-use Rattle.fsb_timely.specs.Timely.{keeps}
-use Rattle.fsb_timely.specs.Simulated.{Simulated}
-use Rattle.fsb_timely.specs.Asked.{Asked}
-use Rattle.rows_timely.proofs.LaidOut.{clock, idle, entry, told_lines, run_of, every_part}
-use Rattle.rows_timely.proofs.Opened.{opened}
-use Rattle.rows_timely.proofs.Tests.{simulated_if}
-use Rattle.rows_timely.proofs.AskedLines.{asked_for_lines}
-
-abbrev pub plan : PlanView
-plan = record {
-  scripts = (One (Load 1 0x1000) ∷ One (Store 1 0x1000 (Literal 0x4)) ∷ [])
-      ∷ (One (Load 1 0x1000) ∷ One (Store 1 0x1000 (Literal 0x3)) ∷ []) ∷ [];
-  clocks = 90;
-  cache = 64;
-  ahead = 1;
-  profile = 2;
-  bridge = Some (record { base = 0x1000; size = 0x20 });
-  mem = [];
-  hazards = DeferLine 0 10 ∷ [];
-}
-
-abbrev pub trace : Trace
-trace =
-    clock (BREQ0 ∷ BREQ1 ∷ []) 0x0 0x0 0x0
-    ∷ clock (BREQ0 ∷ BREQ1 ∷ []) 0x0 0x0 0x0
-    ∷ clock (BREQ0 ∷ BREQ1 ∷ ADS ∷ AP0 ∷ RP ∷ []) 0x6 0x200 0x0
-    ∷ clock (BREQ1 ∷ AP0 ∷ RP ∷ []) 0x2 0x2 0x0
-    ∷ clock (BREQ1 ∷ []) 0x0 0x0 0x0
-    ∷ clock (BREQ1 ∷ ADS ∷ AP0 ∷ RP ∷ []) 0x6 0x200 0x0
-    ∷ clock (DEFER ∷ RP ∷ []) 0x2 0x20002 0x0
-    ∷ idle
-    ∷ clock (RS1 ∷ []) 0x0 0x0 0x0
-    ∷ clock (DEFER ∷ []) 0x0 0x0 0x0
-    ∷ idle
-    ∷ clock (RS0 ∷ []) 0x0 0x0 0x0
-    ∷ clock (BREQ1 ∷ []) 0x0 0x0 0x0
-    ∷ clock (BREQ1 ∷ []) 0x0 0x0 0x0
-    ∷ clock (BREQ1 ∷ ADS ∷ AP0 ∷ RP ∷ []) 0x6 0x200 0x0
-    ∷ clock (RP ∷ []) 0x2 0x20002 0x0
-    ∷ idle
-    ∷ idle
-    ∷ clock (DEFER ∷ []) 0x0 0x0 0x0
-    ∷ clock (BPRI ∷ []) 0x0 0x0 0x0
-    ∷ clock (BPRI ∷ RS0 ∷ []) 0x0 0x0 0x0
-    ∷ clock (BREQ1 ∷ BPRI ∷ ADS ∷ RP ∷ []) 0x0 0x0 0x0
-    ∷ clock (BREQ1 ∷ []) 0x0 0x0 0x0
-    ∷ clock (BREQ1 ∷ []) 0x0 0x0 0x0
-    ∷ clock (BREQ1 ∷ ADS ∷ AP0 ∷ RP ∷ []) 0x6 0x200 0x0
-    ∷ clock (RP ∷ []) 0x2 0x20002 0x0
-    ∷ idle
-    ∷ clock (RS0 ∷ RS1 ∷ RS2 ∷ DBSY ∷ DRDY ∷ []) 0x0 0x0 0x0
-    ∷ clock (HIT ∷ DBSY ∷ DRDY ∷ []) 0x0 0x0 0x0
-    ∷ clock (DBSY ∷ DRDY ∷ []) 0x0 0x0 0x0
-    ∷ clock (DRDY ∷ []) 0x0 0x0 0x0
-    ∷ clock (BREQ0 ∷ RS0 ∷ RS1 ∷ RS2 ∷ DBSY ∷ DRDY ∷ []) 0x0 0x0 0x0
-    ∷ clock (BREQ0 ∷ DBSY ∷ DRDY ∷ []) 0x0 0x0 0x0
-    ∷ clock (BREQ0 ∷ ADS ∷ DBSY ∷ DRDY ∷ AP0 ∷ []) 0x2 0x200 0x0
-    ∷ clock (DRDY ∷ []) 0x0 0x0 0x0
-    ∷ clock (BREQ1 ∷ []) 0x0 0x0 0x0
-    ∷ clock (BREQ1 ∷ []) 0x0 0x0 0x0
-    ∷ clock (BREQ1 ∷ ADS ∷ HIT ∷ AP0 ∷ []) 0x2 0x200 0x0
-    ∷ clock (AP0 ∷ []) 0x0 0x20000 0x0
-    ∷ clock (RS0 ∷ RS2 ∷ []) 0x0 0x0 0x0
-    ∷ idle
-    ∷ clock (HITM ∷ []) 0x0 0x0 0x0
-    ∷ idle
-    ∷ clock (TRDY ∷ []) 0x0 0x0 0x0
-    ∷ idle
-    ∷ clock (RS1 ∷ RS2 ∷ DBSY ∷ DRDY ∷ []) 0x0 0x0 0x4
-    ∷ clock (DBSY ∷ DRDY ∷ []) 0x0 0x0 0x0
-    ∷ clock (DBSY ∷ DRDY ∷ []) 0x0 0x0 0x0
-    ∷ clock (DRDY ∷ []) 0x0 0x0 0x0
-    ∷ replicate 41 idle
-
-abbrev pub log : List Done
-log =
-    entry 30 0 0 0 (Load 1 0x1000) 0x0
-    ∷ entry 34 1 0 0 (Load 1 0x1000) 0x0
-    ∷ entry 39 0 1 0 (Store 1 0x1000 (Literal 0x4)) 0x4
-    ∷ entry 48 1 1 0 (Store 1 0x1000 (Literal 0x3)) 0x3
-    ∷ []
+-- Made by lab/worked_runs.py of the stored run deferred_with_upgrades; not to be edited.
+use Rattle.rows_timely.proofs.Words.{Run, scripted, plain, ◌+◌, [], ◌∷◌, Some, One, Load, Store, Literal, Defer, on}
+use Rattle.rows_timely.proofs.Words.{pair, chunk, idle, idles, b0, b1, bpri, ads, hit, hitm, defer, rs, trdy, dbsy}
+use Rattle.rows_timely.proofs.Words.{drdy, ap0, rp, entry}
 
 abbrev pub run : Run
-run = run_of plan 7 trace log
-
--- what is computed: the run keeps every part at each clock
-pub computes : keeps every_part run ≡ true
-unfolding opened
-computes = refl
-
-follows : (agent : ℕ) → AreOfItems (script_of plan.scripts agent) (steps_of agent log)
-follows zero = record { items = 2; same = refl }
-follows (suc zero) = record { items = 2; same = refl }
-follows (suc (suc agent)) = record { items = 0; same = steps_of-nobody 2 (suc (suc agent)) log refl (omega arith) }
-
-pub is_simulated : Simulated run
-unfolding opened
-is_simulated = simulated_if run computes refl refl refl refl (record { follows = follows; together = refl }) refl
-
-pub is_asked : Asked (told_lines plan.hazards ∷ []) run.choices run.holds
-is_asked = asked_for_lines plan.hazards 7 90
+run = scripted
+    (record plain {
+      clocks = 90;
+      profile = 2;
+      bridge = Some (record { base = 0x1000; size = 0x20 });
+      hazards = Defer 0 10 ∷ [];
+    })
+    ((One (Load 1 0x1000) ∷ One (Store 1 0x1000 (Literal 0x4)) ∷ []) ∷ (One (Load 1 0x1000)
+    ∷ One (Store 1 0x1000 (Literal 0x3)) ∷ []) ∷ [])
+    (on (b0 + b1) ∷ on (b0 + b1) ∷ pair (b0 + b1 + ads + ap0 + rp) 0x6 0x200 ∷ pair (b1 + ap0 + rp) 0x2 0x2 ∷ on b1
+    ∷ pair (b1 + ads + ap0 + rp) 0x6 0x200 ∷ pair (defer + rp) 0x2 0x20002 ∷ idle ∷ on (rs 2) ∷ on defer ∷ idle
+    ∷ on (rs 1) ∷ on b1 ∷ on b1 ∷ pair (b1 + ads + ap0 + rp) 0x6 0x200 ∷ pair rp 0x2 0x20002 ∷ idle ∷ idle ∷ on defer
+    ∷ on bpri ∷ on (bpri + rs 1) ∷ on (b1 + bpri + ads + rp) ∷ on b1 ∷ on b1 ∷ pair (b1 + ads + ap0 + rp) 0x6 0x200
+    ∷ pair rp 0x2 0x20002 ∷ idle ∷ on (rs 7 + dbsy + drdy) ∷ on (hit + dbsy + drdy) ∷ on (dbsy + drdy) ∷ on drdy
+    ∷ on (b0 + rs 7 + dbsy + drdy) ∷ on (b0 + dbsy + drdy) ∷ pair (b0 + ads + dbsy + drdy + ap0) 0x2 0x200 ∷ on drdy
+    ∷ on b1 ∷ on b1 ∷ pair (b1 + ads + hit + ap0) 0x2 0x200 ∷ pair ap0 0x0 0x20000 ∷ on (rs 5) ∷ idle ∷ on hitm ∷ idle
+    ∷ on trdy ∷ idle ∷ chunk (rs 6 + dbsy + drdy) 0x4 ∷ on (dbsy + drdy) ∷ on (dbsy + drdy) ∷ on drdy ∷ idles 41)
+    (entry 30 0 0 0 (Load 1 0x1000) 0x0 ∷ entry 34 1 0 0 (Load 1 0x1000) 0x0
+    ∷ entry 39 0 1 0 (Store 1 0x1000 (Literal 0x4)) 0x4 ∷ entry 48 1 1 0 (Store 1 0x1000 (Literal 0x3)) 0x3 ∷ [])

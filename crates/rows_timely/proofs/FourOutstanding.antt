@@ -1,132 +1,15 @@
--- One agent has four requests outstanding.
-use Rattle.std.proofs.Common.{◌≡◌, ℕ, zero, suc, refl, List, [], ◌∷◌, None, true, false, replicate, arith, lit<}
-use Rattle.fsb_access.proofs.Interface.{steps_of-nobody}
-use Rattle.fsb_access.specs.ScriptOrder.{AreOfItems, script_of, steps_of}
-use Rattle.fsb_access.specs.declared.access.Access.TheVariants.{Load}
-use Rattle.fsb_access.specs.declared.item.Item.TheVariants.{One}
-use Rattle.fsb_access.specs.declared.log.Done.{Done}
-use Rattle.fsb_script.specs.Plans.{PlanView}
-use Rattle.fsb_signal.specs.declared.lines.TheConstants.Lines.{BREQ0, ADS, RS0, RS1, RS2, DBSY, DRDY}
-use Rattle.fsb_trace.specs.At.{Trace}
-use Rattle.fsb_timely.specs.Runs.{Run}
-use Rattle.fsb_timely.specs.Starts.{starts_requests, drives_request_lines}
-use Rattle.fsb_timely.specs.Transfers.{drives_responses}
-use Rattle.fsb_timely.specs.Completions.{logs_completions}
-use Rattle.fsb_timely.specs.Timely.{holds_at, keeps}
-use Rattle.fsb_timely.specs.Simulated.{Simulated}
-use Rattle.fsb_timely.specs.Asked.{Asked}
-use Rattle.rows_timely.proofs.LaidOut.{clock, idle, changed, entry, told_lines, run_of, every_part}
-use Rattle.rows_timely.proofs.Opened.{opened}
-use Rattle.rows_timely.proofs.Tests.{simulated_if, breaks_starts, breaks_request_lines, breaks_responses}
-use Rattle.rows_timely.proofs.Tests.{breaks_completions}
-use Rattle.rows_timely.proofs.AskedLines.{asked_for_lines}
-
-abbrev pub plan : PlanView
-plan = record {
-  scripts = (One (Load 1 0x40) ∷ One (Load 1 0x80) ∷ One (Load 1 0xc0) ∷ One (Load 1 0x100) ∷ []) ∷ [];
-  clocks = 60;
-  cache = 64;
-  ahead = 4;
-  profile = 1;
-  bridge = None;
-  mem = [];
-  hazards = [];
-}
-
-abbrev pub trace : Trace
-trace =
-    clock (BREQ0 ∷ []) 0x0 0x0 0x0
-    ∷ clock (BREQ0 ∷ []) 0x0 0x0 0x0
-    ∷ clock (BREQ0 ∷ ADS ∷ []) 0x6 0x8 0x0
-    ∷ clock [] 0x2 0x2 0x0
-    ∷ clock (BREQ0 ∷ []) 0x0 0x0 0x0
-    ∷ clock (BREQ0 ∷ []) 0x0 0x0 0x0
-    ∷ clock (BREQ0 ∷ ADS ∷ []) 0x6 0x10 0x0
-    ∷ clock [] 0x2 0x2002 0x0
-    ∷ clock (BREQ0 ∷ RS0 ∷ RS1 ∷ RS2 ∷ DBSY ∷ DRDY ∷ []) 0x0 0x0 0x0
-    ∷ clock (BREQ0 ∷ DBSY ∷ DRDY ∷ []) 0x0 0x0 0x0
-    ∷ clock (BREQ0 ∷ ADS ∷ DBSY ∷ DRDY ∷ []) 0x6 0x18 0x0
-    ∷ clock (DRDY ∷ []) 0x2 0x4002 0x0
-    ∷ clock (BREQ0 ∷ RS0 ∷ RS1 ∷ RS2 ∷ DBSY ∷ DRDY ∷ []) 0x0 0x0 0x0
-    ∷ clock (BREQ0 ∷ DBSY ∷ DRDY ∷ []) 0x0 0x0 0x0
-    ∷ clock (BREQ0 ∷ ADS ∷ DBSY ∷ DRDY ∷ []) 0x6 0x20 0x0
-    ∷ clock (DRDY ∷ []) 0x2 0x2 0x0
-    ∷ clock (RS0 ∷ RS1 ∷ RS2 ∷ DBSY ∷ DRDY ∷ []) 0x0 0x0 0x0
-    ∷ clock (DBSY ∷ DRDY ∷ []) 0x0 0x0 0x0
-    ∷ clock (DBSY ∷ DRDY ∷ []) 0x0 0x0 0x0
-    ∷ clock (DRDY ∷ []) 0x0 0x0 0x0
-    ∷ clock (RS0 ∷ RS1 ∷ RS2 ∷ DBSY ∷ DRDY ∷ []) 0x0 0x0 0x0
-    ∷ clock (DBSY ∷ DRDY ∷ []) 0x0 0x0 0x0
-    ∷ clock (DBSY ∷ DRDY ∷ []) 0x0 0x0 0x0
-    ∷ clock (DRDY ∷ []) 0x0 0x0 0x0
-    ∷ replicate 36 idle
-
-abbrev pub log : List Done
-log =
-    entry 11 0 0 0 (Load 1 0x40) 0x0
-    ∷ entry 15 0 1 0 (Load 1 0x80) 0x0
-    ∷ entry 19 0 2 0 (Load 1 0xc0) 0x0
-    ∷ entry 23 0 3 0 (Load 1 0x100) 0x0
-    ∷ []
+-- Made by lab/worked_runs.py of the stored run four_outstanding; not to be edited.
+use Rattle.rows_timely.proofs.Words.{Run, scripted, plain, ◌+◌, [], ◌∷◌, One, Load, on, pair, idles, b0, ads, rs, dbsy}
+use Rattle.rows_timely.proofs.Words.{drdy, entry}
 
 abbrev pub run : Run
-run = run_of plan 4 trace log
-
--- the fourth load is not asked for ahead
-abbrev pub run0 : Run
-run0 = run_of plan 3 (changed trace 12 (clock (RS0 ∷ RS1 ∷ RS2 ∷ DBSY ∷ DRDY ∷ []) 0x0 0x0 0x0)) log
-
--- the third request takes the first ID
-abbrev pub run1 : Run
-run1 = run_of plan 3 (changed trace 11 (clock (DRDY ∷ []) 0x2 0x2 0x0)) log
-
--- the fourth response comes a clock early
-abbrev pub run2 : Run
-run2 = run_of plan 4 (changed trace 19 (clock (RS0 ∷ RS1 ∷ RS2 ∷ DBSY ∷ DRDY ∷ []) 0x0 0x0 0x0)) log
-
--- the fourth load is logged with the third
-abbrev pub log3 : List Done
-log3 =
-    entry 11 0 0 0 (Load 1 0x40) 0x0
-    ∷ entry 15 0 1 0 (Load 1 0x80) 0x0
-    ∷ entry 19 0 2 0 (Load 1 0xc0) 0x0
-    ∷ entry 19 0 3 0 (Load 1 0x100) 0x0
-    ∷ []
-
-abbrev pub run3 : Run
-run3 = run_of plan 4 trace log3
-
--- what is computed: the run keeps every part at each clock, and each changed run breaks one at the changed clock
-pub computes :
-    (keeps every_part run ≡ true)
-    × (holds_at drives_request_lines run0 12 ≡ false)
-    × (holds_at starts_requests run1 11 ≡ false)
-    × (holds_at drives_responses run2 19 ≡ false)
-    × (holds_at logs_completions run3 19 ≡ false)
-unfolding opened
-computes = (refl, refl, refl, refl, refl)
-
--- so the changed runs are no simulations
-pub none_is_simulated :
-    (¬ Simulated run0)
-    × (¬ Simulated run1)
-    × (¬ Simulated run2)
-    × (¬ Simulated run3)
-unfolding opened
-none_is_simulated = (
-  breaks_request_lines run0 12 (lit< tt) computes.1,
-  breaks_starts run1 11 (lit< tt) computes.2,
-  breaks_responses run2 19 (lit< tt) computes.3,
-  breaks_completions run3 19 (lit< tt) computes.4,
-)
-
-follows : (agent : ℕ) → AreOfItems (script_of plan.scripts agent) (steps_of agent log)
-follows zero = record { items = 4; same = refl }
-follows (suc agent) = record { items = 0; same = steps_of-nobody 1 (suc agent) log refl (omega arith) }
-
-pub is_simulated : Simulated run
-unfolding opened
-is_simulated = simulated_if run computes.0 refl refl refl refl (record { follows = follows; together = refl }) refl
-
-pub is_asked : Asked (told_lines plan.hazards ∷ []) run.choices run.holds
-is_asked = asked_for_lines plan.hazards 4 60
+run = scripted (record plain { ahead = 4 })
+    ((One (Load 1 0x40) ∷ One (Load 1 0x80) ∷ One (Load 1 0xc0) ∷ One (Load 1 0x100) ∷ []) ∷ [])
+    (on b0 ∷ on b0 ∷ pair (b0 + ads) 0x6 0x8 ∷ pair 0 0x2 0x2 ∷ on b0 ∷ on b0 ∷ pair (b0 + ads) 0x6 0x10
+    ∷ pair 0 0x2 0x2002 ∷ on (b0 + rs 7 + dbsy + drdy) ∷ on (b0 + dbsy + drdy)
+    ∷ pair (b0 + ads + dbsy + drdy) 0x6 0x18 ∷ pair drdy 0x2 0x4002 ∷ on (b0 + rs 7 + dbsy + drdy)
+    ∷ on (b0 + dbsy + drdy) ∷ pair (b0 + ads + dbsy + drdy) 0x6 0x20 ∷ pair drdy 0x2 0x2 ∷ on (rs 7 + dbsy + drdy)
+    ∷ on (dbsy + drdy) ∷ on (dbsy + drdy) ∷ on drdy ∷ on (rs 7 + dbsy + drdy) ∷ on (dbsy + drdy) ∷ on (dbsy + drdy)
+    ∷ on drdy ∷ idles 36)
+    (entry 11 0 0 0 (Load 1 0x40) 0x0 ∷ entry 15 0 1 0 (Load 1 0x80) 0x0 ∷ entry 19 0 2 0 (Load 1 0xc0) 0x0
+    ∷ entry 23 0 3 0 (Load 1 0x100) 0x0 ∷ [])

@@ -1,7 +1,8 @@
 -- What caches and memory hold at the end of ten runs of one line: the state at each agent, the line's bytes, and
 -- memory's.
 use Rattle.std.proofs.Common.{◌≡◌, ◌<◌, ℕ, zero, suc, false, refl, sym, ap, ◌∙◌, subst, List, ◌∷◌, length}
-use Rattle.std.proofs.Common.{replicate, IsTrue, arith}
+use Rattle.std.proofs.Common.{replicate, nat_le, true, IsTrue, arith}
+use Rattle.std.proofs.lemmas.Bool.{leb-true}
 use Rattle.std.proofs.lemmas.Bool.Decides.{nat_tests}
 use Rattle.fsb_line.specs.declared.state.Mesi.{Mesi}
 use Rattle.fsb_line.specs.declared.state.Mesi.TheVariants.{Invalid, Exclusive, Modified}
@@ -43,7 +44,7 @@ kept_if r only state bytes memory named states copies put = record {
   put = λ line n. put ∙ ap (bytes_put r) (sym (named line n));
 }
 
--- the state at agent 0, at agent 1, and at the others
+-- the state at agent 0, at agent 1, and at agent 2
 abbrev three : Mesi → Mesi → Mesi → ℕ → Mesi
 three s t u zero = s
 three s t u (suc zero) = t
@@ -53,180 +54,89 @@ three s t u (suc (suc a)) = u
 abbrev first_byte : ℕ → List ℕ
 first_byte n = n ∷ replicate 31 0
 
+-- the same for line 2 and up to three agents, each clause computed
+three_kept : (r : Run) (s t u : Mesi) (bytes memory : List ℕ)
+    → ((line : ℕ) → IsTrue (is_named r line) → line ≡ 2)
+    → nat_le (length r.plan.scripts) 3 ≡ true
+    → s ≡ line_state_of (past_of r) 0 2 (length r.trace)
+    → t ≡ line_state_of (past_of r) 1 2 (length r.trace)
+    → u ≡ line_state_of (past_of r) 2 2 (length r.trace)
+    → bytes ≡ bytes_now r 2 → memory ≡ bytes_put r 2
+    → Kept r (λ a line. three s t u a) (λ a line. bytes) (λ line. memory)
+three_kept r s t u bytes memory named few at_0 at_1 at_2 = kept_if r 2 (three s t u) bytes memory named states
+  where
+    states : (a : ℕ) → a < length r.plan.scripts → three s t u a ≡ line_state_of (past_of r) a 2 (length r.trace)
+    states zero l = at_0
+    states (suc zero) l = at_1
+    states (suc (suc zero)) l = at_2
+    states (suc (suc (suc a))) l = absurd (let m = leb-true (length r.plan.scripts) 3 few in omega arith)
+
 -- a load that was retried once
-retried_names : (line : ℕ) → IsTrue (is_named retried_run line) → line ≡ 2
-unfolding opened
-retried_names line n = grind (arith, nat_tests)
-
-retried_states : (a : ℕ) → a < 1
-    → three Exclusive Invalid Invalid a ≡ line_state_of (past_of retried_run) a 2 (length retried_run.trace)
-unfolding opened
-retried_states zero l = refl
-retried_states (suc a) l = absurd (omega arith)
-
 pub retried_is_kept : Kept retried_run (λ a line. three Exclusive Invalid Invalid a) (λ a line. first_byte 0)
     (λ line. first_byte 0)
 unfolding opened
-retried_is_kept = kept_if retried_run 2 (three Exclusive Invalid Invalid) (first_byte 0) (first_byte 0)
-    retried_names retried_states refl refl
+retried_is_kept = three_kept retried_run Exclusive Invalid Invalid (first_byte 0) (first_byte 0)
+    (λ line n. grind (arith, nat_tests)) refl refl refl refl refl refl
 
 -- a load whose snoop was stalled
-stalled_names : (line : ℕ) → IsTrue (is_named stalled_run line) → line ≡ 2
-unfolding opened
-stalled_names line n = grind (arith, nat_tests)
-
-stalled_states : (a : ℕ) → a < 1
-    → three Exclusive Invalid Invalid a ≡ line_state_of (past_of stalled_run) a 2 (length stalled_run.trace)
-unfolding opened
-stalled_states zero l = refl
-stalled_states (suc a) l = absurd (omega arith)
-
 pub stalled_is_kept : Kept stalled_run (λ a line. three Exclusive Invalid Invalid a) (λ a line. first_byte 0)
     (λ line. first_byte 0)
 unfolding opened
-stalled_is_kept = kept_if stalled_run 2 (three Exclusive Invalid Invalid) (first_byte 0) (first_byte 0)
-    stalled_names stalled_states refl refl
+stalled_is_kept = three_kept stalled_run Exclusive Invalid Invalid (first_byte 0) (first_byte 0)
+    (λ line n. grind (arith, nat_tests)) refl refl refl refl refl refl
 
 -- a load that was cancelled once
-cancelled_names : (line : ℕ) → IsTrue (is_named cancelled_run line) → line ≡ 2
+pub cancelled_is_kept : Kept cancelled_run (λ a line. three Exclusive Invalid Invalid a) (λ a line. first_byte 0)
+    (λ line. first_byte 0)
 unfolding opened
-cancelled_names line n = grind (arith, nat_tests)
-
-cancelled_states : (a : ℕ) → a < 1
-    → three Exclusive Invalid Invalid a ≡ line_state_of (past_of cancelled_run) a 2 (length cancelled_run.trace)
-unfolding opened
-cancelled_states zero l = refl
-cancelled_states (suc a) l = absurd (omega arith)
-
-pub cancelled_is_kept : Kept cancelled_run (λ a line. three Exclusive Invalid Invalid a)
-    (λ a line. first_byte 0) (λ line. first_byte 0)
-unfolding opened
-cancelled_is_kept = kept_if cancelled_run 2 (three Exclusive Invalid Invalid) (first_byte 0) (first_byte 0)
-    cancelled_names cancelled_states refl refl
+cancelled_is_kept = three_kept cancelled_run Exclusive Invalid Invalid (first_byte 0) (first_byte 0)
+    (λ line n. grind (arith, nat_tests)) refl refl refl refl refl refl
 
 -- a store into a line that was handed over: memory took the line on its way
-handed_names : (line : ℕ) → IsTrue (is_named handed_run line) → line ≡ 2
-unfolding opened
-handed_names line n = grind (arith, nat_tests)
-
-handed_states : (a : ℕ) → a < 2
-    → three Invalid Modified Invalid a ≡ line_state_of (past_of handed_run) a 2 (length handed_run.trace)
-unfolding opened
-handed_states zero l = refl
-handed_states (suc zero) l = refl
-handed_states (suc (suc a)) l = absurd (omega arith)
-
 pub handed_is_kept : Kept handed_run (λ a line. three Invalid Modified Invalid a) (λ a line. first_byte 2)
     (λ line. first_byte 1)
 unfolding opened
-handed_is_kept = kept_if handed_run 2 (three Invalid Modified Invalid) (first_byte 2) (first_byte 1)
-    handed_names handed_states refl refl
+handed_is_kept = three_kept handed_run Invalid Modified Invalid (first_byte 2) (first_byte 1)
+    (λ line n. grind (arith, nat_tests)) refl refl refl refl refl refl
 
 -- three stores: memory has the second one
-chained_names : (line : ℕ) → IsTrue (is_named chained_run line) → line ≡ 2
-unfolding opened
-chained_names line n = grind (arith, nat_tests)
-
-chained_states : (a : ℕ) → a < 3
-    → three Invalid Invalid Modified a ≡ line_state_of (past_of chained_run) a 2 (length chained_run.trace)
-unfolding opened
-chained_states zero l = refl
-chained_states (suc zero) l = refl
-chained_states (suc (suc zero)) l = refl
-chained_states (suc (suc (suc a))) l = absurd (omega arith)
-
 pub chained_is_kept : Kept chained_run (λ a line. three Invalid Invalid Modified a) (λ a line. first_byte 3)
     (λ line. first_byte 2)
 unfolding opened
-chained_is_kept = kept_if chained_run 2 (three Invalid Invalid Modified) (first_byte 3) (first_byte 2)
-    chained_names chained_states refl refl
+chained_is_kept = three_kept chained_run Invalid Invalid Modified (first_byte 3) (first_byte 2)
+    (λ line n. grind (arith, nat_tests)) refl refl refl refl refl refl
 
 -- a line that was handed over though a retry was chosen
-overriding_names : (line : ℕ) → IsTrue (is_named overriding_run line) → line ≡ 2
+pub overriding_is_kept : Kept overriding_run (λ a line. three Invalid Modified Invalid a) (λ a line. first_byte 2)
+    (λ line. first_byte 1)
 unfolding opened
-overriding_names line n = grind (arith, nat_tests)
-
-overriding_states : (a : ℕ) → a < 2
-    → three Invalid Modified Invalid a ≡ line_state_of (past_of overriding_run) a 2 (length overriding_run.trace)
-unfolding opened
-overriding_states zero l = refl
-overriding_states (suc zero) l = refl
-overriding_states (suc (suc a)) l = absurd (omega arith)
-
-pub overriding_is_kept : Kept overriding_run (λ a line. three Invalid Modified Invalid a)
-    (λ a line. first_byte 2) (λ line. first_byte 1)
-unfolding opened
-overriding_is_kept = kept_if overriding_run 2 (three Invalid Modified Invalid) (first_byte 2) (first_byte 1)
-    overriding_names overriding_states refl refl
+overriding_is_kept = three_kept overriding_run Invalid Modified Invalid (first_byte 2) (first_byte 1)
+    (λ line n. grind (arith, nat_tests)) refl refl refl refl refl refl
 
 -- a load and a store that hits, in profile 2
-parity_names : (line : ℕ) → IsTrue (is_named parity_run line) → line ≡ 2
+pub parity_is_kept : Kept parity_run (λ a line. three Modified Invalid Invalid a) (λ a line. 7 ∷ 5 ∷ replicate 30 0)
+    (λ line. first_byte 7)
 unfolding opened
-parity_names line n = grind (arith, nat_tests)
-
-parity_states : (a : ℕ) → a < 1
-    → three Modified Invalid Invalid a ≡ line_state_of (past_of parity_run) a 2 (length parity_run.trace)
-unfolding opened
-parity_states zero l = refl
-parity_states (suc a) l = absurd (omega arith)
-
-pub parity_is_kept : Kept parity_run (λ a line. three Modified Invalid Invalid a)
-    (λ a line. 7 ∷ 5 ∷ replicate 30 0) (λ line. first_byte 7)
-unfolding opened
-parity_is_kept = kept_if parity_run 2 (three Modified Invalid Invalid) (7 ∷ 5 ∷ replicate 30 0) (first_byte 7)
-    parity_names parity_states refl refl
+parity_is_kept = three_kept parity_run Modified Invalid Invalid (7 ∷ 5 ∷ replicate 30 0) (first_byte 7)
+    (λ line n. grind (arith, nat_tests)) refl refl refl refl refl refl
 
 -- an upgrade that won: memory has nothing of the store
-upgraded_names : (line : ℕ) → IsTrue (is_named upgraded_run line) → line ≡ 2
-unfolding opened
-upgraded_names line n = grind (arith, nat_tests)
-
-upgraded_states : (a : ℕ) → a < 2
-    → three Modified Invalid Invalid a ≡ line_state_of (past_of upgraded_run) a 2 (length upgraded_run.trace)
-unfolding opened
-upgraded_states zero l = refl
-upgraded_states (suc zero) l = refl
-upgraded_states (suc (suc a)) l = absurd (omega arith)
-
 pub upgraded_is_kept : Kept upgraded_run (λ a line. three Modified Invalid Invalid a) (λ a line. first_byte 1)
     (λ line. first_byte 0)
 unfolding opened
-upgraded_is_kept = kept_if upgraded_run 2 (three Modified Invalid Invalid) (first_byte 1) (first_byte 0)
-    upgraded_names upgraded_states refl refl
+upgraded_is_kept = three_kept upgraded_run Modified Invalid Invalid (first_byte 1) (first_byte 0)
+    (λ line n. grind (arith, nat_tests)) refl refl refl refl refl refl
 
 -- an upgrade that lost and was handed the line
-lost_names : (line : ℕ) → IsTrue (is_named lost_run line) → line ≡ 2
-unfolding opened
-lost_names line n = grind (arith, nat_tests)
-
-lost_states : (a : ℕ) → a < 2
-    → three Invalid Modified Invalid a ≡ line_state_of (past_of lost_run) a 2 (length lost_run.trace)
-unfolding opened
-lost_states zero l = refl
-lost_states (suc zero) l = refl
-lost_states (suc (suc a)) l = absurd (omega arith)
-
 pub lost_is_kept : Kept lost_run (λ a line. three Invalid Modified Invalid a) (λ a line. first_byte 2)
     (λ line. first_byte 1)
 unfolding opened
-lost_is_kept = kept_if lost_run 2 (three Invalid Modified Invalid) (first_byte 2) (first_byte 1) lost_names
-    lost_states refl refl
+lost_is_kept = three_kept lost_run Invalid Modified Invalid (first_byte 2) (first_byte 1)
+    (λ line n. grind (arith, nat_tests)) refl refl refl refl refl refl
 
 -- an upgrade that lost and was made again
-again_names : (line : ℕ) → IsTrue (is_named again_run line) → line ≡ 2
-unfolding opened
-again_names line n = grind (arith, nat_tests)
-
-again_states : (a : ℕ) → a < 3
-    → three Invalid Modified Invalid a ≡ line_state_of (past_of again_run) a 2 (length again_run.trace)
-unfolding opened
-again_states zero l = refl
-again_states (suc zero) l = refl
-again_states (suc (suc zero)) l = refl
-again_states (suc (suc (suc a))) l = absurd (omega arith)
-
 pub again_is_kept : Kept again_run (λ a line. three Invalid Modified Invalid a) (λ a line. first_byte 2)
     (λ line. first_byte 1)
 unfolding opened
-again_is_kept = kept_if again_run 2 (three Invalid Modified Invalid) (first_byte 2) (first_byte 1) again_names
-    again_states refl refl
+again_is_kept = three_kept again_run Invalid Modified Invalid (first_byte 2) (first_byte 1)
+    (λ line n. grind (arith, nat_tests)) refl refl refl refl refl refl

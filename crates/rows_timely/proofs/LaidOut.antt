@@ -16,7 +16,7 @@ use Rattle.fsb_signal.specs.declared.lines.Lines.{Lines}
 use Rattle.fsb_signal.specs.declared.sample.Sample.{Sample}
 use Rattle.fsb_signal.specs.Samples.{known_sample}
 use Rattle.fsb_trace.specs.At.{Trace}
-use Rattle.fsb_timely.specs.Runs.{Run}
+use Rattle.fsb_timely.specs.Runs.{Run, requests_below}
 use Rattle.fsb_timely.specs.Starts.{starts_requests, drives_request_lines}
 use Rattle.fsb_timely.specs.Snoops.{drives_hazards, has_snoop_result}
 use Rattle.fsb_timely.specs.Transfers.{drives_responses}
@@ -87,11 +87,11 @@ every_part r p c =
     && (drives_responses r p c
     && (logs_completions r p c && (drives_lock r p c && (drives_parity r p c && carries_data r p c)))))))
 
--- the run of a plan with so many requests, whose one hazard object tells the plan's lines
-abbrev pub run_of : PlanView → ℕ → Trace → List Done → Run
-run_of plan requests trace log = record {
+-- the run of a plan whose one hazard object tells the plan's lines
+abbrev pub run_of : PlanView → Trace → List Done → Run
+run_of plan trace log = record {
   plan = plan;
-  choices = choices_for plan.hazards requests;
+  choices = choices_for plan.hazards (requests_below trace (length trace));
   holds = holds_for plan.hazards (length trace);
   trace = trace;
   log = log;

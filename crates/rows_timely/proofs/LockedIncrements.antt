@@ -1,137 +1,16 @@
--- Two agents increment a byte in locked items.
-use Rattle.std.proofs.Common.{◌≡◌, ℕ, zero, suc, refl, List, [], ◌∷◌, None, true, false, replicate, arith, lit<}
-use Rattle.fsb_access.proofs.Interface.{steps_of-nobody}
-use Rattle.fsb_access.specs.ScriptOrder.{AreOfItems, script_of, steps_of}
-use Rattle.fsb_access.specs.declared.access.Access.TheVariants.{Load, Store}
-use Rattle.fsb_access.specs.declared.access.Operand.TheVariants.{LastPlus}
-use Rattle.fsb_access.specs.declared.item.Item.TheVariants.{Locked}
-use Rattle.fsb_access.specs.declared.log.Done.{Done}
-use Rattle.fsb_script.specs.Plans.{PlanView}
-use Rattle.fsb_signal.specs.declared.lines.TheConstants.Lines.{BREQ0, BREQ1, LOCK, ADS, HITM, RS0, RS1, RS2, TRDY, DBSY}
-use Rattle.fsb_signal.specs.declared.lines.TheConstants.Lines.{DRDY}
-use Rattle.fsb_trace.specs.At.{Trace}
-use Rattle.fsb_timely.specs.Runs.{Run}
-use Rattle.fsb_timely.specs.Starts.{starts_requests}
-use Rattle.fsb_timely.specs.Completions.{logs_completions}
-use Rattle.fsb_timely.specs.BusLock.{drives_lock}
-use Rattle.fsb_timely.specs.Timely.{holds_at, keeps}
-use Rattle.fsb_timely.specs.Simulated.{Simulated}
-use Rattle.fsb_timely.specs.Asked.{Asked}
-use Rattle.rows_timely.proofs.LaidOut.{clock, idle, changed, entry, told_lines, run_of, every_part}
-use Rattle.rows_timely.proofs.Opened.{opened}
-use Rattle.rows_timely.proofs.Tests.{simulated_if, breaks_starts, breaks_completions, breaks_lock}
-use Rattle.rows_timely.proofs.AskedLines.{asked_for_lines}
-
-abbrev pub plan : PlanView
-plan = record {
-  scripts = (Locked (Load 1 0x40 ∷ Store 1 0x40 (LastPlus 0x1) ∷ []) ∷ [])
-      ∷ (Locked (Load 1 0x40 ∷ Store 1 0x40 (LastPlus 0x1) ∷ []) ∷ []) ∷ [];
-  clocks = 60;
-  cache = 64;
-  ahead = 1;
-  profile = 1;
-  bridge = None;
-  mem = [];
-  hazards = [];
-}
-
-abbrev pub trace : Trace
-trace =
-    clock (BREQ0 ∷ BREQ1 ∷ []) 0x0 0x0 0x0
-    ∷ clock (BREQ0 ∷ BREQ1 ∷ []) 0x0 0x0 0x0
-    ∷ clock (BREQ0 ∷ BREQ1 ∷ LOCK ∷ ADS ∷ []) 0x2 0x8 0x0
-    ∷ clock (BREQ1 ∷ LOCK ∷ []) 0x2 0x0 0x0
-    ∷ clock (BREQ1 ∷ LOCK ∷ []) 0x0 0x0 0x0
-    ∷ clock (BREQ1 ∷ LOCK ∷ []) 0x0 0x0 0x0
-    ∷ clock (BREQ1 ∷ LOCK ∷ []) 0x0 0x0 0x0
-    ∷ clock (BREQ1 ∷ LOCK ∷ []) 0x0 0x0 0x0
-    ∷ clock (BREQ1 ∷ LOCK ∷ RS0 ∷ RS1 ∷ RS2 ∷ DBSY ∷ DRDY ∷ []) 0x0 0x0 0x0
-    ∷ clock (BREQ1 ∷ LOCK ∷ DBSY ∷ DRDY ∷ []) 0x0 0x0 0x0
-    ∷ clock (BREQ1 ∷ LOCK ∷ DBSY ∷ DRDY ∷ []) 0x0 0x0 0x0
-    ∷ clock (BREQ1 ∷ LOCK ∷ DRDY ∷ []) 0x0 0x0 0x0
-    ∷ clock (BREQ1 ∷ []) 0x0 0x0 0x0
-    ∷ clock (BREQ1 ∷ []) 0x0 0x0 0x0
-    ∷ clock (BREQ1 ∷ LOCK ∷ ADS ∷ []) 0x2 0x8 0x0
-    ∷ clock (LOCK ∷ []) 0x2 0x20000 0x0
-    ∷ clock (LOCK ∷ []) 0x0 0x0 0x0
-    ∷ clock (LOCK ∷ []) 0x0 0x0 0x0
-    ∷ clock (LOCK ∷ HITM ∷ []) 0x0 0x0 0x0
-    ∷ clock (LOCK ∷ []) 0x0 0x0 0x0
-    ∷ clock (LOCK ∷ TRDY ∷ []) 0x0 0x0 0x0
-    ∷ clock (LOCK ∷ []) 0x0 0x0 0x0
-    ∷ clock (LOCK ∷ RS1 ∷ RS2 ∷ DBSY ∷ DRDY ∷ []) 0x0 0x0 0x1
-    ∷ clock (LOCK ∷ DBSY ∷ DRDY ∷ []) 0x0 0x0 0x0
-    ∷ clock (LOCK ∷ DBSY ∷ DRDY ∷ []) 0x0 0x0 0x0
-    ∷ clock (LOCK ∷ DRDY ∷ []) 0x0 0x0 0x0
-    ∷ replicate 34 idle
-
-abbrev pub log : List Done
-log =
-    entry 11 0 0 0 (Load 1 0x40) 0x0
-    ∷ entry 11 0 0 1 (Store 1 0x40 (LastPlus 0x1)) 0x1
-    ∷ entry 25 1 0 0 (Load 1 0x40) 0x1
-    ∷ entry 25 1 0 1 (Store 1 0x40 (LastPlus 0x1)) 0x2
-    ∷ []
+-- Made by lab/worked_runs.py of the stored run locked_increments; not to be edited.
+use Rattle.rows_timely.proofs.Words.{Run, scripted, plain, ◌+◌, [], ◌∷◌, Locked, Load, Store, LastPlus, on, pair, chunk}
+use Rattle.rows_timely.proofs.Words.{idles, b0, b1, lock, ads, hitm, rs, trdy, dbsy, drdy, entry}
 
 abbrev pub run : Run
-run = run_of plan 2 trace log
-
--- LOCK# is kept up after the completion
-abbrev pub run0 : Run
-run0 = run_of plan 1 (changed trace 12 (clock (BREQ1 ∷ LOCK ∷ []) 0x0 0x0 0x0)) log
-
--- LOCK# is dropped before the response
-abbrev pub run1 : Run
-run1 = run_of plan 2 (changed trace 20 (clock (TRDY ∷ []) 0x0 0x0 0x0)) log
-
--- the store is logged a clock after its load
-abbrev pub log2 : List Done
-log2 =
-    entry 11 0 0 0 (Load 1 0x40) 0x0
-    ∷ entry 12 0 0 1 (Store 1 0x40 (LastPlus 0x1)) 0x1
-    ∷ entry 25 1 0 0 (Load 1 0x40) 0x1
-    ∷ entry 25 1 0 1 (Store 1 0x40 (LastPlus 0x1)) 0x2
-    ∷ []
-
-abbrev pub run2 : Run
-run2 = run_of plan 2 trace log2
-
--- the request of a locked item has DEN#
-abbrev pub run3 : Run
-run3 = run_of plan 1 (changed trace 3 (clock (BREQ1 ∷ LOCK ∷ []) 0x2 0x2 0x0)) log
-
--- what is computed: the run keeps every part at each clock, and each changed run breaks one at the changed clock
-pub computes :
-    (keeps every_part run ≡ true)
-    × (holds_at drives_lock run0 12 ≡ false)
-    × (holds_at drives_lock run1 20 ≡ false)
-    × (holds_at logs_completions run2 11 ≡ false)
-    × (holds_at starts_requests run3 3 ≡ false)
-unfolding opened
-computes = (refl, refl, refl, refl, refl)
-
--- so the changed runs are no simulations
-pub none_is_simulated :
-    (¬ Simulated run0)
-    × (¬ Simulated run1)
-    × (¬ Simulated run2)
-    × (¬ Simulated run3)
-unfolding opened
-none_is_simulated = (
-  breaks_lock run0 12 (lit< tt) computes.1,
-  breaks_lock run1 20 (lit< tt) computes.2,
-  breaks_completions run2 11 (lit< tt) computes.3,
-  breaks_starts run3 3 (lit< tt) computes.4,
-)
-
-follows : (agent : ℕ) → AreOfItems (script_of plan.scripts agent) (steps_of agent log)
-follows zero = record { items = 1; same = refl }
-follows (suc zero) = record { items = 1; same = refl }
-follows (suc (suc agent)) = record { items = 0; same = steps_of-nobody 2 (suc (suc agent)) log refl (omega arith) }
-
-pub is_simulated : Simulated run
-unfolding opened
-is_simulated = simulated_if run computes.0 refl refl refl refl (record { follows = follows; together = refl }) refl
-
-pub is_asked : Asked (told_lines plan.hazards ∷ []) run.choices run.holds
-is_asked = asked_for_lines plan.hazards 2 60
+run = scripted plain
+    ((Locked (Load 1 0x40 ∷ Store 1 0x40 (LastPlus 0x1) ∷ []) ∷ []) ∷ (Locked (Load 1 0x40
+    ∷ Store 1 0x40 (LastPlus 0x1) ∷ []) ∷ []) ∷ [])
+    (on (b0 + b1) ∷ on (b0 + b1) ∷ pair (b0 + b1 + lock + ads) 0x2 0x8 ∷ pair (b1 + lock) 0x2 0x0 ∷ on (b1 + lock)
+    ∷ on (b1 + lock) ∷ on (b1 + lock) ∷ on (b1 + lock) ∷ on (b1 + lock + rs 7 + dbsy + drdy)
+    ∷ on (b1 + lock + dbsy + drdy) ∷ on (b1 + lock + dbsy + drdy) ∷ on (b1 + lock + drdy) ∷ on b1 ∷ on b1
+    ∷ pair (b1 + lock + ads) 0x2 0x8 ∷ pair lock 0x2 0x20000 ∷ on lock ∷ on lock ∷ on (lock + hitm) ∷ on lock
+    ∷ on (lock + trdy) ∷ on lock ∷ chunk (lock + rs 6 + dbsy + drdy) 0x1 ∷ on (lock + dbsy + drdy)
+    ∷ on (lock + dbsy + drdy) ∷ on (lock + drdy) ∷ idles 34)
+    (entry 11 0 0 0 (Load 1 0x40) 0x0 ∷ entry 11 0 0 1 (Store 1 0x40 (LastPlus 0x1)) 0x1
+    ∷ entry 25 1 0 0 (Load 1 0x40) 0x1 ∷ entry 25 1 0 1 (Store 1 0x40 (LastPlus 0x1)) 0x2 ∷ [])

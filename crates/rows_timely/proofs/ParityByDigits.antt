@@ -20,6 +20,7 @@ use Rattle.fsb_timely.specs.Timely.{Part, holds_in, holds_at, keeps}
 use Rattle.fsb_timely.specs.Transfers.{drives_responses}
 use Rattle.fsb_timely.proofs.Interface.{keeps-at, keeps-all}
 use Rattle.rows_timely.proofs.LaidOut.{every_part}
+use Rattle.rows_timely.proofs.Opened.{opened}
 
 -- a number has at most so many digits
 unfoldable pub has_digits : ℕ → ℕ → Bool
@@ -115,3 +116,8 @@ unfolding holds_at holds_in run_to
 keeps_by_digits r two e =
     let h = keeps-at every_part_by_digits r e in
     keeps-all every_part r (record { at = λ c l. every_from (run_to r c) (past_to (past_of r) c) c two (h.at c l) })
+
+-- all that a run of profile 2 computes with, where parity is computed by digits
+unfoldable pub opened_by_digits : Bool
+unfolding opened ones_in has_digits is_even_in is_even_by_digits drives_digits
+opened_by_digits = true

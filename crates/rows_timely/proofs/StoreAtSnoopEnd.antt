@@ -1,88 +1,12 @@
--- A store at the clock of a snoop end counts there: the line is shown as Modified.
-use Rattle.std.proofs.Common.{◌≡◌, ℕ, zero, suc, refl, List, [], ◌∷◌, None, true, replicate, arith}
-use Rattle.fsb_access.proofs.Interface.{steps_of-nobody}
-use Rattle.fsb_access.specs.ScriptOrder.{AreOfItems, script_of, steps_of}
-use Rattle.fsb_access.specs.declared.access.Access.TheVariants.{Load, Store}
-use Rattle.fsb_access.specs.declared.access.Operand.TheVariants.{Literal}
-use Rattle.fsb_access.specs.declared.item.Item.TheVariants.{One, Idle}
-use Rattle.fsb_access.specs.declared.log.Done.{Done}
-use Rattle.fsb_script.specs.Plans.{PlanView}
-use Rattle.fsb_signal.specs.declared.lines.TheConstants.Lines.{BREQ0, BREQ1, ADS, HITM, RS0, RS1, RS2, TRDY, DBSY, DRDY}
-use Rattle.fsb_trace.specs.At.{Trace}
-use Rattle.fsb_timely.specs.Runs.{Run}
-use Rattle.fsb_timely.specs.Timely.{keeps}
-use Rattle.fsb_timely.specs.Simulated.{Simulated}
-use Rattle.fsb_timely.specs.Asked.{Asked}
-use Rattle.rows_timely.proofs.LaidOut.{clock, idle, entry, told_lines, run_of, every_part}
-use Rattle.rows_timely.proofs.Opened.{opened}
-use Rattle.rows_timely.proofs.Tests.{simulated_if}
-use Rattle.rows_timely.proofs.AskedLines.{asked_for_lines}
-
-abbrev pub plan : PlanView
-plan = record {
-  scripts = (One (Load 1 0x40) ∷ Idle 5 ∷ One (Store 1 0x40 (Literal 0x2)) ∷ [])
-      ∷ (Idle 11 ∷ One (Load 1 0x40) ∷ []) ∷ [];
-  clocks = 60;
-  cache = 4;
-  ahead = 1;
-  profile = 1;
-  bridge = None;
-  mem = [];
-  hazards = [];
-}
-
-abbrev pub trace : Trace
-trace =
-    clock (BREQ0 ∷ []) 0x0 0x0 0x0
-    ∷ clock (BREQ0 ∷ []) 0x0 0x0 0x0
-    ∷ clock (BREQ0 ∷ ADS ∷ []) 0x6 0x8 0x0
-    ∷ clock [] 0x2 0x2 0x0
-    ∷ idle
-    ∷ idle
-    ∷ idle
-    ∷ idle
-    ∷ clock (RS0 ∷ RS1 ∷ RS2 ∷ DBSY ∷ DRDY ∷ []) 0x0 0x0 0x0
-    ∷ clock (DBSY ∷ DRDY ∷ []) 0x0 0x0 0x0
-    ∷ clock (DBSY ∷ DRDY ∷ []) 0x0 0x0 0x0
-    ∷ clock (BREQ1 ∷ DRDY ∷ []) 0x0 0x0 0x0
-    ∷ clock (BREQ1 ∷ []) 0x0 0x0 0x0
-    ∷ clock (BREQ1 ∷ ADS ∷ []) 0x6 0x8 0x0
-    ∷ clock [] 0x2 0x20002 0x0
-    ∷ idle
-    ∷ idle
-    ∷ clock (HITM ∷ []) 0x0 0x0 0x0
-    ∷ idle
-    ∷ clock (TRDY ∷ []) 0x0 0x0 0x0
-    ∷ idle
-    ∷ clock (RS1 ∷ RS2 ∷ DBSY ∷ DRDY ∷ []) 0x0 0x0 0x2
-    ∷ clock (DBSY ∷ DRDY ∷ []) 0x0 0x0 0x0
-    ∷ clock (DBSY ∷ DRDY ∷ []) 0x0 0x0 0x0
-    ∷ clock (DRDY ∷ []) 0x0 0x0 0x0
-    ∷ replicate 35 idle
-
-abbrev pub log : List Done
-log =
-    entry 11 0 0 0 (Load 1 0x40) 0x0
-    ∷ entry 17 0 2 0 (Store 1 0x40 (Literal 0x2)) 0x2
-    ∷ entry 24 1 1 0 (Load 1 0x40) 0x2
-    ∷ []
+-- Made by lab/worked_runs.py of the stored run store_at_snoop_end; not to be edited.
+use Rattle.rows_timely.proofs.Words.{Run, scripted, plain, ◌+◌, [], ◌∷◌, ◌++◌, One, Idle, Load, Store, Literal, on}
+use Rattle.rows_timely.proofs.Words.{pair, chunk, idle, idles, b0, b1, ads, hitm, rs, trdy, dbsy, drdy, entry}
 
 abbrev pub run : Run
-run = run_of plan 2 trace log
-
--- what is computed: the run keeps every part at each clock
-pub computes : keeps every_part run ≡ true
-unfolding opened
-computes = refl
-
-follows : (agent : ℕ) → AreOfItems (script_of plan.scripts agent) (steps_of agent log)
-follows zero = record { items = 3; same = refl }
-follows (suc zero) = record { items = 2; same = refl }
-follows (suc (suc agent)) = record { items = 0; same = steps_of-nobody 2 (suc (suc agent)) log refl (omega arith) }
-
-pub is_simulated : Simulated run
-unfolding opened
-is_simulated = simulated_if run computes refl refl refl refl (record { follows = follows; together = refl }) refl
-
-pub is_asked : Asked (told_lines plan.hazards ∷ []) run.choices run.holds
-is_asked = asked_for_lines plan.hazards 2 60
+run = scripted (record plain { cache = 4 })
+    ((One (Load 1 0x40) ∷ Idle 5 ∷ One (Store 1 0x40 (Literal 0x2)) ∷ []) ∷ (Idle 11 ∷ One (Load 1 0x40) ∷ []) ∷ [])
+    (on b0 ∷ on b0 ∷ pair (b0 + ads) 0x6 0x8 ∷ pair 0 0x2 0x2 ∷ idles 4 ++ on (rs 7 + dbsy + drdy) ∷ on (dbsy + drdy)
+    ∷ on (dbsy + drdy) ∷ on (b1 + drdy) ∷ on b1 ∷ pair (b1 + ads) 0x6 0x8 ∷ pair 0 0x2 0x20002 ∷ idle ∷ idle ∷ on hitm
+    ∷ idle ∷ on trdy ∷ idle ∷ chunk (rs 6 + dbsy + drdy) 0x2 ∷ on (dbsy + drdy) ∷ on (dbsy + drdy) ∷ on drdy ∷ idles 35)
+    (entry 11 0 0 0 (Load 1 0x40) 0x0 ∷ entry 17 0 2 0 (Store 1 0x40 (Literal 0x2)) 0x2
+    ∷ entry 24 1 1 0 (Load 1 0x40) 0x2 ∷ [])

@@ -1,139 +1,15 @@
--- Three agents store to one line, and each hands it on to the next.
-use Rattle.std.proofs.Common.{◌≡◌, ℕ, zero, suc, refl, List, [], ◌∷◌, None, true, false, replicate, arith, lit<}
-use Rattle.fsb_access.proofs.Interface.{steps_of-nobody}
-use Rattle.fsb_access.specs.ScriptOrder.{AreOfItems, script_of, steps_of}
-use Rattle.fsb_access.specs.declared.access.Access.TheVariants.{Store}
-use Rattle.fsb_access.specs.declared.access.Operand.TheVariants.{Literal}
-use Rattle.fsb_access.specs.declared.item.Item.TheVariants.{One}
-use Rattle.fsb_access.specs.declared.log.Done.{Done}
-use Rattle.fsb_script.specs.Plans.{PlanView}
-use Rattle.fsb_signal.specs.declared.lines.TheConstants.Lines.{BREQ0, BREQ1, BREQ2, ADS, HITM, RS0, RS1, RS2, TRDY}
-use Rattle.fsb_signal.specs.declared.lines.TheConstants.Lines.{DBSY, DRDY}
-use Rattle.fsb_trace.specs.At.{Trace}
-use Rattle.fsb_timely.specs.Runs.{Run}
-use Rattle.fsb_timely.specs.Starts.{starts_requests}
-use Rattle.fsb_timely.specs.Snoops.{has_snoop_result}
-use Rattle.fsb_timely.specs.Carried.{carries_data}
-use Rattle.fsb_timely.specs.Completions.{logs_completions}
-use Rattle.fsb_timely.specs.Timely.{holds_at, keeps}
-use Rattle.fsb_timely.specs.Simulated.{Simulated}
-use Rattle.fsb_timely.specs.Asked.{Asked}
-use Rattle.rows_timely.proofs.LaidOut.{clock, idle, changed, entry, told_lines, run_of, every_part}
-use Rattle.rows_timely.proofs.Opened.{opened}
-use Rattle.rows_timely.proofs.Tests.{simulated_if, breaks_starts, breaks_snoop_results, breaks_completions}
-use Rattle.rows_timely.proofs.Tests.{breaks_data}
-use Rattle.rows_timely.proofs.AskedLines.{asked_for_lines}
-
-abbrev pub plan : PlanView
-plan = record {
-  scripts = (One (Store 1 0x40 (Literal 0x1)) ∷ []) ∷ (One (Store 1 0x40 (Literal 0x2)) ∷ [])
-      ∷ (One (Store 1 0x40 (Literal 0x3)) ∷ []) ∷ [];
-  clocks = 60;
-  cache = 64;
-  ahead = 1;
-  profile = 1;
-  bridge = None;
-  mem = [];
-  hazards = [];
-}
-
-abbrev pub trace : Trace
-trace =
-    clock (BREQ0 ∷ BREQ1 ∷ BREQ2 ∷ []) 0x0 0x0 0x0
-    ∷ clock (BREQ0 ∷ BREQ1 ∷ BREQ2 ∷ []) 0x0 0x0 0x0
-    ∷ clock (BREQ0 ∷ BREQ1 ∷ BREQ2 ∷ ADS ∷ []) 0x2 0x8 0x0
-    ∷ clock (BREQ1 ∷ BREQ2 ∷ []) 0x2 0x2 0x0
-    ∷ clock (BREQ1 ∷ BREQ2 ∷ []) 0x0 0x0 0x0
-    ∷ clock (BREQ1 ∷ BREQ2 ∷ ADS ∷ []) 0x2 0x8 0x0
-    ∷ clock (BREQ2 ∷ []) 0x2 0x20002 0x0
-    ∷ clock (BREQ2 ∷ []) 0x0 0x0 0x0
-    ∷ clock (BREQ2 ∷ ADS ∷ RS0 ∷ RS1 ∷ RS2 ∷ DBSY ∷ DRDY ∷ []) 0x2 0x8 0x0
-    ∷ clock (HITM ∷ DBSY ∷ DRDY ∷ []) 0x2 0x40002 0x0
-    ∷ clock (DBSY ∷ DRDY ∷ []) 0x0 0x0 0x0
-    ∷ clock (DRDY ∷ []) 0x0 0x0 0x0
-    ∷ clock (HITM ∷ TRDY ∷ []) 0x0 0x0 0x0
-    ∷ idle
-    ∷ clock (RS1 ∷ RS2 ∷ DBSY ∷ DRDY ∷ []) 0x0 0x0 0x1
-    ∷ clock (DBSY ∷ DRDY ∷ []) 0x0 0x0 0x0
-    ∷ clock (DBSY ∷ DRDY ∷ []) 0x0 0x0 0x0
-    ∷ clock (DRDY ∷ []) 0x0 0x0 0x0
-    ∷ clock (TRDY ∷ []) 0x0 0x0 0x0
-    ∷ idle
-    ∷ clock (RS1 ∷ RS2 ∷ DBSY ∷ DRDY ∷ []) 0x0 0x0 0x2
-    ∷ clock (DBSY ∷ DRDY ∷ []) 0x0 0x0 0x0
-    ∷ clock (DBSY ∷ DRDY ∷ []) 0x0 0x0 0x0
-    ∷ clock (DRDY ∷ []) 0x0 0x0 0x0
-    ∷ replicate 36 idle
-
-abbrev pub log : List Done
-log =
-    entry 11 0 0 0 (Store 1 0x40 (Literal 0x1)) 0x1
-    ∷ entry 17 1 0 0 (Store 1 0x40 (Literal 0x2)) 0x2
-    ∷ entry 23 2 0 0 (Store 1 0x40 (Literal 0x3)) 0x3
-    ∷ []
+-- Made by lab/worked_runs.py of the stored run three_stores_chained; not to be edited.
+use Rattle.rows_timely.proofs.Words.{Run, scripted, plain, ◌+◌, [], ◌∷◌, One, Store, Literal, on, pair, chunk, idle}
+use Rattle.rows_timely.proofs.Words.{idles, b0, b1, b2, ads, hitm, rs, trdy, dbsy, drdy, entry}
 
 abbrev pub run : Run
-run = run_of plan 3 trace log
-
--- the second owner without bytes stays silent
-abbrev pub run0 : Run
-run0 = run_of plan 3 (changed trace 12 (clock (TRDY ∷ []) 0x0 0x0 0x0)) log
-
--- the line is handed over without the second store
-abbrev pub run1 : Run
-run1 = run_of plan 3 (changed trace 20 (clock (RS1 ∷ RS2 ∷ DBSY ∷ DRDY ∷ []) 0x0 0x0 0x1)) log
-
--- the third store is logged a clock late
-abbrev pub log2 : List Done
-log2 =
-    entry 11 0 0 0 (Store 1 0x40 (Literal 0x1)) 0x1
-    ∷ entry 17 1 0 0 (Store 1 0x40 (Literal 0x2)) 0x2
-    ∷ entry 24 2 0 0 (Store 1 0x40 (Literal 0x3)) 0x3
-    ∷ []
-
-abbrev pub run2 : Run
-run2 = run_of plan 3 trace log2
-
--- the third request names another line
-abbrev pub run3 : Run
-run3 = run_of plan 3 (changed trace 8 (clock (BREQ2 ∷ ADS ∷ RS0 ∷ RS1 ∷ RS2 ∷ DBSY ∷ DRDY ∷ []) 0x2 0x10 0x0)) log
-
--- what is computed: the run keeps every part at each clock, and each changed run breaks one at the changed clock
-pub computes :
-    (keeps every_part run ≡ true)
-    × (holds_at has_snoop_result run0 12 ≡ false)
-    × (holds_at carries_data run1 20 ≡ false)
-    × (holds_at logs_completions run2 23 ≡ false)
-    × (holds_at starts_requests run3 8 ≡ false)
-unfolding opened
-computes = (refl, refl, refl, refl, refl)
-
--- so the changed runs are no simulations
-pub none_is_simulated :
-    (¬ Simulated run0)
-    × (¬ Simulated run1)
-    × (¬ Simulated run2)
-    × (¬ Simulated run3)
-unfolding opened
-none_is_simulated = (
-  breaks_snoop_results run0 12 (lit< tt) computes.1,
-  breaks_data run1 20 (lit< tt) computes.2,
-  breaks_completions run2 23 (lit< tt) computes.3,
-  breaks_starts run3 8 (lit< tt) computes.4,
-)
-
-follows : (agent : ℕ) → AreOfItems (script_of plan.scripts agent) (steps_of agent log)
-follows zero = record { items = 1; same = refl }
-follows (suc zero) = record { items = 1; same = refl }
-follows (suc (suc zero)) = record { items = 1; same = refl }
-follows (suc (suc (suc agent))) = record {
-  items = 0;
-  same = steps_of-nobody 3 (suc (suc (suc agent))) log refl (omega arith);
-}
-
-pub is_simulated : Simulated run
-unfolding opened
-is_simulated = simulated_if run computes.0 refl refl refl refl (record { follows = follows; together = refl }) refl
-
-pub is_asked : Asked (told_lines plan.hazards ∷ []) run.choices run.holds
-is_asked = asked_for_lines plan.hazards 3 60
+run = scripted plain
+    ((One (Store 1 0x40 (Literal 0x1)) ∷ []) ∷ (One (Store 1 0x40 (Literal 0x2)) ∷ [])
+    ∷ (One (Store 1 0x40 (Literal 0x3)) ∷ []) ∷ [])
+    (on (b0 + b1 + b2) ∷ on (b0 + b1 + b2) ∷ pair (b0 + b1 + b2 + ads) 0x2 0x8 ∷ pair (b1 + b2) 0x2 0x2 ∷ on (b1 + b2)
+    ∷ pair (b1 + b2 + ads) 0x2 0x8 ∷ pair b2 0x2 0x20002 ∷ on b2 ∷ pair (b2 + ads + rs 7 + dbsy + drdy) 0x2 0x8
+    ∷ pair (hitm + dbsy + drdy) 0x2 0x40002 ∷ on (dbsy + drdy) ∷ on drdy ∷ on (hitm + trdy) ∷ idle
+    ∷ chunk (rs 6 + dbsy + drdy) 0x1 ∷ on (dbsy + drdy) ∷ on (dbsy + drdy) ∷ on drdy ∷ on trdy ∷ idle
+    ∷ chunk (rs 6 + dbsy + drdy) 0x2 ∷ on (dbsy + drdy) ∷ on (dbsy + drdy) ∷ on drdy ∷ idles 36)
+    (entry 11 0 0 0 (Store 1 0x40 (Literal 0x1)) 0x1 ∷ entry 17 1 0 0 (Store 1 0x40 (Literal 0x2)) 0x2
+    ∷ entry 23 2 0 0 (Store 1 0x40 (Literal 0x3)) 0x3 ∷ [])

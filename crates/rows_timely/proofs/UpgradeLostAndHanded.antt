@@ -1,134 +1,16 @@
--- Two agents ask for the ownership of one line: the second has lost, and is handed the line by the first.
-use Rattle.std.proofs.Common.{◌≡◌, ℕ, zero, suc, refl, List, [], ◌∷◌, None, true, false, replicate, arith, lit<}
-use Rattle.fsb_access.proofs.Interface.{steps_of-nobody}
-use Rattle.fsb_access.specs.ScriptOrder.{AreOfItems, script_of, steps_of}
-use Rattle.fsb_access.specs.declared.access.Access.TheVariants.{Load, Store}
-use Rattle.fsb_access.specs.declared.access.Operand.TheVariants.{Literal}
-use Rattle.fsb_access.specs.declared.item.Item.TheVariants.{One}
-use Rattle.fsb_access.specs.declared.log.Done.{Done}
-use Rattle.fsb_script.specs.Plans.{PlanView}
-use Rattle.fsb_signal.specs.declared.lines.TheConstants.Lines.{BREQ0, BREQ1, ADS, HIT, HITM, RS0, RS1, RS2, TRDY, DBSY}
-use Rattle.fsb_signal.specs.declared.lines.TheConstants.Lines.{DRDY, AP0, RP}
-use Rattle.fsb_trace.specs.At.{Trace}
-use Rattle.fsb_timely.specs.Runs.{Run}
-use Rattle.fsb_timely.specs.Snoops.{has_snoop_result}
-use Rattle.fsb_timely.specs.Transfers.{drives_responses}
-use Rattle.fsb_timely.specs.Completions.{logs_completions}
-use Rattle.fsb_timely.specs.Timely.{holds_at, keeps}
-use Rattle.fsb_timely.specs.Simulated.{Simulated}
-use Rattle.fsb_timely.specs.Asked.{Asked}
-use Rattle.rows_timely.proofs.LaidOut.{clock, idle, changed, entry, told_lines, run_of, every_part}
-use Rattle.rows_timely.proofs.Opened.{opened}
-use Rattle.rows_timely.proofs.Tests.{simulated_if, breaks_completions, breaks_responses, breaks_snoop_results}
-use Rattle.rows_timely.proofs.AskedLines.{asked_for_lines}
-
-abbrev pub plan : PlanView
-plan = record {
-  scripts = (One (Load 1 0x40) ∷ One (Store 1 0x40 (Literal 0x1)) ∷ [])
-      ∷ (One (Load 1 0x40) ∷ One (Store 1 0x40 (Literal 0x2)) ∷ []) ∷ [];
-  clocks = 60;
-  cache = 64;
-  ahead = 1;
-  profile = 2;
-  bridge = None;
-  mem = [];
-  hazards = [];
-}
-
-abbrev pub trace : Trace
-trace =
-    clock (BREQ0 ∷ BREQ1 ∷ []) 0x0 0x0 0x0
-    ∷ clock (BREQ0 ∷ BREQ1 ∷ []) 0x0 0x0 0x0
-    ∷ clock (BREQ0 ∷ BREQ1 ∷ ADS ∷ AP0 ∷ RP ∷ []) 0x6 0x8 0x0
-    ∷ clock (BREQ1 ∷ AP0 ∷ RP ∷ []) 0x2 0x2 0x0
-    ∷ clock (BREQ1 ∷ []) 0x0 0x0 0x0
-    ∷ clock (BREQ1 ∷ ADS ∷ AP0 ∷ RP ∷ []) 0x6 0x8 0x0
-    ∷ clock (RP ∷ []) 0x2 0x20002 0x0
-    ∷ idle
-    ∷ clock (RS0 ∷ RS1 ∷ RS2 ∷ DBSY ∷ DRDY ∷ []) 0x0 0x0 0x0
-    ∷ clock (HIT ∷ DBSY ∷ DRDY ∷ []) 0x0 0x0 0x0
-    ∷ clock (DBSY ∷ DRDY ∷ []) 0x0 0x0 0x0
-    ∷ clock (DRDY ∷ []) 0x0 0x0 0x0
-    ∷ clock (BREQ0 ∷ RS0 ∷ RS1 ∷ RS2 ∷ DBSY ∷ DRDY ∷ []) 0x0 0x0 0x0
-    ∷ clock (BREQ0 ∷ DBSY ∷ DRDY ∷ []) 0x0 0x0 0x0
-    ∷ clock (BREQ0 ∷ ADS ∷ DBSY ∷ DRDY ∷ AP0 ∷ []) 0x2 0x8 0x0
-    ∷ clock (DRDY ∷ []) 0x0 0x0 0x0
-    ∷ clock (BREQ1 ∷ []) 0x0 0x0 0x0
-    ∷ clock (BREQ1 ∷ []) 0x0 0x0 0x0
-    ∷ clock (BREQ1 ∷ ADS ∷ HIT ∷ AP0 ∷ []) 0x2 0x8 0x0
-    ∷ clock (AP0 ∷ []) 0x0 0x20000 0x0
-    ∷ clock (RS0 ∷ RS2 ∷ []) 0x0 0x0 0x0
-    ∷ idle
-    ∷ clock (HITM ∷ []) 0x0 0x0 0x0
-    ∷ idle
-    ∷ clock (TRDY ∷ []) 0x0 0x0 0x0
-    ∷ idle
-    ∷ clock (RS1 ∷ RS2 ∷ DBSY ∷ DRDY ∷ []) 0x0 0x0 0x1
-    ∷ clock (DBSY ∷ DRDY ∷ []) 0x0 0x0 0x0
-    ∷ clock (DBSY ∷ DRDY ∷ []) 0x0 0x0 0x0
-    ∷ clock (DRDY ∷ []) 0x0 0x0 0x0
-    ∷ replicate 30 idle
-
-abbrev pub log : List Done
-log =
-    entry 11 0 0 0 (Load 1 0x40) 0x0
-    ∷ entry 15 1 0 0 (Load 1 0x40) 0x0
-    ∷ entry 20 0 1 0 (Store 1 0x40 (Literal 0x1)) 0x1
-    ∷ entry 29 1 1 0 (Store 1 0x40 (Literal 0x2)) 0x2
-    ∷ []
+-- Made by lab/worked_runs.py of the stored run upgrade_lost_and_handed; not to be edited.
+use Rattle.rows_timely.proofs.Words.{Run, scripted, plain, ◌+◌, [], ◌∷◌, One, Load, Store, Literal, on, pair, chunk}
+use Rattle.rows_timely.proofs.Words.{idle, idles, b0, b1, ads, hit, hitm, rs, trdy, dbsy, drdy, ap0, rp, entry}
 
 abbrev pub run : Run
-run = run_of plan 4 trace log
-
--- the first upgrade gives nothing: its agent shows no Modified line
-abbrev pub run0 : Run
-run0 = run_of plan 4 (changed trace 22 (idle)) log
-
-abbrev pub log1 : List Done
-log1 =
-    entry 11 0 0 0 (Load 1 0x40) 0x0
-    ∷ entry 15 1 0 0 (Load 1 0x40) 0x0
-    ∷ entry 20 0 1 0 (Store 1 0x40 (Literal 0x1)) 0x1
-    ∷ entry 26 1 1 0 (Store 1 0x40 (Literal 0x2)) 0x2
-    ∷ []
-
--- the lost upgrade is granted: its store is logged at its answer
-abbrev pub run1 : Run
-run1 = run_of plan 4 trace log1
-
--- the lost upgrade is answered without data
-abbrev pub run2 : Run
-run2 = run_of plan 4 (changed trace 26 (clock (RS0 ∷ RS2 ∷ []) 0x0 0x0 0x0)) log
-
--- what is computed: the run keeps every part at each clock, and each changed run breaks one at the changed clock
-pub computes :
-    (keeps every_part run ≡ true)
-    × (holds_at has_snoop_result run0 22 ≡ false)
-    × (holds_at logs_completions run1 26 ≡ false)
-    × (holds_at drives_responses run2 26 ≡ false)
-unfolding opened
-computes = (refl, refl, refl, refl)
-
--- so the changed runs are no simulations
-pub none_is_simulated :
-    (¬ Simulated run0)
-    × (¬ Simulated run1)
-    × (¬ Simulated run2)
-unfolding opened
-none_is_simulated = (
-  breaks_snoop_results run0 22 (lit< tt) computes.1,
-  breaks_completions run1 26 (lit< tt) computes.2,
-  breaks_responses run2 26 (lit< tt) computes.3,
-)
-
-follows : (agent : ℕ) → AreOfItems (script_of plan.scripts agent) (steps_of agent log)
-follows zero = record { items = 2; same = refl }
-follows (suc zero) = record { items = 2; same = refl }
-follows (suc (suc agent)) = record { items = 0; same = steps_of-nobody 2 (suc (suc agent)) log refl (omega arith) }
-
-pub is_simulated : Simulated run
-unfolding opened
-is_simulated = simulated_if run computes.0 refl refl refl refl (record { follows = follows; together = refl }) refl
-
-pub is_asked : Asked (told_lines plan.hazards ∷ []) run.choices run.holds
-is_asked = asked_for_lines plan.hazards 4 60
+run = scripted (record plain { profile = 2 })
+    ((One (Load 1 0x40) ∷ One (Store 1 0x40 (Literal 0x1)) ∷ []) ∷ (One (Load 1 0x40)
+    ∷ One (Store 1 0x40 (Literal 0x2)) ∷ []) ∷ [])
+    (on (b0 + b1) ∷ on (b0 + b1) ∷ pair (b0 + b1 + ads + ap0 + rp) 0x6 0x8 ∷ pair (b1 + ap0 + rp) 0x2 0x2 ∷ on b1
+    ∷ pair (b1 + ads + ap0 + rp) 0x6 0x8 ∷ pair rp 0x2 0x20002 ∷ idle ∷ on (rs 7 + dbsy + drdy)
+    ∷ on (hit + dbsy + drdy) ∷ on (dbsy + drdy) ∷ on drdy ∷ on (b0 + rs 7 + dbsy + drdy) ∷ on (b0 + dbsy + drdy)
+    ∷ pair (b0 + ads + dbsy + drdy + ap0) 0x2 0x8 ∷ on drdy ∷ on b1 ∷ on b1 ∷ pair (b1 + ads + hit + ap0) 0x2 0x8
+    ∷ pair ap0 0x0 0x20000 ∷ on (rs 5) ∷ idle ∷ on hitm ∷ idle ∷ on trdy ∷ idle ∷ chunk (rs 6 + dbsy + drdy) 0x1
+    ∷ on (dbsy + drdy) ∷ on (dbsy + drdy) ∷ on drdy ∷ idles 30)
+    (entry 11 0 0 0 (Load 1 0x40) 0x0 ∷ entry 15 1 0 0 (Load 1 0x40) 0x0
+    ∷ entry 20 0 1 0 (Store 1 0x40 (Literal 0x1)) 0x1 ∷ entry 29 1 1 0 (Store 1 0x40 (Literal 0x2)) 0x2 ∷ [])

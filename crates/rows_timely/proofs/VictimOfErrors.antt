@@ -1,135 +1,18 @@
--- Clean lines are dropped for requests that are then cancelled, or retried.
-use Rattle.std.proofs.Common.{◌≡◌, ℕ, zero, suc, refl, List, [], ◌∷◌, None, true, false, replicate, arith, lit<}
-use Rattle.fsb_access.proofs.Interface.{steps_of-nobody}
-use Rattle.fsb_access.specs.ScriptOrder.{AreOfItems, script_of, steps_of}
-use Rattle.fsb_access.specs.declared.access.Access.TheVariants.{Load}
-use Rattle.fsb_access.specs.declared.item.Item.TheVariants.{One, Idle}
-use Rattle.fsb_access.specs.declared.log.Done.{Done}
-use Rattle.fsb_hazard.specs.declared.line.HazardLine.TheVariants.{Aerr as AerrLine, Retry as RetryLine}
-use Rattle.fsb_hazard.specs.declared.line.HazardLine.TheVariants.{Stall as StallLine}
-use Rattle.fsb_script.specs.Plans.{PlanView}
-use Rattle.fsb_signal.specs.declared.lines.TheConstants.Lines.{BREQ0, BREQ1, ADS, AERR, HIT, HITM, DEFER, RS0, RS1, RS2}
-use Rattle.fsb_signal.specs.declared.lines.TheConstants.Lines.{DBSY, DRDY}
-use Rattle.fsb_trace.specs.At.{Trace}
-use Rattle.fsb_timely.specs.Runs.{Run}
-use Rattle.fsb_timely.specs.Snoops.{has_snoop_result}
-use Rattle.fsb_timely.specs.Timely.{holds_at, keeps}
-use Rattle.fsb_timely.specs.Simulated.{Simulated}
-use Rattle.fsb_timely.specs.Asked.{Asked}
-use Rattle.rows_timely.proofs.LaidOut.{clock, idle, changed, entry, told_lines, run_of, every_part}
-use Rattle.rows_timely.proofs.Opened.{opened}
-use Rattle.rows_timely.proofs.Tests.{simulated_if, breaks_snoop_results}
-use Rattle.rows_timely.proofs.AskedLines.{asked_for_lines}
-
-abbrev pub plan : PlanView
-plan = record {
-  scripts = (One (Load 1 0x40) ∷ One (Load 1 0x60) ∷ One (Load 1 0x40) ∷ [])
-      ∷ (Idle 9 ∷ One (Load 1 0x40) ∷ One (Load 1 0x60) ∷ []) ∷ [];
-  clocks = 50;
-  cache = 1;
-  ahead = 1;
-  profile = 1;
-  bridge = None;
-  mem = [];
-  hazards = StallLine 1 2 ∷ AerrLine 2 ∷ RetryLine 4 ∷ [];
-}
-
-abbrev pub trace : Trace
-trace =
-    clock (BREQ0 ∷ []) 0x0 0x0 0x0
-    ∷ clock (BREQ0 ∷ []) 0x0 0x0 0x0
-    ∷ clock (BREQ0 ∷ ADS ∷ []) 0x6 0x8 0x0
-    ∷ clock [] 0x2 0x2 0x0
-    ∷ idle
-    ∷ idle
-    ∷ idle
-    ∷ idle
-    ∷ clock (RS0 ∷ RS1 ∷ RS2 ∷ DBSY ∷ DRDY ∷ []) 0x0 0x0 0x0
-    ∷ clock (BREQ1 ∷ DBSY ∷ DRDY ∷ []) 0x0 0x0 0x0
-    ∷ clock (BREQ1 ∷ DBSY ∷ DRDY ∷ []) 0x0 0x0 0x0
-    ∷ clock (BREQ1 ∷ ADS ∷ DRDY ∷ []) 0x6 0x8 0x0
-    ∷ clock (BREQ0 ∷ []) 0x2 0x20002 0x0
-    ∷ clock (BREQ0 ∷ []) 0x0 0x0 0x0
-    ∷ clock (BREQ0 ∷ ADS ∷ []) 0x6 0xc 0x0
-    ∷ clock (HIT ∷ HITM ∷ []) 0x2 0x2 0x0
-    ∷ idle
-    ∷ clock (AERR ∷ HIT ∷ HITM ∷ []) 0x0 0x0 0x0
-    ∷ clock (BREQ0 ∷ []) 0x0 0x0 0x0
-    ∷ clock (BREQ0 ∷ []) 0x0 0x0 0x0
-    ∷ clock (BREQ0 ∷ ADS ∷ []) 0x6 0xc 0x0
-    ∷ clock (RS0 ∷ RS1 ∷ RS2 ∷ DBSY ∷ DRDY ∷ []) 0x2 0x2 0x0
-    ∷ clock (DBSY ∷ DRDY ∷ []) 0x0 0x0 0x0
-    ∷ clock (DBSY ∷ DRDY ∷ []) 0x0 0x0 0x0
-    ∷ clock (DRDY ∷ []) 0x0 0x0 0x0
-    ∷ clock (BREQ1 ∷ []) 0x0 0x0 0x0
-    ∷ clock (BREQ1 ∷ RS0 ∷ RS1 ∷ RS2 ∷ DBSY ∷ DRDY ∷ []) 0x0 0x0 0x0
-    ∷ clock (BREQ1 ∷ ADS ∷ DBSY ∷ DRDY ∷ []) 0x6 0xc 0x0
-    ∷ clock (DBSY ∷ DRDY ∷ []) 0x2 0x20002 0x0
-    ∷ clock (DRDY ∷ []) 0x0 0x0 0x0
-    ∷ clock (BREQ0 ∷ []) 0x0 0x0 0x0
-    ∷ clock (BREQ0 ∷ HIT ∷ DEFER ∷ []) 0x0 0x0 0x0
-    ∷ clock (BREQ0 ∷ ADS ∷ []) 0x6 0x8 0x0
-    ∷ clock (RS0 ∷ []) 0x2 0x2 0x0
-    ∷ clock (BREQ1 ∷ []) 0x0 0x0 0x0
-    ∷ clock (BREQ1 ∷ []) 0x0 0x0 0x0
-    ∷ clock (BREQ1 ∷ ADS ∷ []) 0x6 0xc 0x0
-    ∷ clock [] 0x2 0x20002 0x0
-    ∷ clock (RS0 ∷ RS1 ∷ RS2 ∷ DBSY ∷ DRDY ∷ []) 0x0 0x0 0x0
-    ∷ clock (DBSY ∷ DRDY ∷ []) 0x0 0x0 0x0
-    ∷ clock (DBSY ∷ DRDY ∷ []) 0x0 0x0 0x0
-    ∷ clock (DRDY ∷ []) 0x0 0x0 0x0
-    ∷ clock (RS0 ∷ RS1 ∷ RS2 ∷ DBSY ∷ DRDY ∷ []) 0x0 0x0 0x0
-    ∷ clock (DBSY ∷ DRDY ∷ []) 0x0 0x0 0x0
-    ∷ clock (DBSY ∷ DRDY ∷ []) 0x0 0x0 0x0
-    ∷ clock (DRDY ∷ []) 0x0 0x0 0x0
-    ∷ replicate 4 idle
-
-abbrev pub log : List Done
-log =
-    entry 11 0 0 0 (Load 1 0x40) 0x0
-    ∷ entry 24 1 1 0 (Load 1 0x40) 0x0
-    ∷ entry 29 0 1 0 (Load 1 0x60) 0x0
-    ∷ entry 41 0 2 0 (Load 1 0x40) 0x0
-    ∷ entry 45 1 2 0 (Load 1 0x60) 0x0
-    ∷ []
+-- Made by lab/worked_runs.py of the stored run victim_of_errors; not to be edited.
+use Rattle.rows_timely.proofs.Words.{Run, scripted, plain, ◌+◌, [], ◌∷◌, ◌++◌, One, Idle, Load, Stall, Retry, Aerr, on}
+use Rattle.rows_timely.proofs.Words.{pair, idle, idles, b0, b1, ads, aerr, hit, hitm, defer, rs, dbsy, drdy, entry}
 
 abbrev pub run : Run
-run = run_of plan 7 trace log
-
--- the agent of the cancelled request shows that it still holds its line
-abbrev pub run0 : Run
-run0 = run_of plan 3 (changed trace 19 (clock (BREQ0 ∷ HIT ∷ []) 0x0 0x0 0x0)) log
-
--- the agent of the retried request shows that it still holds its line
-abbrev pub run1 : Run
-run1 = run_of plan 7 (changed trace 36 (clock (BREQ1 ∷ ADS ∷ HIT ∷ []) 0x6 0xc 0x0)) log
-
--- what is computed: the run keeps every part at each clock, and each changed run breaks one at the changed clock
-pub computes :
-    (keeps every_part run ≡ true)
-    × (holds_at has_snoop_result run0 19 ≡ false)
-    × (holds_at has_snoop_result run1 36 ≡ false)
-unfolding opened
-computes = (refl, refl, refl)
-
--- so the changed runs are no simulations
-pub none_is_simulated :
-    (¬ Simulated run0)
-    × (¬ Simulated run1)
-unfolding opened
-none_is_simulated = (
-  breaks_snoop_results run0 19 (lit< tt) computes.1,
-  breaks_snoop_results run1 36 (lit< tt) computes.2,
-)
-
-follows : (agent : ℕ) → AreOfItems (script_of plan.scripts agent) (steps_of agent log)
-follows zero = record { items = 3; same = refl }
-follows (suc zero) = record { items = 3; same = refl }
-follows (suc (suc agent)) = record { items = 0; same = steps_of-nobody 2 (suc (suc agent)) log refl (omega arith) }
-
-pub is_simulated : Simulated run
-unfolding opened
-is_simulated = simulated_if run computes.0 refl refl refl refl (record { follows = follows; together = refl }) refl
-
-pub is_asked : Asked (told_lines plan.hazards ∷ []) run.choices run.holds
-is_asked = asked_for_lines plan.hazards 7 50
+run = scripted (record plain { clocks = 50; cache = 1; hazards = Stall 1 2 ∷ Aerr 2 ∷ Retry 4 ∷ [] })
+    ((One (Load 1 0x40) ∷ One (Load 1 0x60) ∷ One (Load 1 0x40) ∷ []) ∷ (Idle 9 ∷ One (Load 1 0x40)
+    ∷ One (Load 1 0x60) ∷ []) ∷ [])
+    (on b0 ∷ on b0 ∷ pair (b0 + ads) 0x6 0x8 ∷ pair 0 0x2 0x2 ∷ idles 4 ++ on (rs 7 + dbsy + drdy)
+    ∷ on (b1 + dbsy + drdy) ∷ on (b1 + dbsy + drdy) ∷ pair (b1 + ads + drdy) 0x6 0x8 ∷ pair b0 0x2 0x20002 ∷ on b0
+    ∷ pair (b0 + ads) 0x6 0xc ∷ pair (hit + hitm) 0x2 0x2 ∷ idle ∷ on (aerr + hit + hitm) ∷ on b0 ∷ on b0
+    ∷ pair (b0 + ads) 0x6 0xc ∷ pair (rs 7 + dbsy + drdy) 0x2 0x2 ∷ on (dbsy + drdy) ∷ on (dbsy + drdy) ∷ on drdy
+    ∷ on b1 ∷ on (b1 + rs 7 + dbsy + drdy) ∷ pair (b1 + ads + dbsy + drdy) 0x6 0xc ∷ pair (dbsy + drdy) 0x2 0x20002
+    ∷ on drdy ∷ on b0 ∷ on (b0 + hit + defer) ∷ pair (b0 + ads) 0x6 0x8 ∷ pair (rs 1) 0x2 0x2 ∷ on b1 ∷ on b1
+    ∷ pair (b1 + ads) 0x6 0xc ∷ pair 0 0x2 0x20002 ∷ on (rs 7 + dbsy + drdy) ∷ on (dbsy + drdy) ∷ on (dbsy + drdy)
+    ∷ on drdy ∷ on (rs 7 + dbsy + drdy) ∷ on (dbsy + drdy) ∷ on (dbsy + drdy) ∷ on drdy ∷ idles 4)
+    (entry 11 0 0 0 (Load 1 0x40) 0x0 ∷ entry 24 1 1 0 (Load 1 0x40) 0x0 ∷ entry 29 0 1 0 (Load 1 0x60) 0x0
+    ∷ entry 41 0 2 0 (Load 1 0x40) 0x0 ∷ entry 45 1 2 0 (Load 1 0x60) 0x0 ∷ [])

@@ -1,13 +1,11 @@
 -- An object that tells nothing and always answers Retry: it stands for 30 clocks, and then has gone.
 use Rattle.std.proofs.Common.{◌≡◌, ◌<◌, ◌≤◌, ◌||◌, ℕ, zero, suc, refl, sym, subst, Bool, List, [], ◌∷◌, ◌++◌, Option}
-use Rattle.std.proofs.Common.{Some, None, true, false, not, nat_eq, nat_lt, replicate, slice_get, if◌then◌else◌, arith}
+use Rattle.std.proofs.Common.{Some, None, true, false, not, nat_eq, nat_lt, replicate, slice_get, take, if◌then◌else◌, arith}
 use Rattle.std.proofs.Common.{inl, inr}
 use Rattle.std.proofs.Math.Bool.{or-false}
 use Rattle.std.proofs.lemmas.Bool.{cases_lt, eqb-true, le-ltb, lt-ltb, ltb-true}
 use Rattle.fsb_access.proofs.Interface.{steps_of-nobody}
 use Rattle.fsb_access.specs.ScriptOrder.{AreOfItems, script_of, steps_of}
-use Rattle.fsb_access.specs.declared.access.Access.TheVariants.{Load}
-use Rattle.fsb_access.specs.declared.item.Item.TheVariants.{One}
 use Rattle.fsb_access.specs.declared.log.Done.{Done}
 use Rattle.fsb_count.specs.Clocks.{each_where}
 use Rattle.fsb_count.proofs.Interface.{each_where-at}
@@ -16,7 +14,7 @@ use Rattle.fsb_hazard.specs.declared.choice.Turn.TheVariants.{Retry}
 use Rattle.fsb_hazard.specs.Choice.{quiet_choice}
 use Rattle.fsb_hazard.specs.Told.{Told}
 use Rattle.fsb_script.specs.Plans.{PlanView}
-use Rattle.fsb_signal.specs.declared.lines.TheConstants.Lines.{BREQ0, ADS, DEFER, RS0, RS1, RS2, DBSY, DRDY}
+use Rattle.fsb_signal.specs.declared.lines.TheConstants.Lines.{ADS}
 use Rattle.fsb_signal.specs.Samples.{line_at}
 use Rattle.fsb_trace.specs.At.{Trace}
 use Rattle.fsb_timely.specs.Runs.{Run, requests_below}
@@ -24,58 +22,28 @@ use Rattle.fsb_timely.specs.Timely.{keeps}
 use Rattle.fsb_timely.specs.Simulated.{Simulated}
 use Rattle.fsb_timely.specs.Asked.{IsChosen}
 use Rattle.fsb_timely.specs.AskedSteps.{IsAskedAt, AskedInSteps}
-use Rattle.rows_timely.proofs.LaidOut.{clock, idle, entry, some_request, every_part}
+use Rattle.rows_timely.proofs.LaidOut.{some_request, every_part}
 use Rattle.rows_timely.proofs.Opened.{opened}
 use Rattle.rows_timely.proofs.Tests.{simulated_if}
+use Rattle.rows_timely.proofs.Words.{plain, ◌+◌, One, Load, on, pair, idle, idles, b0, ads, defer, rs, dbsy, drdy, entry}
 
 abbrev pub plan : PlanView
-plan = record {
-  scripts = (One (Load 1 0x40) ∷ []) ∷ [];
-  clocks = 60;
-  cache = 64;
-  ahead = 1;
-  profile = 1;
-  bridge = None;
-  mem = [];
-  hazards = [];
-}
+plan = record plain { scripts = (One (Load 1 0x40) ∷ []) ∷ [] }
 
 -- nine clocks of a request that is retried
 abbrev retried : Trace
 retried =
-    clock (BREQ0 ∷ []) 0x0 0x0 0x0
-    ∷ clock (BREQ0 ∷ []) 0x0 0x0 0x0
-    ∷ clock (BREQ0 ∷ ADS ∷ []) 0x6 0x8 0x0
-    ∷ clock [] 0x2 0x2 0x0
-    ∷ idle
-    ∷ idle
-    ∷ clock (DEFER ∷ []) 0x0 0x0 0x0
-    ∷ idle
-    ∷ clock (RS0 ∷ []) 0x0 0x0 0x0
-    ∷ []
+    on b0 ∷ on b0 ∷ pair (b0 + ads) 0x6 0x8 ∷ pair 0 0x2 0x2 ∷ idle ∷ idle ∷ on defer ∷ idle ∷ on (rs 1) ∷ []
 
 -- four requests are retried, and the fifth is let through
 abbrev pub trace : Trace
 trace =
     retried ++ retried ++ retried ++ retried
-    ++ clock (BREQ0 ∷ []) 0x0 0x0 0x0
-    ∷ clock (BREQ0 ∷ []) 0x0 0x0 0x0
-    ∷ clock (BREQ0 ∷ ADS ∷ []) 0x6 0x8 0x0
-    ∷ clock [] 0x2 0x2 0x0
-    ∷ idle
-    ∷ idle
-    ∷ idle
-    ∷ idle
-    ∷ clock (RS0 ∷ RS1 ∷ RS2 ∷ DBSY ∷ DRDY ∷ []) 0x0 0x0 0x0
-    ∷ clock (DBSY ∷ DRDY ∷ []) 0x0 0x0 0x0
-    ∷ clock (DBSY ∷ DRDY ∷ []) 0x0 0x0 0x0
-    ∷ clock (DRDY ∷ []) 0x0 0x0 0x0
-    ∷ replicate 12 idle
+    ++ on b0 ∷ on b0 ∷ pair (b0 + ads) 0x6 0x8 ∷ pair 0 0x2 0x2 ∷ idles 4 ++ on (rs 7 + dbsy + drdy)
+    ∷ on (dbsy + drdy) ∷ on (dbsy + drdy) ∷ on drdy ∷ idles 12
 
 abbrev pub log : List Done
-log =
-    entry 47 0 0 0 (Load 1 0x40) 0x0
-    ∷ []
+log = entry 47 0 0 0 (Load 1 0x40) 0x0 ∷ []
 
 -- the choice of the object for each request
 abbrev pub retry : Choice
@@ -96,15 +64,7 @@ wild_run = record {
   plan = plan;
   choices = replicate 7 retry;
   holds = replicate 60 false;
-  trace =
-      retried ++ retried ++ retried ++ retried ++ retried ++ retried
-      ++ clock (BREQ0 ∷ []) 0x0 0x0 0x0
-      ∷ clock (BREQ0 ∷ []) 0x0 0x0 0x0
-      ∷ clock (BREQ0 ∷ ADS ∷ []) 0x6 0x8 0x0
-      ∷ clock [] 0x2 0x2 0x0
-      ∷ idle
-      ∷ idle
-      ∷ [];
+  trace = retried ++ retried ++ retried ++ retried ++ retried ++ retried ++ take 6 retried;
   log = [];
 }
 

@@ -1,9 +1,13 @@
 //! Worked runs of both profiles, clock by clock: the prover computes that they are simulations, and that they are none where
 //! one thing is changed.
 //!
-//! There is no code; the modules are in `proofs/`. `LaidOut` has the words in which the runs are laid out, `Opened` all that is
-//! computed with, and `Tests`, `AskedLines` and `ParityByDigits` how much has to be computed of a run. Each further module has
-//! one worked run, or several that are changed in one thing (`Changed..`); `BrokenRules` has waveforms that break a phase rule.
+//! There is no code; the modules are in `proofs/`. Each stored run of rows_benches is a module with one definition, which
+//! `lab/worked_runs.py` writes in the words of `Words`: the run `four_owners` is `FourOwners.run`. `PlainRuns`, `OwnedRuns`,
+//! `HazardRuns`, `LockedRuns`, `UpgradeRuns`, `MixedRuns` and `MoreMixedRuns` say of each that it is a simulation, and that
+//! it is none with one thing changed, by the lemma of `Worked`. `Opened` has all that is computed with, and `Tests`,
+//! `AskedLines` and `ParityByDigits` how much has to be computed of a run. `WildObject` has two runs that no bench file
+//! gives, `BrokenRules` waveforms that break a phase rule, `ChangedMore` and `ChangedLogs` what is wrong in another way; the
+//! other modules try `Kept` and `Asked`.
 //!
 //! Nothing is promised: the definitions of fsb_timely are tried here, and its theorems are its own. Read rows_coherent next,
 //! which has the events of the lines of such runs.

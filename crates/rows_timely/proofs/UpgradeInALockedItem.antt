@@ -1,0 +1,14 @@
+-- Made by lab/worked_runs.py of the stored run upgrade_in_a_locked_item; not to be edited.
+use Rattle.rows_timely.proofs.Words.{Run, scripted, plain, ◌+◌, [], ◌∷◌, One, Locked, Load, Store, LastPlus, on, pair}
+use Rattle.rows_timely.proofs.Words.{idle, idles, b0, b1, lock, ads, hit, rs, dbsy, drdy, ap0, rp, entry}
+
+abbrev pub run : Run
+run = scripted (record plain { profile = 2 })
+    ((One (Load 1 0x40) ∷ Locked (Load 1 0x40 ∷ Store 1 0x40 (LastPlus 0x1) ∷ []) ∷ []) ∷ (One (Load 1 0x40) ∷ []) ∷ [])
+    (on (b0 + b1) ∷ on (b0 + b1) ∷ pair (b0 + b1 + ads + ap0 + rp) 0x6 0x8 ∷ pair (b1 + ap0 + rp) 0x2 0x2 ∷ on b1
+    ∷ pair (b1 + ads + ap0 + rp) 0x6 0x8 ∷ pair rp 0x2 0x20002 ∷ idle ∷ on (rs 7 + dbsy + drdy)
+    ∷ on (hit + dbsy + drdy) ∷ on (dbsy + drdy) ∷ on drdy ∷ on (b0 + rs 7 + dbsy + drdy) ∷ on (b0 + dbsy + drdy)
+    ∷ pair (b0 + lock + ads + dbsy + drdy + ap0) 0x2 0x8 ∷ on (lock + drdy) ∷ on lock ∷ on lock ∷ on (lock + hit)
+    ∷ on lock ∷ on (lock + rs 5) ∷ idles 39)
+    (entry 11 0 0 0 (Load 1 0x40) 0x0 ∷ entry 15 1 0 0 (Load 1 0x40) 0x0 ∷ entry 20 0 1 0 (Load 1 0x40) 0x0
+    ∷ entry 20 0 1 1 (Store 1 0x40 (LastPlus 0x1)) 0x1 ∷ [])
