@@ -1,9 +1,11 @@
 //! Small dumps, and orders over them.
 
+ghost use Rattle.scope_words.specs.Orders.{KeepsLimits};
+
 use fsb_io::{MemSink, MemSource, Memory};
-use scope_report::status;
+use scope_report::{Ending, status};
 use scope_top::{Stop, ending_at, perform};
-use scope_words::{Reading, read_order};
+use scope_words::{Order, Reading, read_order};
 use std::alloc::{AllocError, Global};
 
 /// A bus of the twelve needed lines in small letters, in the scope tb.dut.
@@ -64,14 +66,7 @@ pub(crate) fn done_failing(
     reads: &[u32],
     writes: &[u32],
 ) -> Result<Came, Memory> {
-    let mut words = Vec::new(alloc);
-    for word in row.split("|") {
-        words.push(String::from_str(alloc, word)?)?;
-    }
-    let mut source = MemSource::new(alloc, dump.as_bytes(), reads)?;
-    let mut lines = MemSource::new(alloc, named.as_bytes(), &[])?;
-    let mut out = MemSink::new(alloc, 100_000, writes)?;
-    let mut err = MemSink::new(alloc, 100_000, &[])?;
+    let words = words_of(alloc, row)?;
     match read_order(alloc, &words)? {
         Reading::Told(told) => {
             Ok(Came {
@@ -80,15 +75,63 @@ pub(crate) fn done_failing(
                 err: told.text,
             })
         }
-        Reading::Order(order) => {
-            let end = perform(alloc, order, &mut lines, &mut source, &mut out, &mut err);
-            Ok(Came {
-                status: status(ending_at(end)),
-                out: text_of(alloc, out.holds())?,
-                err: text_after(alloc, err.holds(), end.err())?,
-            })
-        }
+        Reading::Order(order) => read_from(alloc, order, dump, named, reads, writes),
     }
+}
+
+// The words of a row.
+fn words_of(alloc: Global, row: &str) -> Result<Vec<String>, AllocError> {
+    let mut words = Vec::new(alloc);
+    for word in row.split("|") {
+        words.push(String::from_str(alloc, word)?)?;
+    }
+    Ok(words)
+}
+
+// Does what is asked for over sources of the two texts.
+fn read_from(
+    alloc: Global,
+    order: Order<'_>,
+    dump: &str,
+    named: &str,
+    reads: &[u32],
+    writes: &[u32],
+) -> Result<Came, Memory>
+    requires { KeepsLimits order }
+{
+    let mut source = MemSource::new(alloc, dump.as_bytes(), reads)?;
+    let mut lines = MemSource::new(alloc, named.as_bytes(), &[])?;
+    written_to(alloc, order, &mut lines, &mut source, writes)
+}
+
+// Does what is asked for, with sinks of its own.
+fn written_to(
+    alloc: Global,
+    order: Order<'_>,
+    lines: &mut MemSource,
+    source: &mut MemSource,
+    writes: &[u32],
+) -> Result<Came, Memory>
+    requires { KeepsLimits order }
+{
+    let mut out = MemSink::new(alloc, 100_000, writes)?;
+    let mut err = MemSink::new(alloc, 100_000, &[])?;
+    let end = perform(alloc, order, lines, source, &mut out, &mut err);
+    Ok(came_of(alloc, end, out.holds(), err.holds())?)
+}
+
+// What came, of the end and of the bytes that were written.
+fn came_of(
+    alloc: Global,
+    end: Result<Ending, Stop>,
+    out: &[u8],
+    err: &[u8],
+) -> Result<Came, AllocError> {
+    Ok(Came {
+        status: status(ending_at(end)),
+        out: text_of(alloc, out)?,
+        err: text_after(alloc, err, end.err())?,
+    })
 }
 
 fn text_of(alloc: Global, bytes: &[u8]) -> Result<String, AllocError> {
@@ -102,4 +145,39 @@ fn text_after(alloc: Global, bytes: &[u8], stop: Option<Stop>) -> Result<String,
         write!(text, "{stop:?}")?;
     }
     Ok(text)
+}
+
+/// What an order comes to: the exit status, the answer, and the refusal.
+pub(crate) type End<'a> = (u8, &'a str, &'a str);
+
+impl Came {
+    /// Whether the order came to this.
+    pub(crate) fn is(&self, end: End<'_>) -> bool {
+        let (status, out, err) = end;
+        self.status == status && self.out.as_str() == out && self.err.as_str() == err
+    }
+
+    /// Whether the order ended so, with this behind the first line of its answer.
+    pub(crate) fn has_rest(&self, status: u8, wanted: &str) -> bool {
+        match self.out.as_str().split_once("\n") {
+            Some((_, rest)) => self.status == status && rest == wanted,
+            None => false,
+        }
+    }
+}
+
+/// Whether the order over this dump comes to this.
+pub(crate) fn ends(alloc: Global, row: &str, dump: &str, end: End<'_>) -> Result<bool, Memory> {
+    Ok(done(alloc, row, dump, "")?.is(end))
+}
+
+/// Whether the order over this dump ends so, with this behind the first line of its answer.
+pub(crate) fn ends_with(
+    alloc: Global,
+    row: &str,
+    dump: &str,
+    status: u8,
+    rest: &str,
+) -> Result<bool, Memory> {
+    Ok(done(alloc, row, dump, "")?.has_rest(status, rest))
 }

@@ -1,8 +1,8 @@
 //! What is said of a dump that is judged.
 
-use crate::dumps::{BUS, END, IDLE, clocks, done};
+use crate::dumps::{BUS, Came, END, IDLE, clocks, done, ends_with};
+use fsb_io::Memory;
 use std::alloc::{AllocError, Global};
-use std::test::Fail;
 
 const NOT_THERE: &str =
     "not there: BREQ1_n BREQ2_n BREQ3_n BPRI_n LOCK_n BNR_n AERR_n DEFER_n AP_n RP_n\n";
@@ -14,7 +14,9 @@ fn dump(alloc: Global, values: &str, first: u32, count: u32) -> Result<String, A
 }
 
 /// Words, the values before five clocks, and the status and the text behind the first line.
-const VERDICTS: [(&str, &str, u8, &str); 9] = [
+type Verdict = (&'static str, &'static str, u8, &'static str);
+
+const VERDICTS: [Verdict; 9] = [
     ("check|x.vcd", IDLE, 0, "accepted: 5 of 5 clocks judged\n"),
     (
         "check|--without|D_n|x.vcd",
@@ -90,49 +92,73 @@ nothing could be judged: at no clock has every control line that is there a leve
   A line that nobody drives is left out by --without LINE, unless it is a needed one.
 ";
 
+/// Whether the order came to the verdict, over the wires of tb.dut.
+fn is_verdict(came: &Came, status: u8, wanted: &str) -> bool {
+    came.err.as_str() == ""
+        && came.out.as_str().starts_with("tb.dut of x.vcd: ")
+        && came.has_rest(status, wanted)
+}
+
+/// Whether the order comes to the verdict of the row.
+fn is_judged(alloc: Global, row: &Verdict) -> Result<bool, Memory> {
+    let &(words, values, status, wanted) = row;
+    let text = dump(alloc, values, 0, 5)?;
+    let came = done(alloc, words, text.as_str(), "")?;
+    Ok(is_verdict(&came, status, wanted))
+}
+
 #[test]
 fn each_verdict_has_its_text(rt: HostRuntime) {
-    let alloc = rt.alloc();
-    for (row, values, status, wanted) in VERDICTS.iter() {
-        let text = dump(alloc, values, 0, 5).expect(&rt, "memory");
-        let came = done(alloc, row, text.as_str(), "").expect(&rt, "memory");
-        assert_eq!(rt; came.status, *status, "{row}");
-        assert_eq!(rt; came.err.as_str(), "", "{row}");
-        let (first, rest) = came.out.as_str().split_once("\n").expect(&rt, "no line");
-        assert!(rt; first.starts_with("tb.dut of x.vcd: "), "{first}");
-        assert_eq!(rt; rest, *wanted, "{row}");
+    for (at, row) in VERDICTS.iter().enumerate() {
+        assert!(rt; matches!(is_judged(rt.alloc(), row), Ok(true)), "row {at}");
     }
+}
+
+/// Whether the answer begins so, and tells the lines that are not there, and whether D_n is left out.
+fn tells_wires(out: &str, wanted: &str, is_without: bool) -> bool {
+    out.starts_with(wanted)
+        && out.contains(NOT_THERE.trim_end())
+        && out.contains("; left out: D_n\n") == is_without
+}
+
+/// Whether the answer to these words begins so.
+fn begins_so(alloc: Global, words: &str, wanted: &str) -> Result<bool, Memory> {
+    let text = dump(alloc, IDLE, 0, 1)?;
+    let came = done(alloc, words, text.as_str(), "")?;
+    Ok(tells_wires(came.out.as_str(), wanted, words.contains("without")))
 }
 
 #[test]
 fn the_report_begins_with_the_wires(rt: HostRuntime) {
-    let alloc = rt.alloc();
-    let text = dump(alloc, IDLE, 0, 1).expect(&rt, "memory");
-    let rows = [
-        ("check|x.vcd", "tb.dut of x.vcd: 12 lines; "),
-        ("check|--without|D_n|x.vcd", "tb.dut of x.vcd: 11 lines; "),
-    ];
-    for (row, wanted) in rows.iter() {
-        let came = done(alloc, row, text.as_str(), "").expect(&rt, "memory");
-        assert!(rt; came.out.as_str().starts_with(wanted), "{row}");
-        assert!(rt; came.out.as_str().contains(NOT_THERE.trim_end()), "{row}");
-        let left = came.out.as_str().contains("; left out: D_n\n");
-        assert_eq!(rt; left, row.contains("without"), "{row}");
-    }
+    let all = "tb.dut of x.vcd: 12 lines; ";
+    assert!(rt; matches!(begins_so(rt.alloc(), "check|x.vcd", all), Ok(true)));
+    let fewer = "tb.dut of x.vcd: 11 lines; ";
+    assert!(rt;
+        matches!(
+            begins_so(rt.alloc(), "check|--without|D_n|x.vcd", fewer),
+            Ok(true)
+        )
+    );
+}
+
+/// Three clocks of a bus without levels, a reset, and four clocks.
+fn reset_dump(alloc: Global) -> Result<String, AllocError> {
+    let values = "#0\n0! xa xb bx c bx d\nxe xf bx g xh xi xj bx k\n";
+    let before = clocks(alloc, 0, 3)?;
+    let clocks = clocks(alloc, 3, 4)?;
+    let reset = "1a 1b 1e 1f b111 g 1h 1i 1j\n";
+    format!(in alloc; "{BUS}{END}{values}{before}{reset}{clocks}")
+}
+
+/// Whether a check of that dump tells of the reset.
+fn is_reset_told(alloc: Global) -> Result<bool, Memory> {
+    let text = reset_dump(alloc)?;
+    ends_with(alloc, "check|x.vcd", text.as_str(), 0, AFTER_RESET)
 }
 
 #[test]
 fn a_reset_before_the_first_judged_clock_is_told(rt: HostRuntime) {
-    let alloc = rt.alloc();
-    let values = "#0\n0! xa xb bx c bx d\nxe xf bx g xh xi xj bx k\n";
-    let before = clocks(alloc, 0, 3).expect(&rt, "memory");
-    let clocks = clocks(alloc, 3, 4).expect(&rt, "memory");
-    let reset = "1a 1b 1e 1f b111 g 1h 1i 1j\n";
-    let text = format!(in alloc; "{BUS}{END}{values}{before}{reset}{clocks}").expect(&rt, "memory");
-    let came = done(alloc, "check|x.vcd", text.as_str(), "").expect(&rt, "memory");
-    assert_eq!(rt; came.status, 0);
-    let (_, rest) = came.out.as_str().split_once("\n").expect(&rt, "no line");
-    assert_eq!(rt; rest, AFTER_RESET);
+    assert!(rt; matches!(is_reset_told(rt.alloc()), Ok(true)));
 }
 
 const AFTER_RESET: &str = "\
@@ -140,17 +166,23 @@ accepted: 4 of 7 clocks judged
 clock 3 is the first that is judged: there every control line has a level
 ";
 
+/// Three clocks, a stop of the dump, and two clocks.
+fn stopped_dump(alloc: Global) -> Result<String, AllocError> {
+    let before = clocks(alloc, 0, 3)?;
+    let behind = clocks(alloc, 3, 2)?;
+    let off = "$dumpoff x! $end\n#32\n$dumpon 0! 1a 1b 1e 1f b111 g 1h 1i 1j $end\n";
+    format!(in alloc; "{BUS}{END}{IDLE}{before}{off}{behind}")
+}
+
+/// Whether a check of that dump tells of the stop.
+fn is_stop_told(alloc: Global) -> Result<bool, Memory> {
+    let text = stopped_dump(alloc)?;
+    ends_with(alloc, "check|x.vcd", text.as_str(), 0, STOPPED)
+}
+
 #[test]
 fn a_stop_of_the_dump_is_told(rt: HostRuntime) {
-    let alloc = rt.alloc();
-    let before = clocks(alloc, 0, 3).expect(&rt, "memory");
-    let behind = clocks(alloc, 3, 2).expect(&rt, "memory");
-    let off = "$dumpoff x! $end\n#32\n$dumpon 0! 1a 1b 1e 1f b111 g 1h 1i 1j $end\n";
-    let text = format!(in alloc; "{BUS}{END}{IDLE}{before}{off}{behind}").expect(&rt, "memory");
-    let came = done(alloc, "check|x.vcd", text.as_str(), "").expect(&rt, "memory");
-    assert_eq!(rt; came.status, 0);
-    let (_, rest) = came.out.as_str().split_once("\n").expect(&rt, "no line");
-    assert_eq!(rt; rest, STOPPED);
+    assert!(rt; matches!(is_stop_told(rt.alloc()), Ok(true)));
 }
 
 const STOPPED: &str = "\
@@ -158,6 +190,12 @@ accepted: 3 of 5 clocks judged
 the dump stops 1 time, first at 30 ns (line 32 of the file)
 clock 3 and those after it are not judged: the dump stopped before it
 ";
+
+/// Whether a check of no clock tells that there is no edge.
+fn is_no_edge_told(alloc: Global) -> Result<bool, Memory> {
+    let text = dump(alloc, IDLE, 0, 0)?;
+    ends_with(alloc, "check|x.vcd", text.as_str(), 3, NO_EDGE)
+}
 
 #[test]
 fn an_early_end_is_told(rt: HostRuntime) {
@@ -179,12 +217,7 @@ the file ends early: what begins at byte 536 is cut, and what is whole before it
 
 #[test]
 fn a_clock_without_an_edge_leaves_nothing_to_judge(rt: HostRuntime) {
-    let alloc = rt.alloc();
-    let text = dump(alloc, IDLE, 0, 0).expect(&rt, "memory");
-    let came = done(alloc, "check|x.vcd", text.as_str(), "").expect(&rt, "memory");
-    assert_eq!(rt; came.status, 3);
-    let (_, rest) = came.out.as_str().split_once("\n").expect(&rt, "no line");
-    assert_eq!(rt; rest, NO_EDGE);
+    assert!(rt; matches!(is_no_edge_told(rt.alloc()), Ok(true)));
 }
 
 const NO_EDGE: &str = "\
@@ -194,7 +227,9 @@ nothing could be judged: BCLK has no edge that samples
 ";
 
 /// Words, a dump behind its header, and the verdict.
-const SAMPLED: [(&str, &str, &str); 6] = [
+type Sampled = (&'static str, &'static str, &'static str);
+
+const SAMPLED: [Sampled; 6] = [
     (
         "check|x.vcd",
         "IDLE#5\n1!\n#10\n0!\n#15\n1!\n",
@@ -227,18 +262,25 @@ const SAMPLED: [(&str, &str, &str); 6] = [
     ),
 ];
 
+/// A dump of the row, in which `IDLE` stands for the values of an idle bus, and `HIGH` for the same with a clock that is high.
+fn sampled_dump(alloc: Global, values: &str) -> Result<String, AllocError> {
+    let high = IDLE.replace(alloc, "0!", "1!")?;
+    let values = values.replace(alloc, "IDLE", IDLE)?;
+    let values = values.replace(alloc, "HIGH", high.as_str())?;
+    format!(in alloc; "{BUS}{END}{values}")
+}
+
+/// Whether the second line of the answer is the verdict of the row.
+fn is_sampled(alloc: Global, row: &Sampled) -> Result<bool, Memory> {
+    let &(words, values, wanted) = row;
+    let text = sampled_dump(alloc, values)?;
+    let came = done(alloc, words, text.as_str(), "")?;
+    Ok(came.out.as_str().lines().nth(1) == Some(wanted))
+}
+
 #[test]
 fn the_lines_are_sampled_as_the_options_say(rt: HostRuntime) {
-    let alloc = rt.alloc();
-    for (row, values, wanted) in SAMPLED.iter() {
-        let high = IDLE.replace(alloc, "0!", "1!").expect(&rt, "memory");
-        let values = values.replace(alloc, "IDLE", IDLE).expect(&rt, "memory");
-        let values = values
-            .replace(alloc, "HIGH", high.as_str())
-            .expect(&rt, "memory");
-        let text = format!(in alloc; "{BUS}{END}{values}").expect(&rt, "memory");
-        let came = done(alloc, row, text.as_str(), "").expect(&rt, "memory");
-        let verdict = came.out.as_str().lines().nth(1);
-        assert_eq!(rt; verdict, Some(*wanted), "{row}");
+    for (at, row) in SAMPLED.iter().enumerate() {
+        assert!(rt; matches!(is_sampled(rt.alloc(), row), Ok(true)), "row {at}");
     }
 }

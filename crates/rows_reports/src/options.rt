@@ -1,10 +1,14 @@
 //! Files of `--lines`.
 
 use crate::dumps::{BUS, END, IDLE, clocks, done};
-use std::test::Fail;
+use fsb_io::Memory;
+use std::alloc::{AllocError, Global};
+use std::process::Abort;
 
 /// Files, and the status and the text of a check with them.
-const FILES: [(&str, u8, &str); 5] = [
+type File = (&'static str, u8, &'static str);
+
+const FILES: [File; 5] = [
     ("", 0, ""),
     ("# a note\n\n  ADS_n=tb.dut.ads_n \r\nHIT_n=hit_n", 0, ""),
     (
@@ -24,16 +28,28 @@ const FILES: [(&str, u8, &str); 5] = [
     ),
 ];
 
+/// Whether a check over the dump with the file of the row ends so, and refuses so.
+fn ends_so(alloc: Global, dump: &str, row: &File) -> Result<bool, Memory> {
+    let &(file, status, wanted) = row;
+    let came = done(alloc, "check|--lines|my.lines|x.vcd", dump, file)?;
+    Ok(came.err.as_str() == wanted && came.status == status)
+}
+
+/// Five clocks of an idle bus.
+fn dump(alloc: Global) -> Result<String, AllocError> {
+    let clocks = clocks(alloc, 0, 5)?;
+    format!(in alloc; "{BUS}{END}{IDLE}{clocks}")
+}
+
+/// Expects a check with the file of each row to end as the row says.
+fn expect_ends(rt: &impl Abort, alloc: Global, dump: &str) {
+    for (at, row) in FILES.iter().enumerate() {
+        assert!(rt; matches!(ends_so(alloc, dump, row), Ok(true)), "row {at}");
+    }
+}
+
 #[test]
 fn a_file_names_lines_as_options_do(rt: HostRuntime) {
-    let alloc = rt.alloc();
-    let clocks = clocks(alloc, 0, 5).expect(&rt, "memory");
-    let text = format!(in alloc; "{BUS}{END}{IDLE}{clocks}").expect(&rt, "memory");
-    for (file, status, wanted) in FILES.iter() {
-        let came = done(alloc, "check|--lines|my.lines|x.vcd", text.as_str(), file).expect(
-            &rt, "memory",
-        );
-        assert_eq!(rt; came.err.as_str(), *wanted, "{file}");
-        assert_eq!(rt; came.status, *status, "{file}");
-    }
+    let text = dump(rt.alloc()).expect(&rt, "memory");
+    expect_ends(&rt, rt.alloc(), text.as_str());
 }

@@ -1,17 +1,30 @@
 //! What `lines` and `rule` tell.
 
-use crate::dumps::{BUS, END, done};
-use std::test::Fail;
+use crate::dumps::{BUS, Came, END, done, ends};
+use fsb_io::Memory;
+use std::alloc::{AllocError, Global};
+
+/// A whole bus with a line that has no place, in tb.dut, and a clock in tb.mon.
+fn bus_and_clock(alloc: Global) -> Result<String, AllocError> {
+    let mon = "$upscope $end\n$scope module mon $end\n$var wire 1 z bclk $end\n";
+    let more = "$var wire 1 y bus_ok $end\n$var real 64 x ap_n $end\n";
+    format!(in alloc; "{BUS}{more}{mon}{END}")
+}
+
+/// Whether the order was answered so, with status 0.
+fn is_answered(came: &Came, wanted: &str) -> bool {
+    came.out.as_str() == wanted && came.status == 0
+}
+
+/// Whether `lines` over that dump tells the bus.
+fn is_scope_told(alloc: Global) -> Result<bool, Memory> {
+    let text = bus_and_clock(alloc)?;
+    Ok(is_answered(&done(alloc, "lines|x.vcd", text.as_str(), "")?, WHOLE))
+}
 
 #[test]
 fn lines_tells_the_scope_that_is_judged(rt: HostRuntime) {
-    let alloc = rt.alloc();
-    let mon = "$upscope $end\n$scope module mon $end\n$var wire 1 z bclk $end\n";
-    let more = "$var wire 1 y bus_ok $end\n$var real 64 x ap_n $end\n";
-    let text = format!(in alloc; "{BUS}{more}{mon}{END}").expect(&rt, "memory");
-    let came = done(alloc, "lines|x.vcd", text.as_str(), "").expect(&rt, "memory");
-    assert_eq!(rt; came.out.as_str(), WHOLE);
-    assert_eq!(rt; came.status, 0);
+    assert!(rt; matches!(is_scope_told(rt.alloc()), Ok(true)));
 }
 
 const WHOLE: &str = "\
@@ -37,12 +50,13 @@ p6scope check x.vcd: judges tb.dut
 
 #[test]
 fn lines_tells_why_a_check_would_refuse(rt: HostRuntime) {
-    let alloc = rt.alloc();
     let text = "$var wire 1 ! clk $end $var wire 1 a ads $end $enddefinitions $end\n";
-    let came = done(alloc, "lines|x.vcd", text, "").expect(&rt, "memory");
-    assert_eq!(rt; came.out.as_str(), REFUSED);
-    assert_eq!(rt; came.err.as_str(), "");
-    assert_eq!(rt; came.status, 3);
+    assert!(rt;
+        matches!(
+            ends(rt.alloc(), "lines|x.vcd", text, (3, REFUSED, "")),
+            Ok(true)
+        )
+    );
 }
 
 const REFUSED: &str = "\
@@ -52,25 +66,32 @@ x.vcd: 2 variables, no $timescale
 p6scope check x.vcd: refused, since no variable is named like a line of the bus
 ";
 
+/// Whether this is the text of rule 15.
+fn is_one(came: &Came) -> bool {
+    came.out.as_str().starts_with("rule 15: target ready\n\n") && came.status == 0
+}
+
+/// Whether these are the titles of all rules.
+fn are_all(came: &Came) -> bool {
+    let out = came.out.as_str();
+    out.lines().count() == 31
+        && out.starts_with(" 1  known control lines\n 2  request spacing\n")
+        && out.ends_with("\n31  pending line kept back\n")
+        && came.status == 0
+}
+
+/// Whether `rule 15` tells its text.
+fn is_one_told(alloc: Global) -> Result<bool, Memory> {
+    Ok(is_one(&done(alloc, "rule|15", "", "")?))
+}
+
+/// Whether `rule` tells all titles.
+fn are_all_told(alloc: Global) -> Result<bool, Memory> {
+    Ok(are_all(&done(alloc, "rule", "", "")?))
+}
+
 #[test]
 fn rule_tells_a_text_or_all_titles(rt: HostRuntime) {
-    let alloc = rt.alloc();
-    let one = done(alloc, "rule|15", "", "").expect(&rt, "memory");
-    assert!(rt;
-        one.out.as_str().starts_with("rule 15: target ready\n\n"),
-        "{one:?}"
-    );
-    assert_eq!(rt; one.status, 0);
-    let all = done(alloc, "rule", "", "").expect(&rt, "memory");
-    assert_eq!(rt; all.out.as_str().lines().count(), 31);
-    assert!(rt;
-        all.out
-            .as_str()
-            .starts_with(" 1  known control lines\n 2  request spacing\n")
-    );
-    assert!(rt;
-        all.out.as_str().ends_with("\n31  pending line kept back\n"),
-        "{all:?}"
-    );
-    assert_eq!(rt; all.status, 0);
+    assert!(rt; matches!(is_one_told(rt.alloc()), Ok(true)));
+    assert!(rt; matches!(are_all_told(rt.alloc()), Ok(true)));
 }

@@ -1,10 +1,13 @@
 //! What is said of a dump that is not read, and of words that are not done.
 
-use crate::dumps::{BUS, END, IDLE, done, done_failing};
-use std::test::Fail;
+use crate::dumps::{BUS, END, IDLE, done, done_failing, ends};
+use fsb_io::Memory;
+use std::alloc::Global;
 
 /// What stands behind a header, and the text; each ends with status 3.
-const FAULTS: [(&str, &str); 5] = [
+type Fault = (&'static str, &'static str);
+
+const FAULTS: [Fault; 5] = [
     (
         "#0\n?\n",
         "x.vcd, byte 445: no such word may stand there: unknown, a value without a code, or over 70,000 bytes\n",
@@ -24,32 +27,41 @@ const FAULTS: [(&str, &str); 5] = [
     ),
 ];
 
+/// Whether a check of the dump of the row has that fault.
+fn has_fault(alloc: Global, row: &Fault) -> Result<bool, Memory> {
+    let &(values, wanted) = row;
+    let text = format!(in alloc; "{BUS}{END}{values}")?;
+    ends(alloc, "check|x.vcd", text.as_str(), (3, "", wanted))
+}
+
 #[test]
 fn each_fault_has_its_text(rt: HostRuntime) {
-    let alloc = rt.alloc();
-    for (values, wanted) in FAULTS.iter() {
-        let text = format!(in alloc; "{BUS}{END}{values}").expect(&rt, "memory");
-        let came = done(alloc, "check|x.vcd", text.as_str(), "").expect(&rt, "memory");
-        assert_eq!(rt; came.err.as_str(), *wanted, "{values}");
-        assert_eq!(rt; came.out.as_str(), "", "{values}");
-        assert_eq!(rt; came.status, 3, "{values}");
+    for (at, row) in FAULTS.iter().enumerate() {
+        assert!(rt; matches!(has_fault(rt.alloc(), row), Ok(true)), "row {at}");
     }
+}
+
+/// The words of a check and of `lines`.
+const BOTH: [&str; 2] = ["check|x.vcd", "lines|x.vcd"];
+
+/// Whether a header with a bad declaration is told so.
+fn is_bad(alloc: Global, words: &str) -> Result<bool, Memory> {
+    let bad = done(alloc, words, "$var wire 1 $end\n", "")?;
+    Ok(bad.err.as_str() == BAD_HEADER && bad.status == 3)
+}
+
+/// Whether a dump without a byte is told so.
+fn is_none(alloc: Global, words: &str) -> Result<bool, Memory> {
+    let none = done(alloc, words, "", "")?;
+    let wanted = "x.vcd, byte 0: the file ends in the header";
+    Ok(none.err.as_str().starts_with(wanted) && none.status == 3)
 }
 
 #[test]
 fn a_header_that_does_not_follow_the_form_is_told(rt: HostRuntime) {
-    let alloc = rt.alloc();
-    for row in ["check|x.vcd", "lines|x.vcd"].iter() {
-        let bad = done(alloc, row, "$var wire 1 $end\n", "").expect(&rt, "memory");
-        assert_eq!(rt; bad.err.as_str(), BAD_HEADER, "{row}");
-        assert_eq!(rt; bad.status, 3, "{row}");
-        let none = done(alloc, row, "", "").expect(&rt, "memory");
-        assert!(rt;
-            none.err
-                .as_str()
-                .starts_with("x.vcd, byte 0: the file ends in the header")
-        );
-        assert_eq!(rt; none.status, 3, "{row}");
+    for row in BOTH.iter() {
+        assert!(rt; matches!(is_bad(rt.alloc(), row), Ok(true)), "{row}");
+        assert!(rt; matches!(is_none(rt.alloc(), row), Ok(true)), "{row}");
     }
 }
 
@@ -57,27 +69,40 @@ const BAD_HEADER: &str = "\
 x.vcd, byte 0: the header has a word between its sections, or a $var that declares nothing
 ";
 
+/// Whether the order ends with status 4 where this call of the source of the dump fails.
+fn is_unread(alloc: Global, words: &str, dump: &str, call: u32) -> Result<bool, Memory> {
+    let came = done_failing(alloc, words, dump, "", &[call], &[])?;
+    Ok(came.is((4, "", "Dump")))
+}
+
+/// Whether the order ends with status 4 where the first call of the sink of the answer fails.
+fn is_unwritten(alloc: Global, words: &str, dump: &str) -> Result<bool, Memory> {
+    let came = done_failing(alloc, words, dump, "", &[], &[0])?;
+    Ok(came.err.as_str() == "Out" && came.status == 4)
+}
+
+/// Whether each call that fails is told.
+fn is_told(alloc: Global, words: &str) -> Result<bool, Memory> {
+    let text = format!(in alloc; "{BUS}{END}{IDLE}")?;
+    let dump = text.as_str();
+    Ok(
+        is_unread(alloc, words, dump, 0)?
+            && is_unread(alloc, words, dump, 1)?
+            && is_unwritten(alloc, words, dump)?,
+    )
+}
+
 #[test]
 fn each_failing_call_is_told_with_status_4(rt: HostRuntime) {
-    let alloc = rt.alloc();
-    let text = format!(in alloc; "{BUS}{END}{IDLE}").expect(&rt, "memory");
-    for row in ["check|x.vcd", "lines|x.vcd"].iter() {
-        for call in [0u32, 1].iter() {
-            let came = done_failing(alloc, row, text.as_str(), "", &[*call], &[]).expect(
-                &rt, "memory",
-            );
-            assert_eq!(rt; came.err.as_str(), "Dump", "{row}");
-            assert_eq!(rt; came.out.as_str(), "", "{row}");
-            assert_eq!(rt; came.status, 4, "{row}");
-        }
-        let came = done_failing(alloc, row, text.as_str(), "", &[], &[0]).expect(&rt, "memory");
-        assert_eq!(rt; came.err.as_str(), "Out", "{row}");
-        assert_eq!(rt; came.status, 4, "{row}");
+    for row in BOTH.iter() {
+        assert!(rt; matches!(is_told(rt.alloc(), row), Ok(true)), "{row}");
     }
 }
 
 /// Words for what is not done yet, and the text.
-const UNOFFERED: [(&str, &str); 5] = [
+type Unoffered = (&'static str, &'static str);
+
+const UNOFFERED: [Unoffered; 5] = [
     ("pick|x.vcd", "pick: this is not done yet\n"),
     (
         "check|--at|5ns|x.vcd",
@@ -97,12 +122,18 @@ const UNOFFERED: [(&str, &str); 5] = [
     ),
 ];
 
+/// Whether the words are refused so.
+fn is_unoffered(alloc: Global, row: &Unoffered) -> Result<bool, Memory> {
+    let &(words, wanted) = row;
+    ends(alloc, words, "", (2, "", wanted))
+}
+
 #[test]
 fn what_is_not_done_is_refused(rt: HostRuntime) {
-    for (row, wanted) in UNOFFERED.iter() {
-        let came = done(rt.alloc(), row, "", "").expect(&rt, "memory");
-        assert_eq!(rt; came.err.as_str(), *wanted, "{row}");
-        assert_eq!(rt; came.out.as_str(), "", "{row}");
-        assert_eq!(rt; came.status, 2, "{row}");
+    for (at, row) in UNOFFERED.iter().enumerate() {
+        assert!(rt;
+            matches!(is_unoffered(rt.alloc(), row), Ok(true)),
+            "row {at}"
+        );
     }
 }

@@ -7,7 +7,6 @@ use fsb_hazard::{Hazard, ScriptHazard};
 use fsb_play::Bench;
 use std::alloc::{AllocError, Global};
 use std::process::Abort;
-use std::test::Fail;
 
 /// What an agent's cache has of a line: the agent, the line, its state, a place in it, and the byte there; no byte where the
 /// cache does not have the line.
@@ -83,17 +82,42 @@ fn byte(cache: &Cache, line: u64, at: usize) -> Option<u8> {
 
 /// Whether the bench lends this.
 fn is_lent(bench: &Bench, lent: &Lent) -> bool {
-    let &(agent, line, state, at, wanted) = lent;
-    match bench.cache(agent) {
-        Some(cache) => cache.state_of(line) == state && byte(cache, line, at) == wanted,
+    match bench.cache(lent.0) {
+        Some(cache) => has(cache, lent),
         None => false,
     }
+}
+
+/// Whether the cache has this.
+fn has(cache: &Cache, lent: &Lent) -> bool {
+    let &(_, line, state, at, wanted) = lent;
+    cache.state_of(line) == state && byte(cache, line, at) == wanted
+}
+
+/// Whether the bench lends all of this.
+fn are_lent(bench: &Bench, lent: &[Lent]) -> bool {
+    for it in lent {
+        if !is_lent(bench, it) {
+            return false;
+        }
+    }
+    true
 }
 
 /// Whether memory has this.
 fn is_stored(bench: &Bench, stored: &Stored) -> bool {
     let &(line, at, wanted) = stored;
     bench.memory().line(line).get(at) == Some(&wanted)
+}
+
+/// Whether memory has all of this.
+fn are_stored(bench: &Bench, stored: &[Stored]) -> bool {
+    for it in stored {
+        if !is_stored(bench, it) {
+            return false;
+        }
+    }
+    true
 }
 
 /// Names what is otherwise than it is wanted at a stop, if anything is.
@@ -103,9 +127,9 @@ fn difference(bench: &Bench, agents: u8, stop: &Stop<'_>) -> &'static str {
         "the clock"
     } else if bench.cache(agents).is_some() {
         "the number of agents"
-    } else if !lent.iter().all(|lent| is_lent(bench, lent)) {
+    } else if !are_lent(bench, lent) {
         "a cache"
-    } else if !stored.iter().all(|stored| is_stored(bench, stored)) {
+    } else if !are_stored(bench, stored) {
         "memory"
     } else {
         ""
@@ -119,35 +143,46 @@ fn scripted(alloc: Global) -> Result<Vec<Box<dyn Hazard>>, AllocError> {
     Ok(hazards)
 }
 
-/// Expects of a run that at each of its stops caches and memory have what they are to have.
-fn expect_stops(rt: &impl Abort, alloc: Global, run: &Run<'_>) -> Result<(), AllocError> {
+/// Goes on to the stop, and names what is otherwise there than it is wanted, if anything is.
+fn stopped(bench: &mut Bench, agents: u8, stop: &Stop<'_>) -> &'static str {
+    let left = stop.0.saturating_sub(bench.clock());
+    go(bench, left);
+    difference(bench, agents, stop)
+}
+
+/// Expects of a bench that at each stop caches and memory have what they are to have.
+fn expect_stops(rt: &impl Abort, bench: &mut Bench, agents: u8, stops: &[Stop<'_>]) {
+    for (at, stop) in stops.iter().enumerate() {
+        let wrong = stopped(bench, agents, stop);
+        assert!(rt; wrong == "", "{wrong} at stop {at}");
+    }
+}
+
+/// The bench of a text with the object that gives its hazard lines.
+fn scripted_bench(alloc: Global, text: &str) -> Option<Bench> {
+    match scripted(alloc) {
+        Ok(hazards) => bench_of(alloc, text, hazards),
+        Err(_) => None,
+    }
+}
+
+/// Expects the same of a run.
+fn expect_run(rt: &impl Abort, alloc: Global, run: &Run<'_>) {
     let (text, agents, stops) = *run;
-    let mut bench = bench_of(alloc, text, scripted(alloc)?).expect(rt, "a bench");
-    for stop in stops {
-        let left = stop.0.saturating_sub(bench.clock());
-        go(&mut bench, left);
-        assert_eq!(rt;
-            difference(&bench, agents, stop),
-            "",
-            "at clock {} of {text}",
-            stop.0
-        );
-    }
-    Ok(())
+    let mut bench = scripted_bench(alloc, text).expect(rt, text);
+    expect_stops(rt, &mut bench, agents, stops);
 }
 
 #[test]
-fn stores_stay_in_the_cache_until_a_transfer(rt: HostRuntime) -> Result<(), Fail> {
-    for run in &WORKED {
-        expect_stops(&rt, rt.alloc(), run)?;
+fn stores_stay_in_the_cache_until_a_transfer(rt: HostRuntime) {
+    for run in WORKED.iter() {
+        expect_run(&rt, rt.alloc(), run);
     }
-    Ok(())
 }
 
 #[test]
-fn caches_of_ten_mixed_runs(rt: HostRuntime) -> Result<(), Fail> {
-    for run in &MIXED {
-        expect_stops(&rt, rt.alloc(), run)?;
+fn caches_of_ten_mixed_runs(rt: HostRuntime) {
+    for run in MIXED.iter() {
+        expect_run(&rt, rt.alloc(), run);
     }
-    Ok(())
 }

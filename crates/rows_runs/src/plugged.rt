@@ -9,7 +9,6 @@ use fsb_signal::{Lines, Sample};
 use rows_store::{ADS, BREQ0, Clock, DEFER, LOAD_THEN_STORE_HIT, RS0, trace_of};
 use std::alloc::{AllocError, Global};
 use std::process::Abort;
-use std::test::Fail;
 
 /// One load of a byte that no line of the file sets.
 const ONE_LOAD: &str = "p6bench 1\nagents 1\nclocks 60\ncache 64\nahead 1\nagent 0\nld 1 40\nend\n";
@@ -105,83 +104,136 @@ fn retried_trace(alloc: Global, times: u32, byte: u64) -> Result<Vec<Sample>, Al
 
 /// Whether a request begins at these clocks of the trace and at no others.
 fn begins_at(trace: &[Sample], clocks: &[usize]) -> bool {
-    trace.iter().enumerate().all(|(clock, sample)| sample.has(Lines::ADS)
-        == clocks.contains(&clock))
+    for (clock, sample) in trace.iter().enumerate() {
+        if sample.has(Lines::ADS) != clocks.contains(&clock) {
+            return false;
+        }
+    }
+    true
 }
 
-#[test]
-fn first_bench(rt: HostRuntime) {
-    let bench = bare_bench(rt.alloc(), LOAD_THEN_STORE).expect(&rt, "a bench");
+/// Whether the bench has a plan of 60 clocks, and has run none of them.
+fn is_new(bench: &Bench) -> bool {
     let nothing = Whole {
         trace: &[],
         choices: &[],
         log: &[],
     };
-    assert_eq!(rt; bench.plan().clocks, 60);
-    assert_eq!(rt; difference(&bench, &nothing), "");
+    bench.plan().clocks == 60 && difference(bench, &nothing) == ""
+}
+
+#[test]
+fn first_bench(rt: HostRuntime) {
+    let bench = bare_bench(rt.alloc(), LOAD_THEN_STORE).expect(&rt, "a bench");
+    assert!(rt; is_new(&bench));
+}
+
+/// Names what of the worked run is otherwise, if anything is.
+fn worked_difference(alloc: Global, bench: &Bench) -> Result<&'static str, AllocError> {
+    let trace = retried_trace(alloc, 0, 7)?;
+    let wanted = Whole {
+        trace: &trace,
+        choices: &[quiet_choice()],
+        log: &[loaded(11, 7), stored(12)],
+    };
+    Ok(difference(bench, &wanted))
+}
+
+/// Whether the bench takes a quiet object.
+fn is_quiet_plugged(alloc: Global, bench: &mut Bench) -> Result<bool, AllocError> {
+    let quiet: Box<dyn Hazard> = Box::new(alloc, QuietHazard::new())?;
+    Ok(bench.plug(quiet).is_ok())
+}
+
+/// Whether the bench has one object, and gives it back.
+fn is_unplugged(bench: &mut Bench) -> bool {
+    bench.unplug(5).is_none() && bench.unplug(0).is_some()
 }
 
 /// A quiet object changes nothing of the worked run.
 #[test]
-fn plugged_before_the_first_clock(rt: HostRuntime) -> Result<(), Fail> {
+fn plugged_before_the_first_clock(rt: HostRuntime) {
     let mut bench = bare_bench(rt.alloc(), LOAD_THEN_STORE).expect(&rt, "a bench");
-    let quiet: Box<dyn Hazard> = Box::new(rt.alloc(), QuietHazard::new())?;
-    assert!(rt; bench.plug(quiet).is_ok());
+    assert!(rt; matches!(is_quiet_plugged(rt.alloc(), &mut bench), Ok(true)));
     go(&mut bench, 60);
-    let trace = retried_trace(rt.alloc(), 0, 7)?;
-    let choices = [quiet_choice()];
-    let log = [loaded(11, 7), stored(12)];
-    let wanted = Whole {
-        trace: &trace,
-        choices: &choices,
-        log: &log,
+    let wrong = worked_difference(rt.alloc(), &bench).unwrap_or("memory");
+    assert!(rt; wrong == "", "{wrong}");
+    assert!(rt; is_unplugged(&mut bench));
+}
+
+/// Whether the bench takes a stubborn object.
+fn is_stubborn_plugged(alloc: Global, bench: &mut Bench) -> Result<bool, AllocError> {
+    let stubborn: Box<dyn Hazard> = Box::new(alloc, Stubborn::new())?;
+    Ok(bench.plug(stubborn).is_ok())
+}
+
+/// What the stubborn object chooses for the first five requests, if it is taken out before the fifth.
+fn choices() -> [Choice; 5] {
+    [retry(), retry(), retry(), retry(), quiet_choice()]
+}
+
+/// Names what of the first 30 clocks is otherwise, if anything is: four requests are retried.
+fn half_difference(alloc: Global, bench: &Bench, byte: u64) -> Result<&'static str, AllocError> {
+    let trace = retried_trace(alloc, 4, byte)?;
+    let half = Whole {
+        trace: trace.get(..30).unwrap_or(&[]),
+        choices: &choices()[..4],
+        log: &[],
     };
-    assert_eq!(rt; difference(&bench, &wanted), "");
-    assert!(rt; bench.unplug(5).is_none());
-    assert!(rt; bench.unplug(0).is_some());
-    Ok(())
+    Ok(difference(bench, &half))
+}
+
+/// Names what of the whole run is otherwise, if anything is: the load then comes with this byte.
+fn whole_difference(
+    alloc: Global,
+    bench: &Bench,
+    byte: u64,
+    log: &[Done],
+) -> Result<&'static str, AllocError> {
+    let trace = retried_trace(alloc, 4, byte)?;
+    let whole = Whole {
+        trace: &trace,
+        choices: &choices(),
+        log,
+    };
+    Ok(difference(bench, &whole))
+}
+
+/// The choice of the object at the place, which is taken out; None where there is none.
+fn taken(bench: &mut Bench, place: usize) -> Option<Choice> {
+    let mut object = bench.unplug(place)?;
+    Some(object.choose(&Ask::Clock(0)))
+}
+
+/// Whether the first object, which is taken out, is the one that was asked so often.
+fn was_asked(bench: &mut Bench, often: u8) -> bool {
+    match taken(bench, 0) {
+        Some(choice) => choice.stall == often,
+        None => false,
+    }
 }
 
 /// Expects that the load is retried as long as the object stands on the bench, and that the object which is taken out after 30
 /// clocks is the very one: it was asked at each clock and for each of four requests.
-fn expect_retried(
-    rt: &impl Abort,
-    alloc: Global,
-    text: &str,
-    byte: u64,
-    log: &[Done],
-) -> Result<(), AllocError> {
-    let mut bench = bare_bench(alloc, text).expect(rt, "a bench");
-    let stubborn: Box<dyn Hazard> = Box::new(alloc, Stubborn::new())?;
-    assert!(rt; bench.plug(stubborn).is_ok());
-    go(&mut bench, 30);
-    let trace = retried_trace(alloc, 4, byte)?;
-    let choices = [retry(), retry(), retry(), retry(), quiet_choice()];
-    let half = Whole {
-        trace: trace.get(..30).unwrap_or(&[]),
-        choices: &choices[..4],
-        log: &[],
-    };
-    assert_eq!(rt; difference(&bench, &half), "");
-    let mut taken = bench.unplug(0).expect(rt, "the object");
-    assert_eq!(rt; taken.choose(&Ask::Clock(0)).stall, 34);
-    go(&mut bench, 30);
-    let whole = Whole {
-        trace: &trace,
-        choices: &choices,
-        log,
-    };
-    assert_eq!(rt; difference(&bench, &whole), "");
+fn expect_retried(rt: &impl Abort, alloc: Global, bench: &mut Bench, byte: u64, log: &[Done]) {
+    assert!(rt; matches!(is_stubborn_plugged(alloc, bench), Ok(true)));
+    go(bench, 30);
+    let wrong = half_difference(alloc, bench, byte).unwrap_or("memory");
+    assert!(rt; wrong == "", "{wrong}");
+    assert!(rt; was_asked(bench, 34));
+    go(bench, 30);
+    let wrong = whole_difference(alloc, bench, byte, log).unwrap_or("memory");
+    assert!(rt; wrong == "", "{wrong}");
     assert!(rt; begins_at(bench.trace(), &[2, 11, 20, 29, 38]));
-    Ok(())
 }
 
 #[test]
-fn objects_come_and_go(rt: HostRuntime) -> Result<(), Fail> {
-    expect_retried(&rt, rt.alloc(), ONE_LOAD, 0, &[loaded(47, 0)])?;
+fn objects_come_and_go(rt: HostRuntime) {
+    let mut bench = bare_bench(rt.alloc(), ONE_LOAD).expect(&rt, "a bench");
+    expect_retried(&rt, rt.alloc(), &mut bench, 0, &[loaded(47, 0)]);
+    let mut bench = bare_bench(rt.alloc(), LOAD_THEN_STORE).expect(&rt, "a bench");
     let both = [loaded(47, 7), stored(48)];
-    expect_retried(&rt, rt.alloc(), LOAD_THEN_STORE, 7, &both)?;
-    Ok(())
+    expect_retried(&rt, rt.alloc(), &mut bench, 7, &both);
 }
 
 /// A quiet object and a stubborn one behind it.
@@ -192,22 +244,28 @@ fn two_objects(alloc: Global) -> Result<Vec<Box<dyn Hazard>>, AllocError> {
     Ok(hazards)
 }
 
-/// The choice of the object at the place, which is taken out; None where there is none.
-fn taken(bench: &mut Bench, place: usize) -> Option<Choice> {
-    let mut object = bench.unplug(place)?;
-    Some(object.choose(&Ask::Clock(0)))
+/// The bench of the worked run with the two objects.
+fn bench_of_two(alloc: Global) -> Option<Bench> {
+    match two_objects(alloc) {
+        Ok(hazards) => bench_of(alloc, LOAD_THEN_STORE, hazards),
+        Err(_) => None,
+    }
+}
+
+/// Whether there is no third object, and the first one is quiet, which is taken out.
+fn is_quiet_taken(bench: &mut Bench) -> bool {
+    taken(bench, 2) == None && taken(bench, 0) == Some(quiet_choice())
+}
+
+/// Whether there are two stubborn objects, which are taken out.
+fn are_stubborn_taken(bench: &mut Bench) -> bool {
+    taken(bench, 1) == Some(retry()) && taken(bench, 0) == Some(retry()) && taken(bench, 0) == None
 }
 
 #[test]
-fn plug_and_unplug(rt: HostRuntime) -> Result<(), Fail> {
-    let hazards = two_objects(rt.alloc())?;
-    let mut bench = bench_of(rt.alloc(), LOAD_THEN_STORE, hazards).expect(&rt, "a bench");
-    assert_eq!(rt; taken(&mut bench, 2), None);
-    assert_eq!(rt; taken(&mut bench, 0), Some(quiet_choice()));
-    let stubborn: Box<dyn Hazard> = Box::new(rt.alloc(), Stubborn::new())?;
-    assert!(rt; bench.plug(stubborn).is_ok());
-    assert_eq!(rt; taken(&mut bench, 1), Some(retry()));
-    assert_eq!(rt; taken(&mut bench, 0), Some(retry()));
-    assert_eq!(rt; taken(&mut bench, 0), None);
-    Ok(())
+fn plug_and_unplug(rt: HostRuntime) {
+    let mut bench = bench_of_two(rt.alloc()).expect(&rt, "a bench");
+    assert!(rt; is_quiet_taken(&mut bench));
+    assert!(rt; matches!(is_stubborn_plugged(rt.alloc(), &mut bench), Ok(true)));
+    assert!(rt; are_stubborn_taken(&mut bench));
 }
