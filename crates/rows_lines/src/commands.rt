@@ -3,8 +3,6 @@
 use fsb_command::{Command, Words, read_words};
 use fsb_io::Memory;
 use std::alloc::{AllocError, Global};
-use std::process::Abort;
-use std::test::Fail;
 
 /// What a command asks for, but for its trigger: its verb, the names of files, and its numbers. No name is `-`.
 fn told(alloc: Global, command: &Command<'_>) -> Result<String, AllocError> {
@@ -42,24 +40,26 @@ fn words_of(alloc: Global, row: &str) -> Result<Words, Memory> {
     Ok(words)
 }
 
-/// Asserts what is told of the words: what they ask for, or `none`.
-fn expect_told(rt: &impl Abort, alloc: Global, words: &Words, wanted: &str) {
-    match read_words(alloc, words).expect(rt, "out of memory") {
-        Some(command) => {
-            let told = told(alloc, &command).expect(rt, "out of memory");
-            assert_eq!(rt; told.as_str(), wanted, "{words:?}");
-        }
-        None => assert_eq!(rt; "none", wanted, "{words:?}"),
+/// Whether this is told of the words: what they ask for, or `none`.
+fn is_told(alloc: Global, words: &Words, wanted: &str) -> Result<bool, Memory> {
+    match read_words(alloc, words)? {
+        Some(command) => Ok(told(alloc, &command)?.as_str() == wanted),
+        None => Ok(wanted == "none"),
     }
+}
+
+/// Whether the words are kept in their order.
+fn are_kept(words: &Words) -> bool {
+    words.len() == 3
+        && !words.is_empty()
+        && words.word(1) == Some("first.bench")
+        && words.word(3) == None
 }
 
 #[test]
 fn words_keep_their_order(rt: HostRuntime) {
     let words = words_of(rt.alloc(), "run|first.bench|first.vcd").expect(&rt, "out of memory");
-    assert_eq!(rt; words.len(), 3);
-    assert!(rt; !words.is_empty());
-    assert_eq!(rt; words.word(1), Some("first.bench"));
-    assert_eq!(rt; words.word(3), None);
+    assert!(rt; are_kept(&words));
 }
 
 /// Command lines of each form, and what each asks for; and at the bounds of what a plan is made from, where there is none.
@@ -94,12 +94,18 @@ gen|7|4|0001=gen - - 7 4 1
 gen|7|4|00001=none
 ";
 
+/// Whether what stands behind the `=` of a row is told of the words before it.
+fn is_form(alloc: Global, row: &str) -> Result<bool, Memory> {
+    match row.split_once("=") {
+        Some((words, wanted)) => is_told(alloc, &words_of(alloc, words)?, wanted),
+        None => Ok(false),
+    }
+}
+
 #[test]
 fn each_form_names_its_command(rt: HostRuntime) {
     for row in FORMS.lines() {
-        let (row, wanted) = row.split_once("=").expect(&rt, "no command");
-        let words = words_of(rt.alloc(), row).expect(&rt, "out of memory");
-        expect_told(&rt, rt.alloc(), &words, wanted);
+        assert!(rt; matches!(is_form(rt.alloc(), row), Ok(true)), "{row}");
     }
 }
 
@@ -163,27 +169,47 @@ gen|0x1|1|1
 gen|0|1 |1
 ";
 
+/// Whether the words have no form.
+fn is_none(alloc: Global, row: &str) -> Result<bool, Memory> {
+    is_told(alloc, &words_of(alloc, row)?, "none")
+}
+
 #[test]
 fn words_without_a_form(rt: HostRuntime) {
-    expect_told(&rt, rt.alloc(), &Words::new(rt.alloc()), "none");
+    let nothing = Words::new(rt.alloc());
+    assert!(rt; matches!(is_told(rt.alloc(), &nothing, "none"), Ok(true)));
     for row in NO_FORM.lines() {
-        let words = words_of(rt.alloc(), row).expect(&rt, "out of memory");
-        expect_told(&rt, rt.alloc(), &words, "none");
+        assert!(rt; matches!(is_none(rt.alloc(), row), Ok(true)), "{row}");
     }
 }
 
 /// The forms with a name in them.
 static NAMED: [&'static str; 3] = ["check|", "run|", "run|a.bench|"];
 
+/// Whether the form with a name of so many bytes is a command.
+fn takes_name(alloc: Global, form: &str, len: usize) -> Result<bool, Memory> {
+    let name = "a".repeat(alloc, len)?;
+    let row = format!(in alloc; "{form}{name}")?;
+    is_command(alloc, row.as_str())
+}
+
+/// Whether the words are a command.
+fn is_command(alloc: Global, row: &str) -> Result<bool, Memory> {
+    let words = words_of(alloc, row)?;
+    Ok(read_words(alloc, &words)?.is_some())
+}
+
 /// The longest word may be the name of a file, of a bench file and of a dump; with one byte more it may not.
 #[test]
-fn longest_word(rt: HostRuntime) -> Result<(), Fail> {
-    let name = "a".repeat(rt.alloc(), 4_096)?;
+fn longest_word(rt: HostRuntime) {
     for form in NAMED.iter() {
-        let longest = words_of(rt.alloc(), &format!(in rt.alloc(); "{form}{name}")?)?;
-        assert!(rt; read_words(rt.alloc(), &longest)?.is_some(), "{form}");
-        let longer = words_of(rt.alloc(), &format!(in rt.alloc(); "{form}{name}a")?)?;
-        assert!(rt; read_words(rt.alloc(), &longer)?.is_none(), "{form}");
+        assert!(rt;
+            matches!(takes_name(rt.alloc(), form, 4_096), Ok(true)),
+            "{form}"
+        );
+        assert!(rt;
+            matches!(takes_name(rt.alloc(), form, 4_097), Ok(false)),
+            "{form}"
+        );
     }
-    Ok(())
 }

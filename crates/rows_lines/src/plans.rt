@@ -3,9 +3,9 @@
 use crate::scripts::read;
 use fsb_access::{Access, Item, Operand, Script};
 use fsb_hazard::HazardLine;
-use fsb_script::{Window, plan_of, write_bench};
-use std::process::Abort;
-use std::test::Fail;
+use fsb_io::Memory;
+use fsb_script::{Plan, Window, plan_of, write_bench};
+use std::alloc::Global;
 
 /// A plan with a line of each form, in its canonical text.
 const EACH_FORM: &str = "\
@@ -73,19 +73,23 @@ static WRITTEN: [(&'static str, &'static str); 7] = [
     (RUNS, RUNS),
 ];
 
+/// Whether what is read of a text is written as this one.
+fn is_written(alloc: Global, text: &str, canonical: &str) -> Result<bool, Memory> {
+    match read(alloc, text) {
+        Ok(plan) => Ok(write_bench(alloc, &plan)?.as_slice() == canonical.as_bytes()),
+        Err(_) => Ok(false),
+    }
+}
+
 /// What is read of a text is written as its canonical text, in whatever spelling it came.
 #[test]
-fn texts_read_and_written(rt: HostRuntime) -> Result<(), Fail> {
+fn texts_read_and_written(rt: HostRuntime) {
     for (text, canonical) in WRITTEN.iter() {
-        match read(&rt, rt.alloc(), text) {
-            Ok(plan) => {
-                let written = write_bench(rt.alloc(), &plan)?;
-                assert_eq!(rt; written.as_slice(), canonical.as_bytes());
-            }
-            Err(_) => panic!(rt; "{text:?}"),
-        }
+        assert!(rt;
+            matches!(is_written(rt.alloc(), text, canonical), Ok(true)),
+            "{text:?}"
+        );
     }
-    Ok(())
 }
 
 /// A hazard of each kind.
@@ -137,22 +141,33 @@ fn are_the_scripts(scripts: &[Script]) -> bool {
     }
 }
 
+/// The bridge of that plan.
+static WINDOW: Window = Window {
+    base: 0x1000,
+    size: 0x20,
+};
+
+/// Whether the plan has these scripts and hazards, profile 2 and this bridge.
+fn has_each_form(plan: &Plan) -> bool {
+    are_the_scripts(plan.scripts.as_slice())
+        && plan.hazards.as_slice() == HAZARDS.as_slice()
+        && plan.profile == 2
+        && plan.bridge == Some(WINDOW)
+}
+
+/// Whether that plan is read of the text.
+fn is_each_form_read(alloc: Global) -> bool {
+    match read(alloc, EACH_FORM) {
+        Ok(plan) => has_each_form(&plan),
+        Err(_) => false,
+    }
+}
+
 /// The plan that has these scripts and hazards, profile 2 and this bridge is written as the text with a line of each form.
 #[test]
-fn lines_of_scripts_and_hazards(rt: HostRuntime) -> Result<(), Fail> {
-    let Ok(plan) = read(&rt, rt.alloc(), EACH_FORM) else {
-        rt.abort();
-    };
-    assert!(rt; are_the_scripts(plan.scripts.as_slice()));
-    assert_eq!(rt; plan.hazards.as_slice(), HAZARDS.as_slice());
-    let window = Window {
-        base: 0x1000,
-        size: 0x20,
-    };
-    assert_eq!(rt; (plan.profile, plan.bridge), (2, Some(window)));
-    let written = write_bench(rt.alloc(), &plan)?;
-    assert_eq!(rt; written.as_slice(), EACH_FORM.as_bytes());
-    Ok(())
+fn lines_of_scripts_and_hazards(rt: HostRuntime) {
+    assert!(rt; is_each_form_read(rt.alloc()));
+    assert!(rt; matches!(is_written(rt.alloc(), EACH_FORM, EACH_FORM), Ok(true)));
 }
 
 /// Seed 0, one agent with one item.
@@ -231,29 +246,44 @@ tx 2 data 1
 tx 4 aerr
 ";
 
-#[test]
-fn plans_of_three_seeds(rt: HostRuntime) -> Result<(), Fail> {
-    let rows = [
-        (0, 1, 1, LOCKED_ITEM),
-        (25, 2, 4, EACH_KIND_OF_ITEM),
-        (u64::MAX, 3, 2, LAST_SEED),
-    ];
-    for (seed, agents, items, text) in rows {
-        let plan = plan_of(rt.alloc(), seed, agents, items)?;
-        let written = write_bench(rt.alloc(), &plan)?;
-        assert_eq!(rt; written.as_slice(), text.as_bytes(), "seed {seed}");
+/// The seed, the agents and their items, and the text of the plan.
+type Made = (u64, u8, u16, &'static str);
+
+static MADE: [Made; 3] = [
+    (0, 1, 1, LOCKED_ITEM),
+    (25, 2, 4, EACH_KIND_OF_ITEM),
+    (u64::MAX, 3, 2, LAST_SEED),
+];
+
+/// Whether the plan of the seed is written so.
+fn is_made(alloc: Global, row: &Made) -> Result<bool, Memory> {
+    let &(seed, agents, items, text) = row;
+    if agents < 1 || 4 < agents || items < 1 || 4_096 < items {
+        return Ok(false);
     }
-    Ok(())
+    let plan = plan_of(alloc, seed, agents, items)?;
+    Ok(write_bench(alloc, &plan)?.as_slice() == text.as_bytes())
+}
+
+#[test]
+fn plans_of_three_seeds(rt: HostRuntime) {
+    for (at, row) in MADE.iter().enumerate() {
+        assert!(rt; matches!(is_made(rt.alloc(), row), Ok(true)), "row {at}");
+    }
+}
+
+/// Whether the plan has the most clocks, and these hazard lines in number, with this last one.
+fn is_largest(plan: &Plan) -> bool {
+    let hazards = plan.hazards.as_slice();
+    plan.clocks == 200_000
+        && plan.scripts.as_slice().len() == 4
+        && hazards.len() == 1_790
+        && hazards[hazards.len() - 1] == HazardLine::Trdy(4_094, 1)
 }
 
 /// Clocks end at 200,000, and hazard lines at request 4,095.
 #[test]
-fn largest_plan(rt: HostRuntime) -> Result<(), Fail> {
-    let plan = plan_of(rt.alloc(), 7, 4, 4_096)?;
-    assert_eq!(rt; plan.clocks, 200_000);
-    assert_eq!(rt; plan.scripts.as_slice().len(), 4);
-    let hazards = plan.hazards.as_slice();
-    assert_eq!(rt; hazards.len(), 1_790);
-    assert_eq!(rt; hazards[hazards.len() - 1], HazardLine::Trdy(4_094, 1));
-    Ok(())
+fn largest_plan(rt: HostRuntime) {
+    let plan = plan_of(rt.alloc(), 7, 4, 4_096).expect(&rt, "out of memory");
+    assert!(rt; is_largest(&plan));
 }

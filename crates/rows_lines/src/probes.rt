@@ -2,36 +2,51 @@
 
 use fsb_probe::{DataProbe, LineProbe, Probe, total_of, watch_all};
 use fsb_signal::{Lines, Sample};
-use std::test::Fail;
+use std::alloc::{AllocError, Global};
 
 /// A sample with these lines and data.
 fn sample(lines: Lines, data: u64) -> Sample {
     Sample::known(Lines(lines.0 % (1 << 21)), 0, 0, data)
 }
 
-#[test]
-fn each_probe_has_its_total(rt: HostRuntime) -> Result<(), Fail> {
+/// A probe of each of three lines, and one of the data.
+fn probes_of(alloc: Global) -> Result<Vec<Box<dyn Probe>>, AllocError> {
+    let mut probes: Vec<Box<dyn Probe>> = Vec::new(alloc);
+    probes.push(Box::new(alloc, LineProbe::new(7))?)?;
+    probes.push(Box::new(alloc, LineProbe::new(17))?)?;
+    probes.push(Box::new(alloc, LineProbe::new(20))?)?;
+    probes.push(Box::new(alloc, DataProbe::new())?)?;
+    Ok(probes)
+}
+
+/// Whether the probes have these totals.
+fn have_totals(probes: &[Box<dyn Probe>], totals: &[u64; 4]) -> bool {
+    for (probe, total) in probes.iter().zip(totals.iter()) {
+        if total_of(probe) != *total {
+            return false;
+        }
+    }
+    true
+}
+
+/// Whether the probes have the totals of four samples once they have watched them.
+fn have_watched(probes: &mut [Box<dyn Probe>]) -> bool {
     let w = [
         sample(Lines::ADS, 7),
         sample(Lines(Lines::ADS.0 | Lines::DRDY.0), 5),
         sample(Lines::DRDY, u64::MAX),
         sample(Lines::RP, 0),
     ];
-    let mut probes: Vec<Box<dyn Probe>> = Vec::new(rt.alloc());
-    probes.push(Box::new(rt.alloc(), LineProbe::new(7))?)?;
-    probes.push(Box::new(rt.alloc(), LineProbe::new(17))?)?;
-    probes.push(Box::new(rt.alloc(), LineProbe::new(20))?)?;
-    probes.push(Box::new(rt.alloc(), DataProbe::new())?)?;
+    watch_all(probes, &w);
+    have_totals(probes, &[2, 2, 1, 66])
+}
+
+#[test]
+fn each_probe_has_its_total(rt: HostRuntime) {
+    let mut probes = probes_of(rt.alloc()).expect(&rt, "out of memory");
+    assert!(rt; have_watched(&mut probes));
     // What was counted before is forgotten.
-    for _ in 0..2 {
-        watch_all(&mut probes, &w);
-        for (probe, total) in probes.iter().zip([2, 2, 1, 66]) {
-            assert_eq!(rt; total_of(probe), total);
-        }
-    }
+    assert!(rt; have_watched(&mut probes));
     watch_all(&mut probes, &[]);
-    for probe in &probes {
-        assert_eq!(rt; total_of(probe), 0);
-    }
-    Ok(())
+    assert!(rt; have_totals(&probes, &[0, 0, 0, 0]));
 }

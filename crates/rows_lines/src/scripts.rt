@@ -6,7 +6,6 @@ use fsb_io::Memory;
 use fsb_script::{Plan, ScriptStop, Window, is_lawful_script, read_bench};
 use std::alloc::{AllocError, Global};
 use std::process::Abort;
-use std::test::Fail;
 use table::{BAD, GOOD};
 
 mod table;
@@ -47,33 +46,45 @@ fn behind(alloc: Global, start: &str, text: &str) -> Result<String, AllocError> 
     Ok(whole)
 }
 
-/// The plan of a text, or why it is not read; it asserts that the text is short enough to be read at all.
-pub(crate) fn read(rt: &impl Abort, alloc: Global, text: &str) -> Result<Plan, ScriptStop> {
-    assert!(rt; text.len() <= 1_000_000);
-    read_bench(alloc, text.as_bytes())
-}
-
-/// Asserts what is told of a text: `read`, or its first bad line and that line's cause.
-fn expect_told(rt: &impl Abort, alloc: Global, text: &str, wanted: &str) {
-    match read(rt, alloc, text) {
-        Ok(_) => assert_eq!(rt; "read", wanted, "{text:?}"),
-        Err(ScriptStop::Bad(fault)) => {
-            let line = fault.line;
-            let cause = fault.cause;
-            let told = format!(in alloc; "{line} {cause:?}").expect(rt, "out of memory");
-            assert_eq!(rt; told.as_str(), wanted, "{text:?}");
-        }
-        Err(ScriptStop::Memory) => rt.abort(),
+/// The plan of a text, or why it is not read; a text that is too long to be read at all is refused for memory.
+pub(crate) fn read(alloc: Global, text: &str) -> Result<Plan, ScriptStop> {
+    if text.len() <= 1_000_000 {
+        read_bench(alloc, text.as_bytes())
+    } else {
+        Err(ScriptStop::Memory)
     }
 }
 
-/// Asserts of each row what is told of its text.
+/// Whether this is told of a text: `read`, or its first bad line and that line's cause.
+fn is_told(alloc: Global, text: &str, wanted: &str) -> Result<bool, AllocError> {
+    match read(alloc, text) {
+        Ok(_) => Ok(wanted == "read"),
+        Err(ScriptStop::Bad(fault)) => {
+            let line = fault.line;
+            let cause = fault.cause;
+            let told = format!(in alloc; "{line} {cause:?}")?;
+            Ok(told.as_str() == wanted)
+        }
+        Err(ScriptStop::Memory) => Ok(false),
+    }
+}
+
+/// Whether what stands last in a row is told of its text.
+fn is_row(alloc: Global, row: &str) -> Result<bool, AllocError> {
+    let Some((start, rest)) = row.split_once("|") else {
+        return Ok(false);
+    };
+    let Some((text, wanted)) = rest.split_once("|") else {
+        return Ok(false);
+    };
+    let whole = behind(alloc, start, text)?;
+    is_told(alloc, whole.as_str(), wanted)
+}
+
+/// Expects of each row that it is told of its text.
 fn expect_rows(rt: &impl Abort, alloc: Global, rows: &str) {
     for row in rows.lines() {
-        let (start, rest) = row.split_once("|").expect(rt, "no start");
-        let (text, wanted) = rest.split_once("|").expect(rt, "no text");
-        let whole = behind(alloc, start, text).expect(rt, "out of memory");
-        expect_told(rt, alloc, &whole, wanted);
+        assert!(rt; matches!(is_row(alloc, row), Ok(true)), "{row}");
     }
 }
 
@@ -102,38 +113,65 @@ static BEHIND_4096: [(&'static str, &'static str, &'static str); 2] = [
     ),
 ];
 
+/// What stands before, and a line 4,096 times.
+fn of_4096(alloc: Global, start: &str, repeated: &str) -> Result<String, AllocError> {
+    let lines = repeated.repeat(alloc, 4_096)?;
+    behind(alloc, start, lines.as_str())
+}
+
+/// Whether what stands last in a row is told of the text with the line of the row behind it.
+fn is_told_behind(alloc: Global, whole: &str, row: &str) -> Result<bool, AllocError> {
+    let Some((line, wanted)) = row.split_once("|") else {
+        return Ok(false);
+    };
+    let line = behind(alloc, "whole", line)?;
+    let text = format!(in alloc; "{whole}{line}")?;
+    is_told(alloc, text.as_str(), wanted)
+}
+
+/// Expects the same of each row.
+fn expect_told_behind(rt: &impl Abort, alloc: Global, whole: &str, rows: &str) {
+    for row in rows.lines() {
+        assert!(rt;
+            matches!(is_told_behind(alloc, whole, row), Ok(true)),
+            "{row}"
+        );
+    }
+}
+
 #[test]
 fn item_and_hazard_line_4097(rt: HostRuntime) {
     for (start, repeated, rows) in BEHIND_4096.iter() {
-        let lines = repeated
-            .repeat(rt.alloc(), 4_096)
-            .expect(&rt, "out of memory");
-        let whole = behind(rt.alloc(), start, &lines).expect(&rt, "out of memory");
-        for row in rows.lines() {
-            let (line, wanted) = row.split_once("|").expect(&rt, "no line");
-            let line = behind(rt.alloc(), "whole", line).expect(&rt, "out of memory");
-            let text = format!(in rt.alloc(); "{whole}{line}").expect(&rt, "out of memory");
-            expect_told(&rt, rt.alloc(), &text, wanted);
-        }
+        let whole = of_4096(rt.alloc(), start, repeated).expect(&rt, "out of memory");
+        expect_told_behind(&rt, rt.alloc(), whole.as_str(), rows);
     }
+}
+
+/// Whether a cache of so many lines may stand, where it has a power of two of lines, at most 1,024.
+fn is_size_told(alloc: Global, lines: u64) -> Result<bool, AllocError> {
+    let is_lawful = lines.count_ones() == 1 && lines <= 1_024;
+    let text = format!(in alloc;
+        "p6bench 1\nagents 1\nclocks 0\ncache {lines}\nahead 1\nagent 0\nend\n"
+    )?;
+    let wanted = if is_lawful { "read" } else { "4 Range" };
+    is_told(alloc, text.as_str(), wanted)
 }
 
 /// A cache has a power of two of lines, at most 1,024.
 #[test]
 fn sizes_of_caches(rt: HostRuntime) {
     for lines in 0..=4_096_u64 {
-        let is_lawful = lines.count_ones() == 1 && lines <= 1_024;
-        let text = format!(in rt.alloc();
-            "p6bench 1\nagents 1\nclocks 0\ncache {lines}\nahead 1\nagent 0\nend\n"
+        assert!(rt;
+            matches!(is_size_told(rt.alloc(), lines), Ok(true)),
+            "{lines}"
         );
-        let text = text.expect(&rt, "out of memory");
-        let wanted = if is_lawful { "read" } else { "4 Range" };
-        expect_told(&rt, rt.alloc(), &text, wanted);
     }
 }
 
 /// Hazard lines, and what each says.
-static HAZARDS: [(&'static str, HazardLine); 9] = [
+type HazardText = (&'static str, HazardLine);
+
+static HAZARDS: [HazardText; 9] = [
     ("tx 7 stall 1\n", HazardLine::Stall(7, 1)),
     ("tx 7 trdy 2\n", HazardLine::Trdy(7, 2)),
     ("tx 7 resp 3\n", HazardLine::Resp(7, 3)),
@@ -145,19 +183,30 @@ static HAZARDS: [(&'static str, HazardLine); 9] = [
     ("bnr 5 5\n", HazardLine::Bnr(5, 5)),
 ];
 
+/// Whether the line says its hazard.
+fn says_hazard(alloc: Global, row: &HazardText) -> Result<bool, AllocError> {
+    let &(text, hazard) = row;
+    let whole = behind(alloc, "tail", text)?;
+    match read(alloc, whole.as_str()) {
+        Ok(plan) => Ok(plan.hazards.as_slice() == [hazard].as_slice()),
+        Err(_) => Ok(false),
+    }
+}
+
 #[test]
 fn what_each_hazard_says(rt: HostRuntime) {
-    for (text, hazard) in HAZARDS.iter() {
-        let whole = behind(rt.alloc(), "tail", text).expect(&rt, "out of memory");
-        match read(&rt, rt.alloc(), &whole) {
-            Ok(plan) => assert_eq!(rt; plan.hazards.as_slice(), [*hazard].as_slice()),
-            Err(_) => panic!(rt; "{text:?}"),
-        }
+    for (at, row) in HAZARDS.iter().enumerate() {
+        assert!(rt;
+            matches!(says_hazard(rt.alloc(), row), Ok(true)),
+            "row {at}"
+        );
     }
 }
 
 /// What a text behind a head says: its profile, its bridge, and the clocks of agent 0's only item where that is idle.
-static SAID: [(&'static str, u8, Option<Window>, Option<u32>); 5] = [
+type Said = (&'static str, u8, Option<Window>, Option<u32>);
+
+static SAID: [Said; 5] = [
     ("profile 1\nagent 0\nend\n", 1, None, None),
     ("profile 2\nagent 0\nend\n", 2, None, None),
     (
@@ -181,17 +230,25 @@ fn idle_of(plan: &Plan) -> Option<u32> {
     }
 }
 
+/// Whether the plan says what the row has.
+fn has_said(plan: &Plan, row: &Said) -> bool {
+    let &(_, profile, bridge, idle) = row;
+    plan.profile == profile && plan.bridge == bridge && idle_of(plan) == idle
+}
+
+/// Whether the text says what the row has.
+fn is_said(alloc: Global, row: &Said) -> Result<bool, AllocError> {
+    let whole = behind(alloc, "head", row.0)?;
+    match read(alloc, whole.as_str()) {
+        Ok(plan) => Ok(has_said(&plan, row)),
+        Err(_) => Ok(false),
+    }
+}
+
 #[test]
 fn what_profile_bridge_and_idle_say(rt: HostRuntime) {
-    for (text, profile, bridge, idle) in SAID.iter() {
-        let whole = behind(rt.alloc(), "head", text).expect(&rt, "out of memory");
-        match read(&rt, rt.alloc(), &whole) {
-            Ok(plan) => {
-                let said = (plan.profile, plan.bridge, idle_of(&plan));
-                assert_eq!(rt; said, (*profile, *bridge, *idle), "{text:?}");
-            }
-            Err(_) => panic!(rt; "{text:?}"),
-        }
+    for (at, row) in SAID.iter().enumerate() {
+        assert!(rt; matches!(is_said(rt.alloc(), row), Ok(true)), "row {at}");
     }
 }
 
@@ -199,7 +256,9 @@ fn what_profile_bridge_and_idle_say(rt: HostRuntime) {
 ///
 /// It has 1 to 8 accesses, of at most 4 different lines; and no two different lines of it have one cache set: their numbers
 /// differ modulo the number of cache lines.
-static LOCKED: [(u32, &'static [u32], bool); 17] = [
+type Locked = (u32, &'static [u32], bool);
+
+static LOCKED: [Locked; 17] = [
     (1_024, &[], false),
     (1_024, &[1], true),
     (1_024, &[1, 1, 1, 1, 1, 1, 1, 1], true),
@@ -231,15 +290,19 @@ fn loads(alloc: Global, lines: &[u32]) -> Result<Item, Memory> {
     Ok(Item::Locked(group))
 }
 
+/// Whether a script may have that item where the row says so.
+fn is_lawful_so(alloc: Global, row: &Locked) -> Result<bool, Memory> {
+    let &(cache, lines, is_lawful) = row;
+    let items = [loads(alloc, lines)?];
+    Ok((0 < cache && is_lawful_script(cache, &items)) == is_lawful)
+}
+
 #[test]
-fn sizes_and_cache_sets_of_locked_items(rt: HostRuntime) -> Result<(), Fail> {
-    for (cache, lines, is_lawful) in LOCKED.iter() {
-        let items = [loads(rt.alloc(), lines)?];
-        assert_eq!(rt;
-            0 < *cache && is_lawful_script(*cache, &items),
-            *is_lawful,
-            "{cache} {lines:?}"
+fn sizes_and_cache_sets_of_locked_items(rt: HostRuntime) {
+    for (at, row) in LOCKED.iter().enumerate() {
+        assert!(rt;
+            matches!(is_lawful_so(rt.alloc(), row), Ok(true)),
+            "row {at}"
         );
     }
-    Ok(())
 }

@@ -3,7 +3,6 @@
 use fsb_signal::{Lines, idle_sample};
 use fsb_trigger::{Found, Hunt, Test, Trigger, decimal_digits};
 use rows_store::{STORE_HANDED_OVER_BEFORE_ARRIVAL, sample_at};
-use std::process::Abort;
 
 /// What is found of the trigger in the run in which a store is handed over before its bytes have come, of 60 clocks.
 fn found_in_the_run(trigger: Trigger) -> Option<Found> {
@@ -15,15 +14,14 @@ fn found_in_the_run(trigger: Trigger) -> Option<Found> {
     found
 }
 
-/// The trigger is found at these clocks, or not at all where there are none.
-fn expect_found(rt: &impl Abort, word: &str, clocks: &[u32]) {
-    let Some(trigger) = Trigger::read(word) else {
-        rt.abort();
-    };
-    let found = found_in_the_run(trigger);
-    match found {
-        Some(found) => assert_eq!(rt; found.clocks.as_slice(), clocks),
-        None => assert_eq!(rt; clocks.is_empty(), true),
+/// Whether the trigger is found at these clocks, or not at all where there are none.
+fn is_found(word: &str, clocks: &[u32]) -> bool {
+    match Trigger::read(word) {
+        Some(trigger) => match found_in_the_run(trigger) {
+            Some(found) => found.clocks.as_slice() == clocks,
+            None => clocks.is_empty(),
+        },
+        None => false,
     }
 }
 
@@ -38,7 +36,7 @@ static TRIGGERS: [(&'static str, &'static [u32]); 4] = [
 #[test]
 fn find_trigger(rt: HostRuntime) {
     for (word, clocks) in TRIGGERS.iter() {
-        expect_found(&rt, word, clocks);
+        assert!(rt; is_found(word, clocks), "{word:?}");
     }
 }
 
@@ -82,12 +80,17 @@ static WORDS: [(&'static str, bool); 36] = [
     ("ADS/<999999:HIT", true),
 ];
 
+/// Whether the word is a trigger.
+fn is_read(word: &str) -> bool {
+    Trigger::read(word).is_some()
+}
+
 #[test]
 fn words_that_are_triggers(rt: HostRuntime) {
     for (word, is_trigger) in WORDS.iter() {
-        assert_eq!(rt; Trigger::read(word).is_some(), *is_trigger, "{word:?}");
+        assert!(rt; is_read(word) == *is_trigger, "{word:?}");
     }
-    assert_eq!(rt; Test::Asserted(Lines::ADS).holds(&idle_sample()), false);
+    assert!(rt; !Test::Asserted(Lines::ADS).holds(&idle_sample()));
 }
 
 /// Digits, and their number.
@@ -100,6 +103,6 @@ static DECIMALS: [(&'static str, Option<u64>); 3] = [
 #[test]
 fn decimal_digits_make_a_number(rt: HostRuntime) {
     for (digits, number) in DECIMALS.iter() {
-        assert_eq!(rt; decimal_digits(digits.as_bytes()), *number);
+        assert!(rt; decimal_digits(digits.as_bytes()) == *number, "{digits}");
     }
 }
