@@ -3,13 +3,13 @@
 use crate::written;
 use fsb_audit::{Finding, FoulAt};
 use fsb_audit_dump::{Audited, audit_dump, audit_line};
-use fsb_io::MemSource;
+use fsb_io::{MemSource, Memory};
 use fsb_rules::Broken;
 use rows_store::{
     Clock, DEFERRED_AND_REPLIED, DIRTY_VICTIM_WRITTEN_BACK, Extra, HIT, REQUEST_SPACING_BROKEN,
     SHARED_LINE_INVALIDATED, STORE_HANDED_OVER_BEFORE_ARRIVAL, UPGRADE_OF_A_SHARED_LINE,
 };
-use std::test::Fail;
+use std::alloc::Global;
 
 fn foul(clock: u32, addr: u64) -> Result<u64, Finding> {
     Err(Finding::Foul(FoulAt { clock, addr }))
@@ -19,13 +19,33 @@ fn broken(clock: u32, rule: u8) -> Result<u64, Finding> {
     Err(Finding::Broken(Broken { clock, rule }))
 }
 
+/// The clocks of a waveform and what is asserted beside, what an audit of its dump of 60 clocks finds, and the line that is
+/// printed of it.
+type Row<'a> = (&'a [Clock], &'a [Extra], Result<u64, Finding>, &'a str);
+
+/// Whether the audit of the dump finds this, and this line is printed of it.
+fn is_audited(alloc: Global, dump: &[u8], audited: Audited, text: &str) -> Result<bool, Memory> {
+    let mut source = MemSource::new(alloc, dump, &[])?;
+    Ok(
+        audit_dump(alloc, "d.vcd", &mut source) == Ok(audited)
+            && audit_line(audited).as_slice() == text.as_bytes(),
+    )
+}
+
+/// Whether that is so of the row.
+fn is_so(alloc: Global, row: &Row<'_>) -> Result<bool, Memory> {
+    let &(clocks, extras, found, text) = row;
+    let dump = written(alloc, 60, clocks, extras)?;
+    is_audited(alloc, dump.holds(), Audited { clocks: 60, found }, text)
+}
+
 #[test]
-fn clean_and_foul_dumps(rt: HostRuntime) -> Result<(), Fail> {
+fn clean_and_foul_dumps(rt: HostRuntime) {
     // A line that is read twice and upgraded, and one that is read twice, and read and invalidated, each first as it was and then
     // otherwise; one that is written back and read again, as it was written and otherwise, and a rule is broken before; a line
     // that an owner hands over; a deferred line that is read again behind its reply, as the reply gave it and otherwise; a broken
     // rule.
-    let table: [(&[Clock], &[Extra], Result<u64, Finding>, &str); 12] = [
+    let table: [Row<'_>; 12] = [
         (
             &UPGRADE_OF_A_SHARED_LINE,
             &[],
@@ -99,12 +119,7 @@ fn clean_and_foul_dumps(rt: HostRuntime) -> Result<(), Fail> {
             "rejected clock=4 rule=2\n",
         ),
     ];
-    for (clocks, extras, found, text) in table {
-        let dump = written(rt.alloc(), 60, clocks, extras)?;
-        let mut source = MemSource::new(rt.alloc(), dump.holds(), &[])?;
-        let audited = Audited { clocks: 60, found };
-        assert_eq!(rt; audit_dump(rt.alloc(), "d.vcd", &mut source), Ok(audited));
-        assert_eq!(rt; audit_line(audited).as_slice(), text.as_bytes());
+    for (at, row) in table.iter().enumerate() {
+        assert!(rt; matches!(is_so(rt.alloc(), row), Ok(true)), "row {at}");
     }
-    Ok(())
 }

@@ -10,7 +10,6 @@ use rows_store::{
     STORE_HANDED_OVER_BEFORE_ARRIVAL, UNMARKED, sample_at,
 };
 use std::alloc::Global;
-use std::test::Fail;
 
 /// What an audit finds in these clocks, and where it finds nothing how many chunks it has seen moved.
 fn audited(
@@ -35,15 +34,24 @@ fn foul(clock: u32, addr: u64) -> Option<Finding> {
     Some(Finding::Foul(FoulAt { clock, addr }))
 }
 
+/// The clocks of a waveform and what is asserted beside, what an audit finds, and where it finds nothing the chunks.
+type Row<'a> = (&'a [Clock], &'a [Extra], Option<Finding>, u64);
+
+/// Whether the audit finds what the row says.
+fn is_so(alloc: Global, row: &Row<'_>) -> Result<bool, Memory> {
+    let &(clocks, extras, found, chunks) = row;
+    Ok(clocks.len() < 100 && audited(alloc, clocks, extras)? == (found, chunks))
+}
+
 #[test]
-fn audit_clean_and_foul(rt: HostRuntime) -> Result<(), Fail> {
+fn audit_clean_and_foul(rt: HostRuntime) {
     let broken = Some(Finding::Broken(Broken {
         clock: 10,
         rule: 11,
     }));
     // Data moved into memory and read back; lost; read back otherwise, and a rule is broken before; a line that an owner hands over;
     // a deferred line that is read again behind its reply, as the reply gave it and otherwise.
-    let rows: [(&[Clock], &[Extra], Option<Finding>, u64); 6] = [
+    let rows: [Row<'_>; 6] = [
         (
             &DIRTY_VICTIM_WRITTEN_BACK,
             &[(22, 0, 1), (46, 0, 1)],
@@ -61,8 +69,7 @@ fn audit_clean_and_foul(rt: HostRuntime) -> Result<(), Fail> {
         (&DEFERRED_AND_REPLIED, &[(28, 0, 5), (32, 0, 5)], None, 8),
         (&DEFERRED_AND_REPLIED, &[(28, 0, 5)], foul(32, 0x1008), 0),
     ];
-    for (clocks, extras, found, chunks) in rows {
-        assert_eq!(rt; audited(rt.alloc(), clocks, extras)?, (found, chunks));
+    for (at, row) in rows.iter().enumerate() {
+        assert!(rt; matches!(is_so(rt.alloc(), row), Ok(true)), "row {at}");
     }
-    Ok(())
 }
