@@ -66,7 +66,9 @@ class Watch:
             key = (pid, fields[19])
             self.parents[pid] = int(fields[1])
             if self.is_of_gate(pid):
-                self.works[pid] = work_of(words, place) or self.works.get(self.parents[pid])
+                # (one that has ended and waits to be reaped has no words any more)
+                known = self.seconds.get(key, (None,))[0]
+                self.works[pid] = work_of(words, place) or known or self.works.get(self.parents[pid])
                 self.seconds[key] = (self.works[pid], (int(fields[11]) + int(fields[12])) / TICKS)
 
     def is_of_gate(self, pid):
