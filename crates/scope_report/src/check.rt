@@ -225,8 +225,8 @@ fn put_deferral(text: &mut Vec<u8>, judged: &Judged) -> Result<(), AllocError> {
     }
 }
 
-const MAY_ANSWER: &str = "\
-  A reply may answer a request that was deferred before that clock: then no rule is broken there.
+const MAY_ANSWER: &str =
+    "  A reply may answer a request that was deferred before that clock: then no rule is broken there.
 ";
 
 // Why the part begins there, and what is taken to be so.
@@ -248,8 +248,8 @@ as --at says, nothing is under way there
   Who had the bus last is not known: a rule counts as broken where it is whoever had it.
 ";
 
-const UNKNOWN_BEFORE: &str = "\
-  No request is taken to wait longer. Who had the bus last is not known: a rule counts as broken
+const UNKNOWN_BEFORE: &str =
+    "  No request is taken to wait longer. Who had the bus last is not known: a rule counts as broken
   where it is whoever had it.
 ";
 
