@@ -6,6 +6,7 @@ ghost use Rattle.scope_top.specs.Orders.{is_done, is_done_part, is_time};
 use scope_words::{Moment, Order, Part};
 
 /// The first thing that an order asks for and that is not done yet.
+#[tactic(auto, unfolding(crate::specs::Orders::is_done))]
 pub fn unoffered(order: &Order<'_>) -> Option<&'static str>
     ensures { is_some result ≡ not (is_done order.now) }
 {
@@ -16,6 +17,7 @@ pub fn unoffered(order: &Order<'_>) -> Option<&'static str>
     }
 }
 
+#[tactic(auto, unfolding(crate::specs::Orders::is_done_part))]
 fn unoffered_part(part: &Part) -> Option<&'static str>
     ensures { is_some result ≡ not (is_done_part part.now) }
 {
