@@ -211,6 +211,6 @@ pub(crate) fn expect(
     wanted: &Wanted<'_>,
 ) -> Result<(), Memory> {
     let ended = end_of(alloc, call)?;
-    assert_eq!(rt; compared(&ended, call, wanted), "", "{name}");
+    assert!(rt; compared(&ended, call, wanted) == "", "{name}");
     Ok(())
 }

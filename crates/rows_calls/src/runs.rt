@@ -152,7 +152,7 @@ fn bench_files_that_are_none(rt: HostRuntime) -> Result<(), Fail> {
 fn status_of_blank(rt: &impl Abort, alloc: Global, lines: usize) -> Result<Status, Memory> {
     let text = vec![in alloc; b'\n'; lines]?;
     let ended = end_of(alloc, &call_of(&NAMED, &text))?;
-    assert_eq!(rt; ended.out.calls(), 0);
+    assert!(rt; ended.out.calls() == 0);
     Ok(ended.status)
 }
 
@@ -162,10 +162,7 @@ fn longest_bench_file(rt: HostRuntime) -> Result<(), Fail> {
         line: 1,
         cause: Cause::FirstLine,
     });
-    assert_eq!(rt; status_of_blank(&rt, rt.alloc(), 4_194_304)?, first_line);
-    assert_eq!(rt;
-        status_of_blank(&rt, rt.alloc(), 4_194_305)?,
-        Status::TooLong
-    );
+    assert!(rt; status_of_blank(&rt, rt.alloc(), 4_194_304)? == first_line);
+    assert!(rt; status_of_blank(&rt, rt.alloc(), 4_194_305)? == Status::TooLong);
     Ok(())
 }

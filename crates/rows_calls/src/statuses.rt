@@ -68,17 +68,17 @@ const DUMP_FAULTS: [(u64, VcdCause, &str); 12] = [
 #[test]
 fn exit_codes_and_printed_lines(rt: HostRuntime) {
     for (status, exit, text) in STATUSES.iter() {
-        assert_eq!(rt; code(status), *exit);
-        assert_eq!(rt; status_line(status).as_slice(), text.as_bytes());
+        assert!(rt; code(status) == *exit);
+        assert!(rt; status_line(status).as_slice() == text.as_bytes());
     }
     for &(line, cause, text) in BENCH_FAULTS.iter() {
         let status = Status::BadBench(ScriptFault { line, cause });
-        assert_eq!(rt; code(&status), 3);
-        assert_eq!(rt; status_line(&status).as_slice(), text.as_bytes());
+        assert!(rt; code(&status) == 3);
+        assert!(rt; status_line(&status).as_slice() == text.as_bytes());
     }
     for &(place, cause, text) in DUMP_FAULTS.iter() {
         let status = Status::BadDump(VcdFault { place, cause });
-        assert_eq!(rt; code(&status), 4);
-        assert_eq!(rt; status_line(&status).as_slice(), text.as_bytes());
+        assert!(rt; code(&status) == 4);
+        assert!(rt; status_line(&status).as_slice() == text.as_bytes());
     }
 }

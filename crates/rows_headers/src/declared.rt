@@ -33,7 +33,7 @@ fn declarations_and_sections_of_headers(rt: HostRuntime) {
         for size in 1..200 {
             let (reader, left) = read(alloc, *rules, text, size).ok().expect(&rt, "read");
             let said = told(alloc, &reader).ok().expect(&rt, "memory");
-            assert_eq!(rt; said.as_slice(), lines.as_bytes());
+            assert!(rt; said.as_slice() == lines.as_bytes());
             assert!(rt; left == *after);
         }
     }

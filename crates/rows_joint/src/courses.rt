@@ -83,25 +83,25 @@ fn owners_answer(rt: HostRuntime) {
         Awaits(0),
         Ends(1, Read, false, false, false),
     ];
-    assert_eq!(rt; first_unfit(JointSet::unheld(), &silent), 2);
+    assert!(rt; first_unfit(JointSet::unheld(), &silent) == 2);
     let heard = [
         Ends(0, Own, false, false, false),
         Awaits(0),
         Ends(1, Read, false, true, false),
     ];
-    assert_eq!(rt; first_unfit(JointSet::unheld(), &heard), 3);
+    assert!(rt; first_unfit(JointSet::unheld(), &heard) == 3);
     let too_soon = [
         Ends(0, Read, false, false, false),
         Awaits(0),
         Ends(1, Read, false, true, false),
     ];
-    assert_eq!(rt; first_unfit(JointSet::unheld(), &too_soon), 2);
+    assert!(rt; first_unfit(JointSet::unheld(), &too_soon) == 2);
     let stored = [
         Ends(0, Read, false, false, false),
         Rests,
         Ends(1, Read, false, true, false),
     ];
-    assert_eq!(rt; first_unfit(JointSet::unheld(), &stored), 3);
+    assert!(rt; first_unfit(JointSet::unheld(), &stored) == 3);
     let stored_twice = [
         Ends(0, Read, false, false, false),
         Rests,
@@ -109,7 +109,7 @@ fn owners_answer(rt: HostRuntime) {
         Rests,
         Ends(2, Read, false, true, false),
     ];
-    assert_eq!(rt; first_unfit(JointSet::unheld(), &stored_twice), 4);
+    assert!(rt; first_unfit(JointSet::unheld(), &stored_twice) == 4);
 }
 
 #[test]
@@ -119,16 +119,16 @@ fn holders_answer(rt: HostRuntime) {
         Awaits(0),
         Ends(1, Read, false, false, false),
     ];
-    assert_eq!(rt; first_unfit(JointSet::unheld(), &silent), 2);
+    assert!(rt; first_unfit(JointSet::unheld(), &silent) == 2);
     let dropped = [
         Ends(0, Read, false, false, false),
         Rests,
         Ends(1, Read, false, false, false),
     ];
-    assert_eq!(rt; first_unfit(JointSet::unheld(), &dropped), 3);
+    assert!(rt; first_unfit(JointSet::unheld(), &dropped) == 3);
     let of_nobody = [Ends(0, Read, true, false, false)];
-    assert_eq!(rt; first_unfit(JointSet::unheld(), &of_nobody), 0);
-    assert_eq!(rt; first_unfit(JointSet::every(), &of_nobody), 1);
+    assert!(rt; first_unfit(JointSet::unheld(), &of_nobody) == 0);
+    assert!(rt; first_unfit(JointSet::every(), &of_nobody) == 1);
     let while_upgrading = [
         Ends(0, Read, false, false, false),
         Rests,
@@ -137,38 +137,38 @@ fn holders_answer(rt: HostRuntime) {
         Upgrades(0),
         Ends(2, Read, false, false, false),
     ];
-    assert_eq!(rt; first_unfit(JointSet::unheld(), &while_upgrading), 5);
+    assert!(rt; first_unfit(JointSet::unheld(), &while_upgrading) == 5);
 }
 
 #[test]
 fn requests_fit_what_their_agents_have(rt: HostRuntime) {
     for kind in [Upgrade, WriteBack] {
-        assert_eq!(rt; first_unfit(JointSet::unheld(), &[Begins(0, kind)]), 0);
+        assert!(rt; first_unfit(JointSet::unheld(), &[Begins(0, kind)]) == 0);
     }
     for kind in [Read, Own] {
-        assert_eq!(rt; first_unfit(JointSet::unheld(), &[Begins(0, kind)]), 1);
+        assert!(rt; first_unfit(JointSet::unheld(), &[Begins(0, kind)]) == 1);
     }
     for kind in [Read, Own, Upgrade, WriteBack] {
-        assert_eq!(rt; first_unfit(JointSet::every(), &[Begins(0, kind)]), 1);
+        assert!(rt; first_unfit(JointSet::every(), &[Begins(0, kind)]) == 1);
     }
     let read_again = [
         Ends(0, Read, false, false, false),
         Awaits(0),
         Begins(0, Read),
     ];
-    assert_eq!(rt; first_unfit(JointSet::unheld(), &read_again), 2);
+    assert!(rt; first_unfit(JointSet::unheld(), &read_again) == 2);
     let clean_written = [
         Ends(0, Read, false, false, false),
         Awaits(0),
         Begins(0, WriteBack),
     ];
-    assert_eq!(rt; first_unfit(JointSet::unheld(), &clean_written), 2);
+    assert!(rt; first_unfit(JointSet::unheld(), &clean_written) == 2);
     let written = [
         Ends(0, Read, false, false, false),
         Rests,
         Begins(0, WriteBack),
     ];
-    assert_eq!(rt; first_unfit(JointSet::unheld(), &written), 3);
+    assert!(rt; first_unfit(JointSet::unheld(), &written) == 3);
 }
 
 #[test]
@@ -183,7 +183,7 @@ fn lost_upgrades_give_nothing(rt: HostRuntime) {
         Rests,
         Ends(2, Read, false, false, false),
     ];
-    assert_eq!(rt; first_unfit(JointSet::unheld(), &lost), 8);
+    assert!(rt; first_unfit(JointSet::unheld(), &lost) == 8);
     let won = [
         Ends(0, Read, false, false, false),
         Rests,
@@ -193,7 +193,7 @@ fn lost_upgrades_give_nothing(rt: HostRuntime) {
         Rests,
         Ends(2, Read, false, false, false),
     ];
-    assert_eq!(rt; first_unfit(JointSet::unheld(), &won), 6);
+    assert!(rt; first_unfit(JointSet::unheld(), &won) == 6);
 }
 
 #[test]
@@ -205,20 +205,20 @@ fn replies_are_no_snoops(rt: HostRuntime) {
         Ends(2, Own, true, false, true),
         Answers(0, Read, true),
     ];
-    assert_eq!(rt; first_unfit(JointSet::unheld(), &given_up), 5);
+    assert!(rt; first_unfit(JointSet::unheld(), &given_up) == 5);
     let owned = [
         Ends(0, Own, false, false, true),
         Answers(0, Own, false),
         Ends(1, Read, false, false, false),
     ];
-    assert_eq!(rt; first_unfit(JointSet::unheld(), &owned), 2);
+    assert!(rt; first_unfit(JointSet::unheld(), &owned) == 2);
     let held_by_another = [
         Ends(0, Own, false, false, true),
         Ends(1, Read, false, false, false),
         Awaits(1),
         Answers(0, Own, false),
     ];
-    assert_eq!(rt; first_unfit(JointSet::unheld(), &held_by_another), 3);
+    assert!(rt; first_unfit(JointSet::unheld(), &held_by_another) == 3);
 }
 
 #[test]

@@ -164,8 +164,8 @@ pub fn expect(
     found: Option<(u32, u8)>,
 ) {
     let w = laid_out(alloc, pieces, clocks).expect(rt, "out of memory");
-    assert_eq!(rt; verdict(marks, &w), found);
-    assert_eq!(rt; checked(marks, &w), found);
+    assert!(rt; verdict(marks, &w) == found);
+    assert!(rt; checked(marks, &w) == found);
 }
 
 /// Asserts that both judges accept the waveform of so many clocks with these pieces.

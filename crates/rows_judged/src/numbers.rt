@@ -22,25 +22,25 @@ fn expect_numbers(rt: &impl Abort, alloc: Global, clocks: &[Clock], numbers: &[N
     requires numbers { length numbers.now < 2 ^ 32 }
 {
     let w = trace(alloc, clocks).expect(rt, "out of memory");
-    assert_eq!(rt; verdict(UNMARKED, &w), None);
+    assert!(rt; verdict(UNMARKED, &w) == None);
     for (i, &(snoop, answer, end, outcome)) in numbers.iter().enumerate() {
-        assert_eq!(rt; snoop_end(&w, i as u32), Some(snoop));
-        assert_eq!(rt; response(&w, i as u32), Some(answer));
-        assert_eq!(rt; end_of(&w, i as u32), Some(end));
-        assert_eq!(rt; outcome_of(&w, i as u32), Some(outcome));
+        assert!(rt; snoop_end(&w, i as u32) == Some(snoop));
+        assert!(rt; response(&w, i as u32) == Some(answer));
+        assert!(rt; end_of(&w, i as u32) == Some(end));
+        assert!(rt; outcome_of(&w, i as u32) == Some(outcome));
     }
-    assert_eq!(rt; snoop_end(&w, numbers.len() as u32), None);
+    assert!(rt; snoop_end(&w, numbers.len() as u32) == None);
 }
 
 #[test]
 fn numbers_of_one_request(rt: HostRuntime) {
     let w = trace(rt.alloc(), &LOAD_THEN_STORE_HIT).expect(&rt, "out of memory");
     let seen = requests(rt.alloc(), &w).expect(&rt, "out of memory");
-    assert_eq!(rt; seen.len(), 1);
-    assert_eq!(rt; seen[0].clock, 2);
-    assert_eq!(rt; seen[0].who, Some(Who::Symmetric(0)));
-    assert_eq!(rt; seen[0].cancelled, false);
-    assert_eq!(rt; seen[0].request.is_some(), true);
+    assert!(rt; seen.len() == 1);
+    assert!(rt; seen[0].clock == 2);
+    assert!(rt; seen[0].who == Some(Who::Symmetric(0)));
+    assert!(rt; !seen[0].cancelled);
+    assert!(rt; seen[0].request.is_some());
     expect_numbers(
         &rt,
         rt.alloc(),
@@ -115,19 +115,19 @@ fn requests_of_a_reply_and_after_an_address_error(rt: HostRuntime) {
         Kind::Reply,
         Kind::Invalidate,
     ];
-    assert_eq!(rt; seen.len(), 5);
+    assert!(rt; seen.len() == 5);
     for (i, request) in seen.iter().enumerate() {
-        assert_eq!(rt; Some(request.clock), clocks.get(i).copied());
-        assert_eq!(rt; request.who, agents.get(i).copied());
-        assert_eq!(rt; request.request.map(|r| r.kind), kinds.get(i).copied());
+        assert!(rt; Some(request.clock) == clocks.get(i).copied());
+        assert!(rt; request.who == agents.get(i).copied());
+        assert!(rt; request.request.map(|r| r.kind) == kinds.get(i).copied());
     }
     let cancelled = trace(rt.alloc(), &CANCELLED_BY_ADDRESS_ERROR).expect(&rt, "out of memory");
     let both = requests(rt.alloc(), &cancelled).expect(&rt, "out of memory");
-    assert_eq!(rt; both.len(), 2);
-    assert_eq!(rt; both[0].clock, 2);
-    assert_eq!(rt; both[0].cancelled, true);
-    assert_eq!(rt; both[1].clock, 8);
-    assert_eq!(rt; both[1].cancelled, false);
+    assert!(rt; both.len() == 2);
+    assert!(rt; both[0].clock == 2);
+    assert!(rt; both[0].cancelled);
+    assert!(rt; both[1].clock == 8);
+    assert!(rt; !both[1].cancelled);
 }
 
 #[test]

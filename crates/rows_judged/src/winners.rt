@@ -35,18 +35,18 @@ fn expect_winners(rt: &impl Abort, alloc: Global, clocks: &[Clock], begun: &[(us
     let mut next = 0;
     for (c, &clock) in clocks.iter().enumerate() {
         let winner = next_winner(alloc, &clocks[..c]).expect(rt, "out of memory");
-        assert_eq!(rt; arbiter.winner(), winner);
+        assert!(rt; arbiter.winner() == winner);
         let taken = sample(clock);
         if taken.has(Lines::ADS) && next < begun.len() {
-            assert_eq!(rt; begun[next].0, c);
-            assert_eq!(rt; arbiter.winner(), Some(begun[next].1));
+            assert!(rt; begun[next].0 == c);
+            assert!(rt; arbiter.winner() == Some(begun[next].1));
             next += 1;
         }
         arbiter.absorb(&taken);
     }
-    assert_eq!(rt; next, begun.len());
+    assert!(rt; next == begun.len());
     let winner = next_winner(alloc, clocks).expect(rt, "out of memory");
-    assert_eq!(rt; arbiter.winner(), winner);
+    assert!(rt; arbiter.winner() == winner);
 }
 
 #[test]

@@ -37,10 +37,10 @@ static NAMES: [(&'static str, Option<u8>, bool); 26] = [
 #[test]
 fn name_lines(rt: HostRuntime) {
     for (name, line, exact) in NAMES.iter() {
-        assert_eq!(rt; line_named(name.as_bytes()), *line);
+        assert!(rt; line_named(name.as_bytes()) == *line);
         if let Some(line) = line {
             assert!(rt; *line < 22);
-            assert_eq!(rt; is_exact_name(*line, name.as_bytes()), *exact);
+            assert!(rt; is_exact_name(*line, name.as_bytes()) == *exact);
         }
     }
 }

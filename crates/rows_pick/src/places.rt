@@ -36,6 +36,6 @@ fn place_lines(rt: HostRuntime) {
         };
         assert!(rt; *line < 22);
         let found = place_of(*line, *width, range);
-        assert_eq!(rt; found.map(|place| (place.low, place.turned)), *place);
+        assert!(rt; found.map(|place| (place.low, place.turned)) == *place);
     }
 }

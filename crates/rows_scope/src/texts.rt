@@ -313,8 +313,8 @@ fn each_refusal_says_what_may_stand(rt: HostRuntime) {
     for (row, wanted) in REFUSED.iter() {
         let told = told(rt.alloc(), row).expect(&rt, "memory");
         let wanted = in_full(rt.alloc(), wanted).expect(&rt, "memory");
-        assert_eq!(rt; told.as_str(), wanted.as_str(), "{row}");
-        assert_eq!(rt; told.as_str().lines().count(), 2, "{row}");
+        assert!(rt; told.as_str() == wanted.as_str(), "{row}");
+        assert!(rt; told.as_str().lines().count() == 2, "{row}");
     }
 }
 
@@ -324,9 +324,9 @@ fn no_words_have_no_command(rt: HostRuntime) {
     match read_order(rt.alloc(), &words).expect(&rt, "memory") {
         Reading::Order(order) => assert!(rt; false, "{order:?}"),
         Reading::Told(told) => {
-            assert_eq!(rt; told.text.as_str(), NO_COMMAND);
+            assert!(rt; told.text.as_str() == NO_COMMAND);
             assert!(rt; told.is_error);
-            assert_eq!(rt; told.status(), 2);
+            assert!(rt; told.status() == 2);
         }
     }
 }
@@ -350,7 +350,7 @@ const VERSIONS: [&str; 6] = [
 fn the_version_is_told_at_each_verb(rt: HostRuntime) {
     for row in VERSIONS.iter() {
         let told = told(rt.alloc(), row).expect(&rt, "memory");
-        assert_eq!(rt; told.as_str(), "0 p6scope 0.1.0\n", "{row}");
+        assert!(rt; told.as_str() == "0 p6scope 0.1.0\n", "{row}");
     }
 }
 
@@ -414,9 +414,9 @@ fn help_goes_to_standard_output(rt: HostRuntime) {
     match read_order(rt.alloc(), &words).expect(&rt, "memory") {
         Reading::Order(order) => assert!(rt; false, "{order:?}"),
         Reading::Told(told) => {
-            assert_eq!(rt; told.text.as_str(), RULE_HELP);
+            assert!(rt; told.text.as_str() == RULE_HELP);
             assert!(rt; !told.is_error);
-            assert_eq!(rt; told.status(), 0);
+            assert!(rt; told.status() == 0);
         }
     }
 }

@@ -173,8 +173,8 @@ fn what_is_whole_is_judged_of_a_dump_that_ends_early(rt: HostRuntime) {
             let found = checked(alloc, &text, size, &[]).ok().expect(&rt, "checked");
             match &found.finding {
                 Finding::Judged(_, told) => {
-                    assert_eq!(rt; told.judged.clocks, *clocks, "{values}");
-                    assert_eq!(rt; told.early_end, Some(end), "{values}");
+                    assert!(rt; told.judged.clocks == *clocks, "{values}");
+                    assert!(rt; told.early_end == Some(end), "{values}");
                 }
                 Finding::Refused(_) => assert!(rt; false, "{values}"),
             }
@@ -190,11 +190,11 @@ fn headers_tell_variables_and_sections(rt: HostRuntime) {
     let variables = found.header.variables.as_slice();
     assert!(rt; variables.len() == 13);
     let ads = variables.get(3).expect(&rt, "ads");
-    assert_eq!(rt; ads.scope.as_slice(), b"tb.dut.bus".as_slice());
-    assert_eq!(rt; ads.name.as_slice(), b"ads_l".as_slice());
+    assert!(rt; ads.scope.as_slice() == b"tb.dut.bus".as_slice());
+    assert!(rt; ads.name.as_slice() == b"ads_l".as_slice());
     let remarks = found.header.remarks.as_slice();
     let first = remarks.get(0).expect(&rt, "timescale");
-    assert_eq!(rt; first.keyword.as_slice(), b"$timescale".as_slice());
+    assert!(rt; first.keyword.as_slice() == b"$timescale".as_slice());
     assert!(rt; first.words.len() == 1);
     assert!(rt; remarks.len() == 7);
     match &found.finding {
