@@ -1,5 +1,5 @@
 -- What is found of a part of a waveform.
-use Rattle.std.specs.Prelude.{ℕ, ◌-◌, ◌++◌, Bool, true, false, nat_lt, if◌then◌else◌, Option, Some, None}
+use Rattle.std.specs.Prelude.{ℕ, ◌-◌, ◌++◌, Bool, true, false, ◌&&◌, ◌||◌, ◌==◌, nat_lt, if◌then◌else◌, Option, Some, None}
 use Rattle.fsb_signal.specs.declared.marks.Marks.{Marks}
 use Rattle.fsb_trace.specs.At.{Trace}
 use Rattle.fsb_trace.specs.Verdict.{verdict}
@@ -16,14 +16,18 @@ counted_behind (Some b) = Some (record { clock = b.clock - past; rule = b.rule }
 unfoldable pub found_behind : ℕ → Marks → Trace → Option Broken
 found_behind a m part = counted_behind (as_broken (verdict m (history a ++ part)))
 
+-- the first finding comes before the second: at an earlier clock, or at the same one by a lesser rule
+abbrev pub comes_before : Broken → Broken → Bool
+comes_before b c = nat_lt b.clock c.clock || (b.clock == c.clock && nat_lt b.rule c.rule)
+
 -- the later of two findings; none, where one of them is none
 abbrev pub later_of : Option Broken → Option Broken → Option Broken
 later_of None other = None
 later_of (Some b) None = None
-later_of (Some b) (Some c) = if nat_lt b.clock c.clock then Some c else Some b
+later_of (Some b) (Some c) = if comes_before b c then Some c else Some b
 
--- what is found of a part that begins later: the latest that is found where one of the four agents had the bus last, and
--- nothing where one of them may have had it
+-- what is found of a part that begins later: the latest of what is found behind each of the four agents, and nothing
+-- where behind one of them nothing is found
 unfoldable pub found_later : Marks → Trace → Option Broken
 found_later m part =
     later_of (later_of (found_behind 0 m part) (found_behind 1 m part))

@@ -5,7 +5,7 @@ ghost use Rattle.fsb_signal.specs.declared.marks.Marks.{Marks};
 ghost use Rattle.fsb_trace.specs.At.{Trace};
 ghost use Rattle.fsb_rules.specs.Checker.{Stands};
 ghost use Rattle.scope_later.specs.Histories.{history, past};
-ghost use Rattle.scope_later.specs.Findings.{found_behind, found_later, later_of, counted_behind};
+ghost use Rattle.scope_later.specs.Findings.{found_behind, found_later, later_of, comes_before, counted_behind};
 ghost use Rattle.scope_later.specs.Standing.{LaterStands};
 
 use crate::history::checker_behind;
@@ -40,13 +40,20 @@ fn counted(found: Option<Broken>) -> Option<Broken>
     }
 }
 
+// Whether the first finding comes before the second: at an earlier clock, or at the same one by a lesser rule.
+fn comes_before(first: Broken, second: Broken) -> bool
+    ensures { result ≡ comes_before first second }
+{
+    first.clock < second.clock || first.clock == second.clock && first.rule < second.rule
+}
+
 // The later of two findings; none, where one of them is none.
 fn later_of(one: Option<Broken>, other: Option<Broken>) -> Option<Broken>
     ensures { result ≡ later_of one other }
 {
     match (one, other) {
         (Some(first), Some(second)) => {
-            if first.clock < second.clock {
+            if comes_before(first, second) {
                 other
             } else {
                 one
