@@ -3,7 +3,7 @@ use Rattle.std.proofs.Common.{refl, take, drop, set, [], ◌∷◌, ◌++◌}
 use Rattle.rows_timely.proofs.Opened.{opened}
 use Rattle.rows_timely.proofs.Words.{◌+◌, Load, on, pair, chunk, idle, b0, b1, b3, bpri, bnr, ads, aerr, hit, hitm}
 use Rattle.rows_timely.proofs.Words.{defer, rs, dbsy, drdy, entry}
-use Rattle.rows_timely.proofs.Worked.{IsWorked, worked, at, logged, entered, Chunks, Completions, Hazards, RequestLines}
+use Rattle.rows_timely.proofs.Worked.{Computed, at, logged, entered, Chunks, Completions, Hazards, RequestLines}
 use Rattle.rows_timely.proofs.Worked.{Responses, SnoopResults, Starts}
 use Rattle.rows_timely.proofs.StalledSnoop
 use Rattle.rows_timely.proofs.BlockNextRequest
@@ -20,7 +20,7 @@ use Rattle.rows_timely.proofs.ReplyPastHeldBack
 use Rattle.rows_timely.proofs.ThreeRepliesDue
 
 -- A snoop is stalled twice.
-pub stalled_snoop : IsWorked StalledSnoop.run (
+pub stalled_snoop : Computed StalledSnoop.run (
     -- the second stall is left out
     at Hazards 8 idle
     -- there is a third stall
@@ -35,10 +35,10 @@ pub stalled_snoop : IsWorked StalledSnoop.run (
     ∷ at SnoopResults 10 (on hitm)
     ∷ [])
 unfolding opened
-stalled_snoop = worked StalledSnoop.run _ (refl, (refl, refl, refl, refl, refl), refl)
+stalled_snoop = (refl, (refl, refl, refl, refl, refl), refl)
 
 -- BNR# holds back a request.
-pub block_next_request : IsWorked BlockNextRequest.run (
+pub block_next_request : Computed BlockNextRequest.run (
     -- BNR# is released a clock early
     at Hazards 9 (on b0)
     -- the request begins a clock early
@@ -47,10 +47,10 @@ pub block_next_request : IsWorked BlockNextRequest.run (
     ∷ at RequestLines 5 (on bnr)
     ∷ [])
 unfolding opened
-block_next_request = worked BlockNextRequest.run _ (refl, (refl, refl, refl, refl, refl), refl)
+block_next_request = (refl, (refl, refl, refl, refl, refl), refl)
 
 -- A load is retried once.
-pub retried_load : IsWorked RetriedLoad.run (
+pub retried_load : Computed RetriedLoad.run (
     -- DEFER# is not asserted
     at Hazards 6 idle
     -- the retried request responds with data
@@ -63,18 +63,18 @@ pub retried_load : IsWorked RetriedLoad.run (
     ∷ at Responses 8 (on (rs 4))
     ∷ [])
 unfolding opened
-retried_load = worked RetriedLoad.run _ (refl, (refl, refl, refl, refl, refl), refl)
+retried_load = (refl, (refl, refl, refl, refl, refl), refl)
 
 -- A line is shared, and the request to own it is retried: its agent holds it all the while.
-pub shared_line_retried : IsWorked SharedLineRetried.run (
+pub shared_line_retried : Computed SharedLineRetried.run (
     -- it does not show that it holds the line after the retry
     at SnoopResults 25 (on b0)
     ∷ [])
 unfolding opened
-shared_line_retried = worked SharedLineRetried.run _ (refl, (refl, refl, refl, refl, refl), refl)
+shared_line_retried = (refl, (refl, refl, refl, refl, refl), refl)
 
 -- The second request is to be retried, and the line that is handed over overrides it.
-pub modified_overrides_retry : IsWorked ModifiedOverridesRetry.run (
+pub modified_overrides_retry : Computed ModifiedOverridesRetry.run (
     -- DEFER# is not asserted
     at Hazards 9 (on (hitm + dbsy + drdy))
     -- HITM# is not asserted
@@ -83,10 +83,10 @@ pub modified_overrides_retry : IsWorked ModifiedOverridesRetry.run (
     ∷ at Responses 14 (on (rs 1))
     ∷ [])
 unfolding opened
-modified_overrides_retry = worked ModifiedOverridesRetry.run _ (refl, (refl, refl, refl, refl, refl), refl)
+modified_overrides_retry = (refl, (refl, refl, refl, refl, refl), refl)
 
 -- A request is cancelled by an address error, and begins again.
-pub cancelled_by_address_error : IsWorked CancelledByAddressError.run (
+pub cancelled_by_address_error : Computed CancelledByAddressError.run (
     -- AERR# is not asserted
     at Hazards 5 idle
     -- BREQ0# comes again a clock early
@@ -95,28 +95,28 @@ pub cancelled_by_address_error : IsWorked CancelledByAddressError.run (
     ∷ at Starts 7 (pair (b0 + ads) 0x6 0x8)
     ∷ [])
 unfolding opened
-cancelled_by_address_error = worked CancelledByAddressError.run _ (refl, (refl, refl, refl, refl, refl), refl)
+cancelled_by_address_error = (refl, (refl, refl, refl, refl, refl), refl)
 
 -- Clean lines are dropped for requests that are then cancelled, or retried.
-pub victim_of_errors : IsWorked VictimOfErrors.run (
+pub victim_of_errors : Computed VictimOfErrors.run (
     -- the agent of the cancelled request shows that it still holds its line
     at SnoopResults 19 (on (b0 + hit))
     -- the agent of the retried request shows that it still holds its line
     ∷ at SnoopResults 36 (pair (b1 + ads + hit) 0x6 0xc)
     ∷ [])
 unfolding opened
-victim_of_errors = worked VictimOfErrors.run _ (refl, (refl, refl, refl, refl, refl), refl)
+victim_of_errors = (refl, (refl, refl, refl, refl, refl), refl)
 
 -- A request is to be deferred, and there is no bridge.
-pub kept_without_bridge : IsWorked KeptWithoutBridge.run (
+pub kept_without_bridge : Computed KeptWithoutBridge.run (
     -- it is deferred
     at Hazards 6 (on defer)
     ∷ [])
 unfolding opened
-kept_without_bridge = worked KeptWithoutBridge.run _ (refl, (refl, refl, refl, refl, refl), refl)
+kept_without_bridge = (refl, (refl, refl, refl, refl, refl), refl)
 
 -- A load is deferred and replied to, and another agent's store waits for it.
-pub deferred_and_replied : IsWorked DeferredAndReplied.run (
+pub deferred_and_replied : Computed DeferredAndReplied.run (
     -- the pending line is granted to the second agent
     at Hazards 9 idle
     -- the reply is asked for a clock early
@@ -129,10 +129,10 @@ pub deferred_and_replied : IsWorked DeferredAndReplied.run (
     ∷ entered 8 0 (entry 8 0 0 0 (Load 1 0x1000) 0x0)
     ∷ [])
 unfolding opened
-deferred_and_replied = worked DeferredAndReplied.run _ (refl, (refl, refl, refl, refl, refl), refl)
+deferred_and_replied = (refl, (refl, refl, refl, refl, refl), refl)
 
 -- A load of a line that is held is deferred, and then one of a line that nobody holds, whose reply is stalled.
-pub deferred_with_hit : IsWorked DeferredWithHit.run (
+pub deferred_with_hit : Computed DeferredWithHit.run (
     -- the reply does not repeat HIT#
     at SnoopResults 27 (pair 0 0x2 0x2)
     -- the reply brings the chunks in ascending order
@@ -145,10 +145,10 @@ pub deferred_with_hit : IsWorked DeferredWithHit.run (
     ∷ logged Completions 20 (λ log. take 1 log ++ drop 2 log)
     ∷ [])
 unfolding opened
-deferred_with_hit = worked DeferredWithHit.run _ (refl, (refl, refl, refl, refl, refl), refl)
+deferred_with_hit = (refl, (refl, refl, refl, refl, refl), refl)
 
 -- Deferrals at the edges of the bridge's window; two replies are due at once.
-pub outside_the_window : IsWorked OutsideTheWindow.run (
+pub outside_the_window : Computed OutsideTheWindow.run (
     -- the line below the window is deferred
     at Hazards 6 (pair defer 0x2 0x20002)
     -- the line above the window is deferred
@@ -165,10 +165,10 @@ pub outside_the_window : IsWorked OutsideTheWindow.run (
     ∷ at Chunks 33 (chunk (rs 7 + dbsy + drdy) 0x11)
     ∷ [])
 unfolding opened
-outside_the_window = worked OutsideTheWindow.run _ (refl, (refl, refl, refl, refl, refl), refl)
+outside_the_window = (refl, (refl, refl, refl, refl, refl), refl)
 
 -- A reply and a load begin while the first agent's write-back is held back.
-pub reply_past_held_back : IsWorked ReplyPastHeldBack.run (
+pub reply_past_held_back : Computed ReplyPastHeldBack.run (
     -- the reply is held back too
     at Starts 15 (on (b0 + b3 + bpri))
     -- the load is held back too
@@ -179,10 +179,10 @@ pub reply_past_held_back : IsWorked ReplyPastHeldBack.run (
     ∷ at SnoopResults 38 (on (dbsy + drdy))
     ∷ [])
 unfolding opened
-reply_past_held_back = worked ReplyPastHeldBack.run _ (refl, (refl, refl, refl, refl, refl), refl)
+reply_past_held_back = (refl, (refl, refl, refl, refl, refl), refl)
 
 -- Three replies are due together: BPRI# goes for the clock after each reply begins.
-pub three_replies_due : IsWorked ThreeRepliesDue.run (
+pub three_replies_due : Computed ThreeRepliesDue.run (
     -- BPRI# comes before a reply is due
     at RequestLines 21 (on bpri)
     -- the reply is not asked for though it is due
@@ -203,4 +203,4 @@ pub three_replies_due : IsWorked ThreeRepliesDue.run (
     ∷ logged Completions 33 (λ log. set (set log 0 (entry 33 0 0 0 (Load 1 0x1000) 0x0)) 1 (entry 37 1 0 0 (Load 1 0x1020) 0x0))
     ∷ [])
 unfolding opened
-three_replies_due = worked ThreeRepliesDue.run _ (refl, (refl, refl, refl, refl, refl), refl)
+three_replies_due = (refl, (refl, refl, refl, refl, refl), refl)

@@ -4,7 +4,7 @@ use Rattle.rows_timely.proofs.Opened.{opened}
 use Rattle.rows_timely.proofs.ParityByDigits.{opened_by_digits}
 use Rattle.rows_timely.proofs.Words.{◌+◌, on, pair, chunk, full, idle, b0, b1, b2, b3, bpri, lock, ads, aerr, hit}
 use Rattle.rows_timely.proofs.Words.{defer, rs, trdy, dbsy, drdy, ap0, ap1, rp}
-use Rattle.rows_timely.proofs.Worked.{IsWorked, worked, worked_by_digits, at, BusLock, Chunks, Hazards, ParityLines}
+use Rattle.rows_timely.proofs.Worked.{Computed, ComputedByDigits, at, BusLock, Chunks, Hazards, ParityLines}
 use Rattle.rows_timely.proofs.Worked.{RequestLines, Responses, SnoopResults, Starts}
 use Rattle.rows_timely.proofs.Mixed00
 use Rattle.rows_timely.proofs.Mixed01
@@ -22,7 +22,7 @@ use Rattle.rows_timely.proofs.Mixed12
 use Rattle.rows_timely.proofs.Mixed13
 
 -- A random bench in profile 2: 3 agents, ahead 2, 1 cache set, 17 hazards, locked items.
-pub mixed_00 : IsWorked Mixed00.run (
+pub mixed_00 : ComputedByDigits Mixed00.run (
     -- DEFER# does not come
     at Hazards 6 (pair (b2 + rp) 0x2 0x20002)
     -- LOCK# stays a clock longer
@@ -37,10 +37,10 @@ pub mixed_00 : IsWorked Mixed00.run (
     ∷ at Starts 5 (pair (b1 + b2 + ap0 + rp) 0xa 0x1ffffff00)
     ∷ [])
 unfolding opened_by_digits
-mixed_00 = worked_by_digits Mixed00.run _ (refl, (refl, refl, refl, refl, refl), refl, refl)
+mixed_00 = (refl, (refl, refl, refl, refl, refl), refl, refl)
 
 -- A random bench in profile 1: 2 agents, ahead 4, 16 cache sets, 16 hazards, a bridge, locked items.
-pub mixed_01 : IsWorked Mixed01.run (
+pub mixed_01 : Computed Mixed01.run (
     -- BPRI# comes a clock late
     at RequestLines 14 (pair (lock + drdy) 0x2 0x24000)
     -- HIT# is asserted at no snoop clock
@@ -55,10 +55,10 @@ pub mixed_01 : IsWorked Mixed01.run (
     ∷ at Starts 2 (pair (b0 + b1 + ads) 0x2 0xcb)
     ∷ [])
 unfolding opened
-mixed_01 = worked Mixed01.run _ (refl, (refl, refl, refl, refl, refl), refl)
+mixed_01 = (refl, (refl, refl, refl, refl, refl), refl)
 
 -- A random bench in profile 1: 4 agents, ahead 4, 8 cache sets, 5 hazards, a bridge.
-pub mixed_02 : IsWorked Mixed02.run (
+pub mixed_02 : Computed Mixed02.run (
     -- BREQ1# is missing
     at RequestLines 0 (on (b0 + b2 + b3))
     -- BPRI# comes a clock late
@@ -75,10 +75,10 @@ pub mixed_02 : IsWorked Mixed02.run (
     ∷ at Starts 3 (pair (b1 + b2 + b3) 0x2 0x10002)
     ∷ [])
 unfolding opened
-mixed_02 = worked Mixed02.run _ (refl, (refl, refl, refl, refl, refl), refl)
+mixed_02 = (refl, (refl, refl, refl, refl, refl), refl)
 
 -- A random bench in profile 2: 4 agents, ahead 1, 2 cache sets, 18 hazards, locked items.
-pub mixed_03 : IsWorked Mixed03.run (
+pub mixed_03 : ComputedByDigits Mixed03.run (
     -- BREQ1# is missing
     at RequestLines 0 (on (b0 + b2 + b3))
     -- a byte of the data is another one
@@ -95,10 +95,10 @@ pub mixed_03 : IsWorked Mixed03.run (
     ∷ at Starts 5 (pair (b1 + b2 + b3) 0x2 0x18)
     ∷ [])
 unfolding opened_by_digits
-mixed_03 = worked_by_digits Mixed03.run _ (refl, (refl, refl, refl, refl, refl), refl, refl)
+mixed_03 = (refl, (refl, refl, refl, refl, refl), refl, refl)
 
 -- A random bench in profile 1: 2 agents, ahead 2, 1 cache set, 10 hazards, a bridge, locked items.
-pub mixed_04 : IsWorked Mixed04.run (
+pub mixed_04 : Computed Mixed04.run (
     -- BREQ1# is missing
     at RequestLines 0 (on b0)
     -- the snoop does not stall
@@ -107,10 +107,10 @@ pub mixed_04 : IsWorked Mixed04.run (
     ∷ at Starts 2 (pair (b0 + b1 + ads) 0xe 0x2000000e)
     ∷ [])
 unfolding opened
-mixed_04 = worked Mixed04.run _ (refl, (refl, refl, refl, refl, refl), refl)
+mixed_04 = (refl, (refl, refl, refl, refl, refl), refl)
 
 -- A random bench in profile 2: 3 agents, ahead 3, 2 cache sets, 2 hazards.
-pub mixed_05 : IsWorked Mixed05.run (
+pub mixed_05 : ComputedByDigits Mixed05.run (
     -- a byte of the data is another one
     at Chunks 10 (chunk (b0 + b1 + dbsy + drdy) 0x100)
     -- AP1# is asserted where nothing is on its lines
@@ -121,10 +121,10 @@ pub mixed_05 : IsWorked Mixed05.run (
     ∷ at Starts 3 (pair (b1 + b2 + ap0 + rp) 0x2 0x10002)
     ∷ [])
 unfolding opened_by_digits
-mixed_05 = worked_by_digits Mixed05.run _ (refl, (refl, refl, refl, refl, refl), refl, refl)
+mixed_05 = (refl, (refl, refl, refl, refl, refl), refl, refl)
 
 -- A random bench in profile 1: 2 agents, ahead 3, 1 cache set, 9 hazards, locked items.
-pub mixed_06 : IsWorked Mixed06.run (
+pub mixed_06 : Computed Mixed06.run (
     -- AERR# does not come
     at Hazards 5 (pair (b1 + lock + ads) 0x2 0x127d12d5)
     -- LOCK# stays a clock longer
@@ -133,10 +133,10 @@ pub mixed_06 : IsWorked Mixed06.run (
     ∷ at Starts 5 (pair (b1 + lock + aerr) 0x2 0x127d12d5)
     ∷ [])
 unfolding opened
-mixed_06 = worked Mixed06.run _ (refl, (refl, refl, refl, refl, refl), refl)
+mixed_06 = (refl, (refl, refl, refl, refl, refl), refl)
 
 -- A random bench in profile 2: 2 agents, ahead 3, 8 cache sets, 16 hazards, a bridge.
-pub mixed_07 : IsWorked Mixed07.run (
+pub mixed_07 : ComputedByDigits Mixed07.run (
     -- BNR# does not come
     at Hazards 10 (on b1)
     -- AP1# is asserted where nothing is on its lines
@@ -145,10 +145,10 @@ pub mixed_07 : IsWorked Mixed07.run (
     ∷ at Starts 2 (pair (b0 + b1 + ads + ap1 + rp) 0xa 0x8128b6b0)
     ∷ [])
 unfolding opened_by_digits
-mixed_07 = worked_by_digits Mixed07.run _ (refl, (refl, refl, refl, refl, refl), refl, refl)
+mixed_07 = (refl, (refl, refl, refl, refl, refl), refl, refl)
 
 -- A random bench in profile 1: 1 agent, ahead 4, 8 cache sets, 31 hazards, a bridge, locked items.
-pub mixed_08 : IsWorked Mixed08.run (
+pub mixed_08 : Computed Mixed08.run (
     -- BPRI# comes a clock late
     at RequestLines 15 idle
     -- DEFER# does not come
@@ -161,10 +161,10 @@ pub mixed_08 : IsWorked Mixed08.run (
     ∷ at Starts 3 (pair 0 0x2 0x10002)
     ∷ [])
 unfolding opened
-mixed_08 = worked Mixed08.run _ (refl, (refl, refl, refl, refl, refl), refl)
+mixed_08 = (refl, (refl, refl, refl, refl, refl), refl)
 
 -- A random bench in profile 2: 1 agent, ahead 4, 2 cache sets, 2 hazards, a bridge, locked items.
-pub mixed_09 : IsWorked Mixed09.run (
+pub mixed_09 : ComputedByDigits Mixed09.run (
     -- a byte of the data is another one
     at Chunks 10 (chunk (dbsy + drdy) 0x100)
     -- LOCK# comes a clock late
@@ -177,10 +177,10 @@ pub mixed_09 : IsWorked Mixed09.run (
     ∷ at SnoopResults 6 (pair (b0 + ads + hit + ap0) 0x2 0xe6)
     ∷ [])
 unfolding opened_by_digits
-mixed_09 = worked_by_digits Mixed09.run _ (refl, (refl, refl, refl, refl, refl), refl, refl)
+mixed_09 = (refl, (refl, refl, refl, refl, refl), refl, refl)
 
 -- A random bench in profile 1: 3 agents, ahead 4, 1 cache set, 20 hazards, a bridge, locked items.
-pub mixed_10 : IsWorked Mixed10.run (
+pub mixed_10 : Computed Mixed10.run (
     -- a byte of the data is another one
     at Chunks 10 (chunk (dbsy + drdy) 0x100)
     -- the snoop does not stall
@@ -193,10 +193,10 @@ pub mixed_10 : IsWorked Mixed10.run (
     ∷ at Starts 5 (pair (b1 + b2) 0x6 0x1ffffff9)
     ∷ [])
 unfolding opened
-mixed_10 = worked Mixed10.run _ (refl, (refl, refl, refl, refl, refl), refl)
+mixed_10 = (refl, (refl, refl, refl, refl, refl), refl)
 
 -- A random bench in profile 2: 3 agents, ahead 1, 2 cache sets, 3 hazards, locked items.
-pub mixed_11 : IsWorked Mixed11.run (
+pub mixed_11 : ComputedByDigits Mixed11.run (
     -- BREQ1# is missing
     at RequestLines 0 (on b0)
     -- the data are those before the store or the setting
@@ -211,22 +211,22 @@ pub mixed_11 : IsWorked Mixed11.run (
     ∷ at Responses 12 (pair (b2 + ads + dbsy + drdy) 0xe 0xa976904c)
     ∷ [])
 unfolding opened_by_digits
-mixed_11 = worked_by_digits Mixed11.run _ (refl, (refl, refl, refl, refl, refl), refl, refl)
+mixed_11 = (refl, (refl, refl, refl, refl, refl), refl, refl)
 
 -- A random bench in profile 1: 1 agent, ahead 2, 1 cache set, 22 hazards, a bridge.
-pub mixed_12 : IsWorked Mixed12.run (
+pub mixed_12 : Computed Mixed12.run (
     -- BNR# does not come
     at Hazards 13 idle
     ∷ [])
 unfolding opened
-mixed_12 = worked Mixed12.run _ (refl, (refl, refl, refl, refl, refl), refl)
+mixed_12 = (refl, (refl, refl, refl, refl, refl), refl)
 
 -- A random bench in profile 1: 1 agent, ahead 4, 4 cache sets, 36 hazards, a bridge, locked items.
-pub mixed_13 : IsWorked Mixed13.run (
+pub mixed_13 : Computed Mixed13.run (
     -- BPRI# comes a clock late
     at RequestLines 21 idle
     -- DEFER# does not come
     ∷ at Hazards 6 (pair (b0 + ads) 0xe 0x1ffffff78)
     ∷ [])
 unfolding opened
-mixed_13 = worked Mixed13.run _ (refl, (refl, refl, refl, refl, refl), refl)
+mixed_13 = (refl, (refl, refl, refl, refl, refl), refl)

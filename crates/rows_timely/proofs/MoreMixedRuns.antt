@@ -4,7 +4,7 @@ use Rattle.rows_timely.proofs.Opened.{opened}
 use Rattle.rows_timely.proofs.ParityByDigits.{opened_by_digits}
 use Rattle.rows_timely.proofs.Words.{◌+◌, on, pair, chunk, full, b0, b1, b2, b3, lock, ads, aerr, hit, hitm, defer, rs}
 use Rattle.rows_timely.proofs.Words.{trdy, dbsy, drdy, ap0, ap1, rp}
-use Rattle.rows_timely.proofs.Worked.{IsWorked, worked, worked_by_digits, at, BusLock, Chunks, Hazards, ParityLines}
+use Rattle.rows_timely.proofs.Worked.{Computed, ComputedByDigits, at, BusLock, Chunks, Hazards, ParityLines}
 use Rattle.rows_timely.proofs.Worked.{Responses, SnoopResults}
 use Rattle.rows_timely.proofs.Mixed14
 use Rattle.rows_timely.proofs.Mixed15
@@ -22,7 +22,7 @@ use Rattle.rows_timely.proofs.Mixed26
 use Rattle.rows_timely.proofs.Mixed27
 
 -- A random bench in profile 2: 2 agents, ahead 3, 4 cache sets, 31 hazards, locked items.
-pub mixed_14 : IsWorked Mixed14.run (
+pub mixed_14 : ComputedByDigits Mixed14.run (
     -- AERR# does not come
     at Hazards 5 (on b0)
     -- LOCK# stays a clock longer
@@ -31,10 +31,10 @@ pub mixed_14 : IsWorked Mixed14.run (
     ∷ at ParityLines 4 (on (b0 + ap1))
     ∷ [])
 unfolding opened_by_digits
-mixed_14 = worked_by_digits Mixed14.run _ (refl, (refl, refl, refl, refl, refl), refl, refl)
+mixed_14 = (refl, (refl, refl, refl, refl, refl), refl, refl)
 
 -- A random bench in profile 2: 2 agents, ahead 2, 4 cache sets, 8 hazards, a bridge, locked items.
-pub mixed_15 : IsWorked Mixed15.run (
+pub mixed_15 : Computed Mixed15.run (
     -- a byte of the data is another one
     at Chunks 10 (chunk (lock + dbsy + drdy) 0x100)
     -- LOCK# comes a clock early
@@ -47,10 +47,10 @@ pub mixed_15 : IsWorked Mixed15.run (
     ∷ at Responses 8 (pair (b0 + lock + ads + rs 7 + dbsy + ap0) 0x2 0x2c)
     ∷ [])
 unfolding opened
-mixed_15 = worked Mixed15.run _ (refl, (refl, refl, refl, refl, refl), refl)
+mixed_15 = (refl, (refl, refl, refl, refl, refl), refl)
 
 -- A random bench in profile 2: 4 agents, ahead 4, 2 cache sets, 3 hazards, a bridge, locked items.
-pub mixed_16 : IsWorked Mixed16.run (
+pub mixed_16 : ComputedByDigits Mixed16.run (
     -- a byte of the data is another one
     at Chunks 10 (chunk (b0 + b1 + b3 + dbsy + drdy) 0x100)
     -- AP1# is asserted where nothing is on its lines
@@ -61,43 +61,43 @@ pub mixed_16 : IsWorked Mixed16.run (
     ∷ at SnoopResults 9 (pair (b0 + b1 + b3 + defer + dbsy + drdy + rp) 0x2 0x40002)
     ∷ [])
 unfolding opened_by_digits
-mixed_16 = worked_by_digits Mixed16.run _ (refl, (refl, refl, refl, refl, refl), refl, refl)
+mixed_16 = (refl, (refl, refl, refl, refl, refl), refl, refl)
 
 -- A random bench in profile 2: 2 agents, ahead 2, 16 cache sets, 8 hazards, locked items.
-pub mixed_17 : IsWorked Mixed17.run (
+pub mixed_17 : Computed Mixed17.run (
     -- AERR# does not come
     at Hazards 5 (pair (b1 + ads + rp) 0x6 0x9)
     -- RP# is missing
     ∷ at ParityLines 5 (pair (b1 + ads + aerr) 0x6 0x9)
     ∷ [])
 unfolding opened
-mixed_17 = worked Mixed17.run _ (refl, (refl, refl, refl, refl, refl), refl)
+mixed_17 = (refl, (refl, refl, refl, refl, refl), refl)
 
 -- A random bench in profile 2: 1 agent, ahead 4, 2 cache sets, 9 hazards, a bridge, locked items.
-pub mixed_18 : IsWorked Mixed18.run (
+pub mixed_18 : ComputedByDigits Mixed18.run (
     -- the data are those before the store or the setting
     at Chunks 10 (on (b0 + dbsy + drdy))
     -- RP# is missing
     ∷ at ParityLines 7 (pair 0 0x2 0x2002)
     ∷ [])
 unfolding opened_by_digits
-mixed_18 = worked_by_digits Mixed18.run _ (refl, (refl, refl, refl, refl, refl), refl, refl)
+mixed_18 = (refl, (refl, refl, refl, refl, refl), refl, refl)
 
 -- A random bench in profile 1: 2 agents, ahead 3, 1 cache set, 8 hazards, locked items.
-pub mixed_19 : IsWorked Mixed19.run (
+pub mixed_19 : Computed Mixed19.run (
     -- the data are those before the store or the setting
     at Chunks 10 (on (dbsy + drdy))
     ∷ [])
 unfolding opened
-mixed_19 = worked Mixed19.run _ (refl, (refl, refl, refl, refl, refl), refl)
+mixed_19 = (refl, (refl, refl, refl, refl, refl), refl)
 
 -- A random bench in profile 2: 2 agents, ahead 2, 2 cache sets, 3 hazards.
-pub mixed_20 : IsWorked Mixed20.run []
+pub mixed_20 : Computed Mixed20.run []
 unfolding opened
-mixed_20 = worked Mixed20.run _ (refl, (refl, refl, refl, refl, refl), refl)
+mixed_20 = (refl, (refl, refl, refl, refl, refl), refl)
 
 -- A random bench in profile 1: 3 agents, ahead 1, 4 cache sets, 10 hazards, a bridge, locked items.
-pub mixed_21 : IsWorked Mixed21.run (
+pub mixed_21 : Computed Mixed21.run (
     -- the data are those before the store or the setting
     at Chunks 9 (pair (hitm + dbsy + drdy) 0x2 0x40002)
     -- LOCK# comes a clock early
@@ -108,10 +108,10 @@ pub mixed_21 : IsWorked Mixed21.run (
     ∷ at SnoopResults 9 (full (dbsy + drdy) 0x2 0x40002 0x45000000000000)
     ∷ [])
 unfolding opened
-mixed_21 = worked Mixed21.run _ (refl, (refl, refl, refl, refl, refl), refl)
+mixed_21 = (refl, (refl, refl, refl, refl, refl), refl)
 
 -- A random bench in profile 2: 2 agents, ahead 3, 16 cache sets, 0 hazards, a bridge, locked items.
-pub mixed_22 : IsWorked Mixed22.run (
+pub mixed_22 : ComputedByDigits Mixed22.run (
     -- the data are those before the store or the setting
     at Chunks 9 (pair (b1 + hit + dbsy + drdy + rp) 0x2 0x2002)
     -- LOCK# comes a clock early
@@ -122,40 +122,40 @@ pub mixed_22 : IsWorked Mixed22.run (
     ∷ at SnoopResults 9 (full (b1 + dbsy + drdy + rp) 0x2 0x2002 0x71000000000000)
     ∷ [])
 unfolding opened_by_digits
-mixed_22 = worked_by_digits Mixed22.run _ (refl, (refl, refl, refl, refl, refl), refl, refl)
+mixed_22 = (refl, (refl, refl, refl, refl, refl), refl, refl)
 
 -- A random bench in profile 2: 1 agent, ahead 3, 4 cache sets, 27 hazards, a bridge, locked items.
-pub mixed_23 : IsWorked Mixed23.run (
+pub mixed_23 : ComputedByDigits Mixed23.run (
     -- LOCK# comes a clock late
     at BusLock 24 (pair (b0 + ads + ap0) 0x2 0x1ffffffc)
     -- RP# is missing
     ∷ at ParityLines 13 (pair ap0 0x2 0x2)
     ∷ [])
 unfolding opened_by_digits
-mixed_23 = worked_by_digits Mixed23.run _ (refl, (refl, refl, refl, refl, refl), refl, refl)
+mixed_23 = (refl, (refl, refl, refl, refl, refl), refl, refl)
 
 -- A random bench in profile 1: 4 agents, ahead 1, 1 cache set, 10 hazards, a bridge, locked items.
-pub mixed_24 : IsWorked Mixed24.run (
+pub mixed_24 : Computed Mixed24.run (
     -- TRDY# comes a clock early
     at Responses 11 (full (b3 + ads + trdy + drdy) 0xe 0x1ffffff00 0x3d000000000000)
     -- the owner does not show that it has the line modified
     ∷ at SnoopResults 9 (pair (b3 + dbsy + drdy) 0x2 0x40002)
     ∷ [])
 unfolding opened
-mixed_24 = worked Mixed24.run _ (refl, (refl, refl, refl, refl, refl), refl)
+mixed_24 = (refl, (refl, refl, refl, refl, refl), refl)
 
 -- A random bench in profile 1: 4 agents, ahead 4, 2 cache sets, 17 hazards, a bridge, locked items.
-pub mixed_25 : IsWorked Mixed25.run (
+pub mixed_25 : Computed Mixed25.run (
     -- TRDY# comes a clock early
     at Responses 11 (pair (b1 + ads + trdy + drdy) 0xa 0x1ffffff00)
     -- HIT# does not come
     ∷ at SnoopResults 12 (pair (b0 + trdy) 0x2 0x20002)
     ∷ [])
 unfolding opened
-mixed_25 = worked Mixed25.run _ (refl, (refl, refl, refl, refl, refl), refl)
+mixed_25 = (refl, (refl, refl, refl, refl, refl), refl)
 
 -- A random bench in profile 2: 2 agents, ahead 4, 1 cache set, 9 hazards.
-pub mixed_26 : IsWorked Mixed26.run (
+pub mixed_26 : ComputedByDigits Mixed26.run (
     -- the data are those before the store or the setting
     at Chunks 8 (on (rs 7 + dbsy + drdy))
     -- the snoop does not stall
@@ -168,12 +168,12 @@ pub mixed_26 : IsWorked Mixed26.run (
     ∷ at SnoopResults 9 (chunk (dbsy + drdy) 0xe500000000)
     ∷ [])
 unfolding opened_by_digits
-mixed_26 = worked_by_digits Mixed26.run _ (refl, (refl, refl, refl, refl, refl), refl, refl)
+mixed_26 = (refl, (refl, refl, refl, refl, refl), refl, refl)
 
 -- A random bench in profile 1: 1 agent, ahead 1, 1 cache set, 36 hazards, a bridge.
-pub mixed_27 : IsWorked Mixed27.run (
+pub mixed_27 : Computed Mixed27.run (
     -- the data are those before the store or the setting
     at Chunks 9 (on (rs 7 + dbsy + drdy))
     ∷ [])
 unfolding opened
-mixed_27 = worked Mixed27.run _ (refl, (refl, refl, refl, refl, refl), refl)
+mixed_27 = (refl, (refl, refl, refl, refl, refl), refl)

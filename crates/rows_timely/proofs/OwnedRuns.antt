@@ -4,7 +4,7 @@ use Rattle.std.proofs.Common.{refl, take, set, [], ◌∷◌}
 use Rattle.rows_timely.proofs.Opened.{opened}
 use Rattle.rows_timely.proofs.Words.{◌+◌, Load, Store, Literal, LastPlus, on, pair, chunk, idle, b0, b1, b2, b3, lock}
 use Rattle.rows_timely.proofs.Words.{ads, hit, hitm, rs, trdy, dbsy, drdy, entry}
-use Rattle.rows_timely.proofs.Worked.{IsWorked, worked, at, logged, entered, BusLock, Chunks, Completions, Hazards}
+use Rattle.rows_timely.proofs.Worked.{Computed, at, logged, entered, BusLock, Chunks, Completions, Hazards}
 use Rattle.rows_timely.proofs.Worked.{RequestLines, Responses, SnoopResults, Starts}
 use Rattle.rows_timely.proofs.StoreHandedOverBeforeArrival
 use Rattle.rows_timely.proofs.ThreeStoresChained
@@ -20,7 +20,7 @@ use Rattle.rows_timely.proofs.DropAtSnoopEnd
 use Rattle.rows_timely.proofs.HitAtSnoopEnd
 
 -- Two agents store to one line; the first hands it on before its bytes have come.
-pub store_handed_over_before_arrival : IsWorked StoreHandedOverBeforeArrival.run (
+pub store_handed_over_before_arrival : Computed StoreHandedOverBeforeArrival.run (
     -- the owner without bytes stays silent
     at SnoopResults 9 (on (dbsy + drdy))
     -- TRDY# comes a clock early
@@ -33,10 +33,10 @@ pub store_handed_over_before_arrival : IsWorked StoreHandedOverBeforeArrival.run
     ∷ at Responses 12 idle
     ∷ [])
 unfolding opened
-store_handed_over_before_arrival = worked StoreHandedOverBeforeArrival.run _ (refl, (refl, refl, refl, refl, refl), refl)
+store_handed_over_before_arrival = (refl, (refl, refl, refl, refl, refl), refl)
 
 -- Three agents store to one line, and each hands it on to the next.
-pub three_stores_chained : IsWorked ThreeStoresChained.run (
+pub three_stores_chained : Computed ThreeStoresChained.run (
     -- the second owner without bytes stays silent
     at SnoopResults 12 (on trdy)
     -- the line is handed over without the second store
@@ -47,10 +47,10 @@ pub three_stores_chained : IsWorked ThreeStoresChained.run (
     ∷ at Starts 8 (pair (b2 + ads + rs 7 + dbsy + drdy) 0x2 0x10)
     ∷ [])
 unfolding opened
-three_stores_chained = worked ThreeStoresChained.run _ (refl, (refl, refl, refl, refl, refl), refl)
+three_stores_chained = (refl, (refl, refl, refl, refl, refl), refl)
 
 -- Four agents hand two lines on, and the fourth locks the bus.
-pub four_owners : IsWorked FourOwners.run (
+pub four_owners : Computed FourOwners.run (
     -- the fourth agent does not show that its line is modified
     at SnoopResults 18 (pair b3 0x2 0x2)
     -- the third agent, which shares the line, does not show that it holds it
@@ -61,10 +61,10 @@ pub four_owners : IsWorked FourOwners.run (
     ∷ logged Completions 36 (λ log. take 5 log)
     ∷ [])
 unfolding opened
-four_owners = worked FourOwners.run _ (refl, (refl, refl, refl, refl, refl), refl)
+four_owners = (refl, (refl, refl, refl, refl, refl), refl)
 
 -- Two agents share a line, and the first stores into it: it needs the bus.
-pub shared_line_invalidated : IsWorked SharedLineInvalidated.run (
+pub shared_line_invalidated : Computed SharedLineInvalidated.run (
     -- the first agent does not show that it holds the line
     at SnoopResults 9 (on (dbsy + drdy))
     -- the store into the shared line is a hit
@@ -75,18 +75,18 @@ pub shared_line_invalidated : IsWorked SharedLineInvalidated.run (
     ∷ at RequestLines 12 (on (rs 7 + dbsy + drdy))
     ∷ [])
 unfolding opened
-shared_line_invalidated = worked SharedLineInvalidated.run _ (refl, (refl, refl, refl, refl, refl), refl)
+shared_line_invalidated = (refl, (refl, refl, refl, refl, refl), refl)
 
 -- A line is taken away in the clock before its holder's next load.
-pub load_after_loss : IsWorked LoadAfterLoss.run (
+pub load_after_loss : Computed LoadAfterLoss.run (
     -- the load is a hit
     logged Completions 17 (λ log. set (set log 1 (entry 17 0 2 0 (Load 1 0x41) 0x0)) 2 (entry 21 1 1 0 (Store 1 0x40 (Literal 0x8)) 0x8))
     ∷ [])
 unfolding opened
-load_after_loss = worked LoadAfterLoss.run _ (refl, (refl, refl, refl, refl, refl), refl)
+load_after_loss = (refl, (refl, refl, refl, refl, refl), refl)
 
 -- With a cache of one line a stored line is written back, and read again.
-pub dirty_victim_written_back : IsWorked DirtyVictimWrittenBack.run (
+pub dirty_victim_written_back : Computed DirtyVictimWrittenBack.run (
     -- the next line is read with no write-back
     at Starts 14 (pair (b0 + ads) 0x6 0x10)
     -- TRDY# for the write-back comes a clock early
@@ -99,10 +99,10 @@ pub dirty_victim_written_back : IsWorked DirtyVictimWrittenBack.run (
     ∷ at SnoopResults 18 (on hit)
     ∷ [])
 unfolding opened
-dirty_victim_written_back = worked DirtyVictimWrittenBack.run _ (refl, (refl, refl, refl, refl, refl), refl)
+dirty_victim_written_back = (refl, (refl, refl, refl, refl, refl), refl)
 
 -- A write-back is held back while another agent asks for its line, and is then not needed.
-pub write_back_held_off : IsWorked WriteBackHeldOff.run (
+pub write_back_held_off : Computed WriteBackHeldOff.run (
     -- the write-back begins at the first clock at which it could
     at Starts 16 (pair (b0 + ads) 0x5 0x8)
     -- the owner does not show that its line is modified
@@ -113,40 +113,40 @@ pub write_back_held_off : IsWorked WriteBackHeldOff.run (
     ∷ at SnoopResults 17 (on (b0 + hit))
     ∷ [])
 unfolding opened
-write_back_held_off = worked WriteBackHeldOff.run _ (refl, (refl, refl, refl, refl, refl), refl)
+write_back_held_off = (refl, (refl, refl, refl, refl, refl), refl)
 
 -- A write-back begins three clocks after another agent's load of another line, and its line is read at once.
-pub write_back_behind_read : IsWorked WriteBackBehindRead.run (
+pub write_back_behind_read : Computed WriteBackBehindRead.run (
     -- the write-back is held back
     at Starts 14 (on b1)
     -- its agent shows that it still holds the line
     ∷ at SnoopResults 27 (on (b1 + hit))
     ∷ [])
 unfolding opened
-write_back_behind_read = worked WriteBackBehindRead.run _ (refl, (refl, refl, refl, refl, refl), refl)
+write_back_behind_read = (refl, (refl, refl, refl, refl, refl), refl)
 
 -- A clean line is dropped for another one in the clock of another agent's snoop end, and then one in the clock before.
-pub clean_victim_seen : IsWorked CleanVictimSeen.run (
+pub clean_victim_seen : Computed CleanVictimSeen.run (
     -- its agent does not show in the same clock that it holds the line
     at SnoopResults 14 (pair (b0 + ads) 0x6 0xc)
     -- its agent shows a clock later that it still holds the line
     ∷ at SnoopResults 27 (pair hit 0x2 0x2)
     ∷ [])
 unfolding opened
-clean_victim_seen = worked CleanVictimSeen.run _ (refl, (refl, refl, refl, refl, refl), refl)
+clean_victim_seen = (refl, (refl, refl, refl, refl, refl), refl)
 
 -- A store at the clock of a snoop end counts there: the line is shown as Modified.
-pub store_at_snoop_end : IsWorked StoreAtSnoopEnd.run []
+pub store_at_snoop_end : Computed StoreAtSnoopEnd.run []
 unfolding opened
-store_at_snoop_end = worked StoreAtSnoopEnd.run _ (refl, (refl, refl, refl, refl, refl), refl)
+store_at_snoop_end = (refl, (refl, refl, refl, refl, refl), refl)
 
 -- A line that its agent drops at the clock of a snoop end is still shown there.
-pub drop_at_snoop_end : IsWorked DropAtSnoopEnd.run []
+pub drop_at_snoop_end : Computed DropAtSnoopEnd.run []
 unfolding opened
-drop_at_snoop_end = worked DropAtSnoopEnd.run _ (refl, (refl, refl, refl, refl, refl), refl)
+drop_at_snoop_end = (refl, (refl, refl, refl, refl, refl), refl)
 
 -- A store hits in the very clock of another agent's snoop end.
-pub hit_at_snoop_end : IsWorked HitAtSnoopEnd.run (
+pub hit_at_snoop_end : Computed HitAtSnoopEnd.run (
     -- the owner shows that it holds the line, not that it is modified
     at SnoopResults 16 (on hit)
     -- HIT# is asserted in a clock that is no snoop clock
@@ -165,4 +165,4 @@ pub hit_at_snoop_end : IsWorked HitAtSnoopEnd.run (
     ∷ entered 11 0 (entry 11 0 0 0 (Store 1 0x40 (Literal 0x0)) 0x0)
     ∷ [])
 unfolding opened
-hit_at_snoop_end = worked HitAtSnoopEnd.run _ (refl, (refl, refl, refl, refl, refl), refl)
+hit_at_snoop_end = (refl, (refl, refl, refl, refl, refl), refl)

@@ -3,7 +3,7 @@ use Rattle.std.proofs.Common.{refl, take, drop, set, [], ◌∷◌, ◌++◌}
 use Rattle.rows_timely.proofs.Opened.{opened}
 use Rattle.rows_timely.proofs.Words.{◌+◌, Load, Store, Literal, LastPlus, on, pair, chunk, full, idle, b0, b1, b2, b3}
 use Rattle.rows_timely.proofs.Words.{lock, bnr, ads, aerr, rs, trdy, dbsy, drdy, entry}
-use Rattle.rows_timely.proofs.Worked.{IsWorked, worked, at, logged, entered, Chunks, Completions, Hazards, RequestLines}
+use Rattle.rows_timely.proofs.Worked.{Computed, at, logged, entered, Chunks, Completions, Hazards, RequestLines}
 use Rattle.rows_timely.proofs.Worked.{Responses, SnoopResults, Starts, Times}
 use Rattle.rows_timely.proofs.LoadThenStoreHit
 use Rattle.rows_timely.proofs.EmptyRun
@@ -22,7 +22,7 @@ use Rattle.rows_timely.proofs.QueueFull
 use Rattle.rows_timely.proofs.SameClock
 
 -- One agent loads a byte and stores into the next one: one request, and a hit.
-pub load_then_store_hit : IsWorked LoadThenStoreHit.run (
+pub load_then_store_hit : Computed LoadThenStoreHit.run (
     -- BREQ0# kept up while the request begins
     at RequestLines 3 (pair b0 0x2 0x2)
     -- the first chunk is another one
@@ -45,10 +45,10 @@ pub load_then_store_hit : IsWorked LoadThenStoreHit.run (
     ∷ at Responses 8 idle
     ∷ [])
 unfolding opened
-load_then_store_hit = worked LoadThenStoreHit.run _ (refl, (refl, refl, refl, refl, refl), refl)
+load_then_store_hit = (refl, (refl, refl, refl, refl, refl), refl)
 
 -- No clock at all: nothing is logged.
-pub empty_run : IsWorked EmptyRun.run (
+pub empty_run : Computed EmptyRun.run (
     -- the first load is logged past the end
     logged Times 0 (λ log. entry 11 0 0 0 (Load 1 0x40) 0x7 ∷ [])
     -- both accesses are logged past the end
@@ -57,10 +57,10 @@ pub empty_run : IsWorked EmptyRun.run (
     ∷ logged Times 0 (λ log. entry 0 0 0 0 (Load 1 0x40) 0x7 ∷ [])
     ∷ [])
 unfolding opened
-empty_run = worked EmptyRun.run _ (refl, (refl, refl, refl, refl, refl), refl)
+empty_run = (refl, (refl, refl, refl, refl, refl), refl)
 
 -- A load that waits for five idle clocks.
-pub idle_first : IsWorked IdleFirst.run (
+pub idle_first : Computed IdleFirst.run (
     -- BREQ0# comes a clock early
     at RequestLines 4 (on b0)
     -- the request begins a clock early
@@ -69,10 +69,10 @@ pub idle_first : IsWorked IdleFirst.run (
     ∷ entered 16 0 (entry 17 0 1 0 (Load 1 0x40) 0x0)
     ∷ [])
 unfolding opened
-idle_first = worked IdleFirst.run _ (refl, (refl, refl, refl, refl, refl), refl)
+idle_first = (refl, (refl, refl, refl, refl, refl), refl)
 
 -- Two agents load different lines, and the requests overlap.
-pub two_agents_overlap : IsWorked TwoAgentsOverlap.run (
+pub two_agents_overlap : Computed TwoAgentsOverlap.run (
     -- the second request begins a clock early
     at Starts 4 (pair (b1 + ads) 0x6 0x10)
     -- the second response comes a clock early
@@ -85,10 +85,10 @@ pub two_agents_overlap : IsWorked TwoAgentsOverlap.run (
     ∷ logged Times 0 (λ log. set (set log 0 (entry 15 1 0 0 (Load 1 0x80) 0x0)) 1 (entry 11 0 0 0 (Load 1 0x40) 0x0))
     ∷ [])
 unfolding opened
-two_agents_overlap = worked TwoAgentsOverlap.run _ (refl, (refl, refl, refl, refl, refl), refl)
+two_agents_overlap = (refl, (refl, refl, refl, refl, refl), refl)
 
 -- A load of chunk three: the chunks come in the order 3, 2, 1, 0.
-pub burst_order_of_chunk_three : IsWorked BurstOrderOfChunkThree.run (
+pub burst_order_of_chunk_three : Computed BurstOrderOfChunkThree.run (
     -- the chunks come in ascending order
     at Chunks 8 (on (rs 7 + dbsy + drdy))
     -- chunk three comes with the last data
@@ -97,10 +97,10 @@ pub burst_order_of_chunk_three : IsWorked BurstOrderOfChunkThree.run (
     ∷ at Starts 2 (pair (b0 + ads) 0x6 0x8)
     ∷ [])
 unfolding opened
-burst_order_of_chunk_three = worked BurstOrderOfChunkThree.run _ (refl, (refl, refl, refl, refl, refl), refl)
+burst_order_of_chunk_three = (refl, (refl, refl, refl, refl, refl), refl)
 
 -- The same, cut off after ten clocks: nothing is completed.
-pub run_cut_before_arrival_10 : IsWorked RunCutBeforeArrival10.run (
+pub run_cut_before_arrival_10 : Computed RunCutBeforeArrival10.run (
     -- the first store is logged before its bytes have come
     logged Completions 9 (λ log. entry 9 0 0 0 (Store 1 0x40 (Literal 0x1)) 0x1 ∷ [])
     -- the owner without bytes stays silent
@@ -111,10 +111,10 @@ pub run_cut_before_arrival_10 : IsWorked RunCutBeforeArrival10.run (
     ∷ logged Times 0 (λ log. entry 11 0 0 0 (Store 1 0x40 (Literal 0x1)) 0x1 ∷ [])
     ∷ [])
 unfolding opened
-run_cut_before_arrival_10 = worked RunCutBeforeArrival10.run _ (refl, (refl, refl, refl, refl, refl), refl)
+run_cut_before_arrival_10 = (refl, (refl, refl, refl, refl, refl), refl)
 
 -- The same, cut off after twelve clocks: one store is completed.
-pub run_cut_before_arrival_12 : IsWorked RunCutBeforeArrival12.run (
+pub run_cut_before_arrival_12 : Computed RunCutBeforeArrival12.run (
     -- the first store is not logged
     logged Completions 11 (λ log. take 0 log)
     -- the first store is logged for the second agent
@@ -123,10 +123,10 @@ pub run_cut_before_arrival_12 : IsWorked RunCutBeforeArrival12.run (
     ∷ at RequestLines 11 (on (b0 + drdy))
     ∷ [])
 unfolding opened
-run_cut_before_arrival_12 = worked RunCutBeforeArrival12.run _ (refl, (refl, refl, refl, refl, refl), refl)
+run_cut_before_arrival_12 = (refl, (refl, refl, refl, refl, refl), refl)
 
 -- One agent has four requests outstanding.
-pub four_outstanding : IsWorked FourOutstanding.run (
+pub four_outstanding : Computed FourOutstanding.run (
     -- the fourth load is not asked for ahead
     at RequestLines 12 (on (rs 7 + dbsy + drdy))
     -- the third request takes the first ID
@@ -137,10 +137,10 @@ pub four_outstanding : IsWorked FourOutstanding.run (
     ∷ entered 19 3 (entry 19 0 3 0 (Load 1 0x100) 0x0)
     ∷ [])
 unfolding opened
-four_outstanding = worked FourOutstanding.run _ (refl, (refl, refl, refl, refl, refl), refl)
+four_outstanding = (refl, (refl, refl, refl, refl, refl), refl)
 
 -- One agent has two requests outstanding.
-pub look_ahead_two : IsWorked LookAheadTwo.run (
+pub look_ahead_two : Computed LookAheadTwo.run (
     -- BREQ0# is kept up while the first request begins
     at RequestLines 3 (pair b0 0x2 0x2)
     -- both requests have one ID
@@ -151,10 +151,10 @@ pub look_ahead_two : IsWorked LookAheadTwo.run (
     ∷ entered 11 1 (entry 11 0 1 0 (Load 1 0x80) 0x0)
     ∷ [])
 unfolding opened
-look_ahead_two = worked LookAheadTwo.run _ (refl, (refl, refl, refl, refl, refl), refl)
+look_ahead_two = (refl, (refl, refl, refl, refl, refl), refl)
 
 -- With a look-ahead of two, a second store to one line asks for nothing.
-pub second_store_waits : IsWorked SecondStoreWaits.run (
+pub second_store_waits : Computed SecondStoreWaits.run (
     -- the second store asks for the line too
     at RequestLines 4 (on b0)
     -- both stores are logged at the arrival
@@ -163,20 +163,20 @@ pub second_store_waits : IsWorked SecondStoreWaits.run (
     ∷ entered 12 1 (entry 13 0 1 0 (Store 1 0x40 (Literal 0x2)) 0x2)
     ∷ [])
 unfolding opened
-second_store_waits = worked SecondStoreWaits.run _ (refl, (refl, refl, refl, refl, refl), refl)
+second_store_waits = (refl, (refl, refl, refl, refl, refl), refl)
 
 -- With a look-ahead of three, a line is not asked for while an earlier item needs its cache set.
-pub earlier_sets : IsWorked EarlierSets.run (
+pub earlier_sets : Computed EarlierSets.run (
     -- it is asked for in the clock of the earlier item's hit
     at RequestLines 16 (on b0)
     -- the line is lost with the write-back of another one
     ∷ logged Completions 56 (λ log. take 8 log)
     ∷ [])
 unfolding opened
-earlier_sets = worked EarlierSets.run _ (refl, (refl, refl, refl, refl, refl), refl)
+earlier_sets = (refl, (refl, refl, refl, refl, refl), refl)
 
 -- A window of three items ends at an idle item, and at a locked one.
-pub window_ends : IsWorked WindowEnds.run (
+pub window_ends : Computed WindowEnds.run (
     -- the load behind the idle item is asked for ahead
     at RequestLines 12 (on b0)
     -- the load behind the locked item is asked for ahead
@@ -195,10 +195,10 @@ pub window_ends : IsWorked WindowEnds.run (
     ∷ entered 33 2 (entry 33 0 4 0 (Load 2 0x60) 0x0)
     ∷ [])
 unfolding opened
-window_ends = worked WindowEnds.run _ (refl, (refl, refl, refl, refl, refl), refl)
+window_ends = (refl, (refl, refl, refl, refl, refl), refl)
 
 -- Waits and gaps of loads, of a write-back and of bursts that begin with each chunk.
-pub waits_and_gaps : IsWorked WaitsAndGaps.run (
+pub waits_and_gaps : Computed WaitsAndGaps.run (
     -- DRDY# is not asserted with the second data, which are 0
     at Responses 10 (on dbsy)
     -- data stand between the first and the second
@@ -215,10 +215,10 @@ pub waits_and_gaps : IsWorked WaitsAndGaps.run (
     ∷ at Responses 9 (on (dbsy + drdy))
     ∷ [])
 unfolding opened
-waits_and_gaps = worked WaitsAndGaps.run _ (refl, (refl, refl, refl, refl, refl), refl)
+waits_and_gaps = (refl, (refl, refl, refl, refl, refl), refl)
 
 -- Eight requests are in flight, and four agents want a ninth.
-pub queue_full : IsWorked QueueFull.run (
+pub queue_full : Computed QueueFull.run (
     -- a ninth request begins
     at Starts 26 (pair (b0 + b1 + b2 + b3 + ads + drdy) 0x6 0x10)
     -- the second agent's BREQ1# is not asserted
@@ -229,10 +229,10 @@ pub queue_full : IsWorked QueueFull.run (
     ∷ at RequestLines 26 (on (b0 + b1 + b2 + drdy))
     ∷ [])
 unfolding opened
-queue_full = worked QueueFull.run _ (refl, (refl, refl, refl, refl, refl), refl)
+queue_full = (refl, (refl, refl, refl, refl, refl), refl)
 
 -- In one clock two agents hit and a third one's bytes arrive.
-pub same_clock : IsWorked SameClock.run (
+pub same_clock : Computed SameClock.run (
     -- the arrival is logged first
     logged Completions 23 (λ log. set (set (set log 3 (entry 23 0 1 0 (Load 1 0x40) 0x0)) 4 (entry 23 1 2 0 (Load 1 0x61) 0x0)) 5 (entry 23 2 2 0 (Load 1 0xa1) 0x0))
     -- the hits are logged in the other order
@@ -241,4 +241,4 @@ pub same_clock : IsWorked SameClock.run (
     ∷ logged Completions 23 (λ log. take 4 log ++ drop 5 log)
     ∷ [])
 unfolding opened
-same_clock = worked SameClock.run _ (refl, (refl, refl, refl, refl, refl), refl)
+same_clock = (refl, (refl, refl, refl, refl, refl), refl)

@@ -3,7 +3,7 @@ use Rattle.std.proofs.Common.{refl, [], ◌∷◌}
 use Rattle.rows_timely.proofs.Opened.{opened}
 use Rattle.rows_timely.proofs.Words.{◌+◌, Store, Literal, on, pair, idle, b0, ads, hit, rs, dbsy, drdy, ap0, ap1, rp}
 use Rattle.rows_timely.proofs.Words.{entry}
-use Rattle.rows_timely.proofs.Worked.{IsWorked, worked, at, entered, planned, ParityLines, RequestLines, Responses}
+use Rattle.rows_timely.proofs.Worked.{Computed, at, entered, planned, ParityLines, RequestLines, Responses}
 use Rattle.rows_timely.proofs.Worked.{SnoopResults, Starts}
 use Rattle.rows_timely.proofs.ParityOfALoad
 use Rattle.rows_timely.proofs.UpgradeOfASharedLine
@@ -14,7 +14,7 @@ use Rattle.rows_timely.proofs.UpgradeCancelled
 use Rattle.rows_timely.proofs.DeferredWithUpgrades
 
 -- In profile 2 the parity lines go with the address and the request.
-pub parity_of_a_load : IsWorked ParityOfALoad.run (
+pub parity_of_a_load : Computed ParityOfALoad.run (
     -- the parity comes a clock late: it is not there at the first clock
     at ParityLines 2 (pair (b0 + ads) 0x6 0x8)
     -- and it is there at the clock after the second
@@ -33,10 +33,10 @@ pub parity_of_a_load : IsWorked ParityOfALoad.run (
     ∷ at ParityLines 4 (on rp)
     ∷ [])
 unfolding opened
-parity_of_a_load = worked ParityOfALoad.run _ (refl, (refl, refl, refl, refl, refl), refl)
+parity_of_a_load = (refl, (refl, refl, refl, refl, refl), refl)
 
 -- A store into a shared line asks for its ownership alone: the upgrade moves no data.
-pub upgrade_of_a_shared_line : IsWorked UpgradeOfASharedLine.run (
+pub upgrade_of_a_shared_line : Computed UpgradeOfASharedLine.run (
     -- the upgrade answers with data
     at Responses 20 (on (rs 7))
     -- the line that is held is asked for anew, by a read and invalidate
@@ -49,10 +49,10 @@ pub upgrade_of_a_shared_line : IsWorked UpgradeOfASharedLine.run (
     ∷ entered 20 2 (entry 21 0 1 0 (Store 1 0x40 (Literal 0x1)) 0x1)
     ∷ [])
 unfolding opened
-upgrade_of_a_shared_line = worked UpgradeOfASharedLine.run _ (refl, (refl, refl, refl, refl, refl), refl)
+upgrade_of_a_shared_line = (refl, (refl, refl, refl, refl, refl), refl)
 
 -- Two agents ask for the ownership of one line: the second has lost, and is handed the line by the first.
-pub upgrade_lost_and_handed : IsWorked UpgradeLostAndHanded.run (
+pub upgrade_lost_and_handed : Computed UpgradeLostAndHanded.run (
     -- the first upgrade gives nothing: its agent shows no Modified line
     at SnoopResults 22 idle
     -- the lost upgrade is granted: its store is logged at its answer
@@ -61,10 +61,10 @@ pub upgrade_lost_and_handed : IsWorked UpgradeLostAndHanded.run (
     ∷ at Responses 26 (on (rs 5))
     ∷ [])
 unfolding opened
-upgrade_lost_and_handed = worked UpgradeLostAndHanded.run _ (refl, (refl, refl, refl, refl, refl), refl)
+upgrade_lost_and_handed = (refl, (refl, refl, refl, refl, refl), refl)
 
 -- A lost upgrade that nobody can hand the line to gives nothing, and its agent asks anew.
-pub upgrade_lost_and_made_again : IsWorked UpgradeLostAndMadeAgain.run (
+pub upgrade_lost_and_made_again : Computed UpgradeLostAndMadeAgain.run (
     -- the lost upgrade is granted: its agent stores at the answer
     entered 33 4 (entry 33 1 1 0 (Store 1 0x40 (Literal 0x2)) 0x2)
     -- the lost upgrade is granted: its agent asks for nothing more
@@ -77,19 +77,19 @@ pub upgrade_lost_and_made_again : IsWorked UpgradeLostAndMadeAgain.run (
     ∷ at Responses 33 (on (rs 7 + dbsy + drdy))
     ∷ [])
 unfolding opened
-upgrade_lost_and_made_again = worked UpgradeLostAndMadeAgain.run _ (refl, (refl, refl, refl, refl, refl), refl)
+upgrade_lost_and_made_again = (refl, (refl, refl, refl, refl, refl), refl)
 
 -- An upgrade is retried, and asked for again.
-pub upgrade_retried : IsWorked UpgradeRetried.run []
+pub upgrade_retried : Computed UpgradeRetried.run []
 unfolding opened
-upgrade_retried = worked UpgradeRetried.run _ (refl, (refl, refl, refl, refl, refl), refl)
+upgrade_retried = (refl, (refl, refl, refl, refl, refl), refl)
 
 -- An upgrade that an address error cancels is asked for again.
-pub upgrade_cancelled : IsWorked UpgradeCancelled.run []
+pub upgrade_cancelled : Computed UpgradeCancelled.run []
 unfolding opened
-upgrade_cancelled = worked UpgradeCancelled.run _ (refl, (refl, refl, refl, refl, refl), refl)
+upgrade_cancelled = (refl, (refl, refl, refl, refl, refl), refl)
 
 -- A load is deferred in profile 2: upgrades of its line are retried until the reply.
-pub deferred_with_upgrades : IsWorked DeferredWithUpgrades.run []
+pub deferred_with_upgrades : Computed DeferredWithUpgrades.run []
 unfolding opened
-deferred_with_upgrades = worked DeferredWithUpgrades.run _ (refl, (refl, refl, refl, refl, refl), refl)
+deferred_with_upgrades = (refl, (refl, refl, refl, refl, refl), refl)

@@ -1,5 +1,6 @@
 -- Computed, and is so: a worked run is a simulation, what it keeps of hazards is what its lines tell, and with one thing
--- changed it is no simulation. A line for each run says it, by `worked` and a `refl` for each clause of `Computed`.
+-- changed it is no simulation. `worked` says it of any run and changes that are `Computed`; that a run is, is a line for
+-- each, with a `refl` for each clause. Were `worked` named there too, the run would be computed twice.
 use Rattle.std.proofs.Common.{◌≡◌, ◌&&◌, ◌+◌, ℕ, zero, suc, Bool, true, false, not, nat_lt, if◌then◌else◌, ◌==◌, IsTrue}
 use Rattle.std.proofs.Common.{List, [], ◌∷◌, length, take, set, refl, sym, ap, ◌∙◌, arith}
 use Rattle.std.specs.List.{list_all}

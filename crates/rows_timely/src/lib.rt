@@ -3,9 +3,9 @@
 //!
 //! There is no code; the modules are in `proofs/`. Each stored run of rows_benches is a module with one definition, which
 //! `lab/worked_runs.py` writes in the words of `Words`: the run `four_owners` is `FourOwners.run`. `PlainRuns`, `OwnedRuns`,
-//! `HazardRuns`, `LockedRuns`, `UpgradeRuns`, `MixedRuns` and `MoreMixedRuns` say of each that it is a simulation, and that
-//! it is none with one thing changed, by the lemma of `Worked`. `Opened` has all that is computed with, and `Tests`,
-//! `AskedLines` and `ParityByDigits` how much has to be computed of a run. `WildObject` has two runs that no bench file
+//! `HazardRuns`, `LockedRuns`, `UpgradeRuns`, `MixedRuns` and `MoreMixedRuns` compute of each what `Computed` asks, with the
+//! changes that must not be. `Worked` says once what follows: the run is a simulation, and none with one thing changed.
+//! `Opened` has all that is computed with, and `Tests`, `AskedLines` and `ParityByDigits` how much has to be computed. `WildObject` has two runs that no bench file
 //! gives, `BrokenRules` waveforms that break a phase rule, `ChangedMore` and `ChangedLogs` what is wrong in another way; the
 //! other modules try `Kept` and `Asked`.
 //!
