@@ -1,6 +1,6 @@
 //! The digits of a line, where a tap got a value.
 
-ghost use Rattle.std.specs.Prelude.{◌≡◌, ◌≤◌, ◌+◌, length, take, true};
+ghost use Rattle.std.specs.Prelude.{◌≡◌, ◌≤◌, ◌+◌, length, take, replicate, true};
 ghost use Rattle.vcd_grammar.specs.Digits.{extended};
 ghost use Rattle.vcd_way.specs.declared.tap.Part.TheVariants as parts;
 ghost use Rattle.vcd_way.specs.Events.{inverted_if, with_part};
@@ -37,13 +37,24 @@ fn whole_row(width: usize, tap: &Tap, digits: &[u8]) -> [u8; 64]
     }
 }
 
+/// A row of one digit. The digit 0, which is mostly wanted, costs no call.
+fn filled(digit: u8) -> [u8; 64]
+    ensures { result ≡ replicate 64 digit }
+{
+    if digit == b'0' {
+        [b'0'; 64]
+    } else {
+        [digit; 64]
+    }
+}
+
 /// Digits that are extended to this width.
 fn extended_row(width: usize, digits: &[u8]) -> [u8; 64]
     requires width { width ≤ 64 }
     requires fits { length digits.now ≤ width }
     ensures { take width result ≡ extended width digits.now }
 {
-    let mut row = [pad_before(digits); 64];
+    let mut row = filled(pad_before(digits));
     let missing = width - digits.len();
     for i in 0..digits.len() {
         row[missing + i] = digits[i];

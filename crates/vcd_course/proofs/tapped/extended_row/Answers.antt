@@ -12,7 +12,7 @@ loop-i-init c =
       long = omega arith;
       missing = refl;
       within = omega arith;
-      written = ap (replicate 64) c.pad_before-row.ensures
+      written = c.filled-row.ensures ∙ ap (replicate 64) c.pad_before.ensures
           ∙ none_written (replicate 64 pad) digits (c.args.width - length digits);
     }
 
