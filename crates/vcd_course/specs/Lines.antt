@@ -1,5 +1,5 @@
 -- The digits of the lines, as they lie in rows of bytes.
-use Rattle.std.specs.Prelude.{◌≡◌, ℕ, Bool, false, List, [], ◌∷◌, take, get_or, slice_index}
+use Rattle.std.specs.Prelude.{◌≡◌, ℕ, Bool, false, List, [], ◌∷◌, take, get_or}
 use Rattle.fsb_signal.specs.Table.{TableEntry}
 use Rattle.vcd_grammar.specs.Values.{Values}
 

@@ -1,9 +1,8 @@
-use Rattle.std.proofs.Common.{[], false, sym, ap, ◌∙◌, length-set, arith}
+use Rattle.std.proofs.Common.{[], sym, ap, ◌∙◌, arith}
 use Rattle.std.proofs.lemmas.List.{ext_get_or}
 use Rattle.fsb_signal.specs.Table.{table}
 use Rattle.vcd_course.specs.Lines.{values_in}
 use Rattle.vcd_course.specs.Told.{rows_told}
-use Rattle.vcd_course.proofs.Marks.{copied_one, copied_more, same_more}
 use Rattle.vcd_course.proofs.lines.Block.close.Goals as goal
 
 pub returns-clause-inside : goal.returns-clause-inside
