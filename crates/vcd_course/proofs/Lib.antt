@@ -3,5 +3,6 @@ mod DigitFacts
 mod TappedFacts
 mod SettleFacts
 mod RowFacts
+mod Marks
 mod Opening
 pub mod Interface

@@ -1,11 +1,14 @@
 -- Rows of bytes as the digits of lines.
 use Rattle.std.proofs.Common.{◌≡◌, ℕ, List, [], ◌∷◌, length, take, set, get_or, slice_get}
-use Rattle.std.proofs.Common.{slice_index, replicate, zero, suc, refl, ap, arith}
+use Rattle.std.proofs.Common.{slice_index, replicate, map, ◌<◌, zero, suc, refl, sym, ap, ◌∙◌, arith, length-set}
+use Rattle.std.proofs.lemmas.List.{get_or-map, map-set}
 use Rattle.std.specs.Option.{option_map_or}
 use Rattle.fsb_signal.specs.Table.{TableEntry, table}
+use Rattle.vcd_grammar.specs.declared.level.Level.{Level}
+use Rattle.vcd_grammar.specs.Levels.{level_of}
 use Rattle.vcd_grammar.specs.Values.{Values, clock_of, at_first}
-use Rattle.vcd_way.specs.Events.{digits_at}
-use Rattle.vcd_course.specs.Told.{values_in}
+use Rattle.vcd_way.specs.Events.{digits_at, sampled}
+use Rattle.vcd_course.specs.Lines.{values_in}
 
 -- how many bits an entry has
 abbrev pub width_in : List TableEntry → ℕ → ℕ
@@ -70,3 +73,35 @@ pub digits_get : (values : Values) (n : ℕ) → digits_at values n ≡ get_or v
 digits_get [] n = refl
 digits_get (v ∷ values) zero = refl
 digits_get (v ∷ values) (suc n) = digits_get values n
+
+-- ---- what the lines say
+
+pub first_says : replicate 22 (record { asserted = 0; unknown = 0 })
+    ≡ map level_of (values_in table (replicate 22 (replicate 64 49)))
+unfolding values_in level_of
+first_says = refl
+
+-- one row changes, and what it says
+pub set_says : (rows : List (List ℕ)) (levels : List Level) (n : ℕ) (row : List ℕ) (level : Level) → length rows ≡ 22
+    → levels ≡ map level_of (values_in table rows) → level ≡ level_of (take (width_in table n) row)
+    → set levels n level ≡ map level_of (values_in table (set rows n row))
+set_says rows levels n row level long says e =
+    (λ j. set (says j) n (e j))
+    ∙ sym (map-set level_of (values_in table rows) n (take (width_in table n) row))
+    ∙ ap (map level_of) (sym (set_values table rows n row long))
+
+-- what one line says
+pub says_at : (rows : List (List ℕ)) (levels : List Level) (n : ℕ) → length rows ≡ 22
+    → levels ≡ map level_of (values_in table rows) → n < 22
+    → get_or levels n (record { asserted = 0; unknown = 0 }) ≡ level_of (take (width_in table n) (get_or rows n []))
+says_at rows levels n long says h =
+    let none : Level = record { asserted = 0; unknown = 0 } in
+    let v : length (values_in table rows) ≡ 22 = length_values table rows long in
+    ap (λ l. get_or l n none) says
+    ∙ get_or-map level_of (values_in table rows) n [] none (omega (arith, h, v))
+    ∙ ap level_of (row_at table rows n long)
+
+pub length_sampled : (late : List ℕ) (before after : Values) → length (sampled late before after) ≡ length before
+length_sampled [] before after = refl
+length_sampled (n ∷ late) before after =
+    length-set (sampled late before after) n (digits_at after n) ∙ length_sampled late before after

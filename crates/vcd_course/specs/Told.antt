@@ -1,6 +1,6 @@
 -- What the values of a course say.
-use Rattle.std.specs.Prelude.{◌≡◌, ℕ, Bool, true, false, List, [], ◌∷◌, take, Option, Some, None, option_map}
-use Rattle.fsb_signal.specs.Table.{TableEntry, table}
+use Rattle.std.specs.Prelude.{◌≡◌, ℕ, Bool, true, false, List, [], ◌∷◌, Option, Some, None, option_map}
+use Rattle.fsb_signal.specs.Table.{table}
 use Rattle.vcd_grammar.specs.Values.{Values}
 use Rattle.vcd_way.specs.Ways.{ValueRules}
 use Rattle.vcd_way.specs.Pieces.{Stamp as TimeStamp, DumpSwitch, Off, On}
@@ -13,12 +13,7 @@ use Rattle.vcd_course.specs.declared.lines.Rows.{Rows}
 use Rattle.vcd_course.specs.declared.course.Course.{Course}
 use Rattle.vcd_course.specs.declared.course.CourseRules.{CourseRules}
 use Rattle.vcd_course.specs.Opening.{OpenPiece}
-
--- rows of bytes as the digits of lines: of each row as many as the line has bits
-unfoldable pub values_in : List TableEntry → List (List ℕ) → Values
-values_in [] rows = []
-values_in (e ∷ es) [] = []
-values_in (e ∷ es) (row ∷ rows) = take e.width row ∷ values_in es rows
+use Rattle.vcd_course.specs.Lines.{values_in}
 
 -- the digits of the lines
 abbrev pub rows_told : Rows → Values
@@ -55,9 +50,9 @@ event_list (Some e) = event_told e ∷ []
 -- the block that stands open
 abbrev pub open_told : Course → OpenPiece
 open_told c = record {
-  course = record { values = rows_told c.before; is_seen = c.is_seen };
+  course = record { values = rows_told c.block.before; is_seen = c.is_seen };
   stamp = last_told c.stamp;
-  now = rows_told c.inside;
+  now = rows_told c.block.inside;
 }
 
 -- when there is a sample

@@ -10,7 +10,7 @@ ghost use Rattle.vcd_course.specs.Told.{event_list, event_told, stamp_told, last
 ghost use Rattle.vcd_course.specs.Opening.{first_open, next_open, after_happening, after_happenings, ended_in, told_at, sample_by};
 
 use crate::event::{CourseEvent, Stamp, Told};
-use crate::lines::Rows;
+use crate::lines::{Block, Rows};
 use vcd_way::{Edge, Tap};
 
 /// When there is a sample.
@@ -27,10 +27,8 @@ pub struct Course {
     rules: CourseRules,
     /// The lines that are sampled after the changes of the edge's own time.
     late: Vec<u8>,
-    /// Before the block that stands open.
-    before: Rows,
-    /// In it.
-    inside: Rows,
+    /// The lines before the block that stands open, and in it.
+    block: Block,
     /// The clock was 0 or 1 before the block.
     is_seen: bool,
     stamp: Option<Stamp>,
@@ -46,8 +44,7 @@ impl Course {
         Course {
             rules,
             late,
-            before: Rows::new(),
-            inside: Rows::new(),
+            block: Block::new(),
             is_seen: false,
             stamp: None,
         }
@@ -62,7 +59,7 @@ impl Course {
         ensures rules { rules_of self.new ≡ rules_of self.old }
         ensures late { late_of self.new ≡ late_of self.old }
     {
-        self.inside.set_taps(taps, digits);
+        self.block.set_taps(taps, digits);
     }
 
     /// These lines become unknown until they get a value.
@@ -73,7 +70,7 @@ impl Course {
         ensures rules { rules_of self.new ≡ rules_of self.old }
         ensures late { late_of self.new ≡ late_of self.old }
     {
-        self.inside.forget(unset);
+        self.block.forget(unset);
     }
 
     /// A greater time comes. Tells the sample of the block that it ends, if there is one.
@@ -104,8 +101,8 @@ impl Course {
     {
         let event = self.ended();
         self.close();
-        self.inside.forget(lines);
-        self.before = self.inside;
+        self.block.forget(lines);
+        self.block.close();
         let told = if is_off { Told::Hole } else { Told::Resumed };
         (
             event,
@@ -129,12 +126,12 @@ impl Course {
         ensures { event_list result ≡ sample_by self.now.rules.edge self.now.rules.takes_first
             self.now.late.items (open_told self.now) }
     {
-        let clock = self.inside.clock();
-        if self.is_seen && is_edge(self.rules.edge, self.before.clock(), clock) {
-            return self.sample(&self.before);
+        let clock = self.block.inside.clock();
+        if self.is_seen && is_edge(self.rules.edge, self.block.before.clock(), clock) {
+            return self.sample(&self.block.before);
         }
         if self.rules.takes_first && !self.is_seen && clock == digit_after(self.rules.edge) {
-            return self.sample(&self.before.settled(&self.inside));
+            return self.sample(&self.block.before.settled(&self.block.inside));
         }
         None
     }
@@ -142,12 +139,12 @@ impl Course {
     /// The sample of these digits before the block.
     fn sample(&self, before: &Rows) -> Option<CourseEvent>
         ensures { event_list result ≡ Sampled (sample_of
-            (sampled self.now.late.items (rows_told before.now) (rows_told self.now.inside)))
+            (sampled self.now.late.items (rows_told before.now) (rows_told self.now.block.inside)))
             (last_told self.now.stamp) ∷ [] }
     {
-        let rows = before.sampled(self.late.as_slice(), &self.inside);
+        let sample = before.sample(self.late.as_slice(), &self.block.inside);
         Some(CourseEvent {
-            told: Told::Sampled(rows.sample()),
+            told: Told::Sampled(sample),
             stamp: self.stamp,
         })
     }
@@ -158,8 +155,8 @@ impl Course {
         ensures rules { self.new.rules ≡ self.old.rules }
         ensures late { self.new.late ≡ self.old.late }
     {
-        self.is_seen = self.is_seen || is_known_digit(self.inside.clock());
-        self.before = self.inside;
+        self.is_seen = self.is_seen || is_known_digit(self.block.inside.clock());
+        self.block.close();
     }
 }
 

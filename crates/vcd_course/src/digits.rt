@@ -31,7 +31,7 @@ fn pad_of(first: u8) -> u8
 }
 
 /// The digit that is put before these.
-fn pad_before(digits: &[u8]) -> u8
+pub(crate) fn pad_before(digits: &[u8]) -> u8
     ensures { result ≡ pad_of (slice_index digits.now 0) }
 {
     match digits {

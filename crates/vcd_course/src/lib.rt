@@ -9,6 +9,7 @@ pub use course::{Course, CourseRules};
 pub use event::{CourseEvent, Stamp, Told};
 pub use laws::told_step_by_step;
 
+mod block;
 mod course;
 mod digits;
 mod event;

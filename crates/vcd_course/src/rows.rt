@@ -1,12 +1,11 @@
-ghost use Rattle.std.specs.Prelude.{◌≡◌, ◌<◌, ◌≤◌, length, take, map, slice_set, true, false};
-ghost use Rattle.std.specs.List.{list_all};
+ghost use Rattle.std.specs.Prelude.{◌≡◌, ◌<◌, ◌≤◌, ℕ, length, take, map, slice_set, ◌≢◌, true};
 ghost use Rattle.fsb_signal.specs.DumpText.{width_of};
 ghost use Rattle.vcd_grammar.specs.Levels.{level_of};
-ghost use Rattle.vcd_grammar.specs.Values.{at_first, clock_of, sample_of};
-ghost use Rattle.vcd_way.specs.Lawful.{is_line, is_lawful_tap};
-ghost use Rattle.vcd_way.specs.Steps.{is_too_wide_for};
-ghost use Rattle.vcd_way.specs.Events.{set_tap, set_taps, unknown_in, sampled, settled, settled_digits, digits_at};
+ghost use Rattle.vcd_grammar.specs.Values.{Values, at_first, clock_of, sample_of};
+ghost use Rattle.vcd_way.specs.Lawful.{is_lawful_tap};
+ghost use Rattle.vcd_way.specs.Events.{set_tap, sampled, settled, settled_digits, digits_at};
 ghost use Rattle.vcd_course.specs.Told.{rows_told};
+ghost use Rattle.vcd_course.specs.Lines.{row_at};
 
 use crate::level::level_of;
 use crate::lines::Rows;
@@ -15,10 +14,10 @@ use crate::settle::settle_row;
 use crate::tapped::tapped;
 use fsb_signal::{Sample, signal_at};
 use vcd_grammar::Level;
-use vcd_way::{Part, Tap};
+use vcd_way::Tap;
 
 /// How many bits the line has.
-fn width_at(line: u8) -> usize
+pub(crate) fn width_at(line: u8) -> usize
     requires { line < 22 }
     ensures width { result ≡ width_of line }
     ensures most { result ≤ 64 }
@@ -42,6 +41,10 @@ impl Rows {
     {
         Rows {
             rows: [[b'1'; 64]; 22],
+            levels: [Level {
+                asserted: 0,
+                unknown: 0,
+            }; 22],
         }
     }
 
@@ -49,42 +52,15 @@ impl Rows {
     pub(crate) fn set_tap(&mut self, tap: &Tap, digits: &[u8])
         requires lawful { is_lawful_tap tap.now ≡ true }
         requires fits { length digits.now ≤ tap.now.width }
-        ensures { rows_told self.new ≡ set_tap (rows_told self.old) tap.now digits.now }
+        ensures told { rows_told self.new ≡ set_tap (rows_told self.old) tap.now digits.now }
+        ensures rest { (line : ℕ) → line ≢ tap.now.line →
+            row_at self.new.rows line ≡ row_at self.old.rows line }
     {
-        let row = tapped(
-            self.rows[tap.line as usize],
-            width_at(tap.line),
-            tap,
-            digits,
-        );
-        self.rows[tap.line as usize] = row;
-    }
-
-    /// Some taps get a value.
-    pub(crate) fn set_taps(&mut self, taps: &[Tap], digits: &[u8])
-        requires lawful { list_all is_lawful_tap taps.now ≡ true }
-        requires fits { is_too_wide_for taps.now digits.now ≡ false }
-        ensures { rows_told self.new ≡ set_taps (rows_told self.old) taps.now digits.now }
-    {
-        for tap in taps {
-            self.set_tap(tap, digits);
-        }
-    }
-
-    /// Some lines become unknown.
-    pub(crate) fn forget(&mut self, lines: &[u8])
-        requires { list_all is_line lines.now ≡ true }
-        ensures { rows_told self.new ≡ unknown_in (rows_told self.old) lines.now }
-    {
-        for line in lines {
-            let tap = Tap {
-                line: *line,
-                width: width_at(*line) as u32,
-                part: Part::Whole,
-                inverted: false,
-            };
-            self.set_tap(&tap, b"x");
-        }
+        let line = tap.line as usize;
+        let width = width_at(tap.line);
+        let row = tapped(self.rows[line], width, tap, digits);
+        self.levels[line] = level_of_row(&row, width);
+        self.rows[line] = row;
     }
 
     /// The digit of the clock.
@@ -94,27 +70,13 @@ impl Rows {
         self.rows[0][0]
     }
 
-    /// What is sampled between these and those after them: of the late lines, those after.
-    pub(crate) fn sampled(&self, late: &[u8], after: &Rows) -> Rows
-        ensures { rows_told result ≡ sampled late.now (rows_told self.now) (rows_told after.now) }
-    {
-        let mut rows = *self;
-        let mut left = late.len();
-        while 0 < left {
-            left -= 1;
-            rows.copy_line(late[left], after);
-        }
-        rows
-    }
-
     /// A line gets the digits that it has there.
-    fn copy_line(&mut self, line: u8, from: &Rows)
-        ensures { rows_told self.new
-            ≡ slice_set (rows_told self.old) line (digits_at (rows_told from.now) line) }
+    pub(crate) fn copy_line(&mut self, line: usize, from: &Rows)
+        requires { line < 22 }
+        ensures { self.new.rows ≡ slice_set self.old.rows line (row_at from.now.rows line) }
     {
-        if line < 22 {
-            self.rows[line as usize] = from.rows[line as usize];
-        }
+        self.rows[line] = from.rows[line];
+        self.levels[line] = from.levels[line];
     }
 
     /// The digits at the first edge, between these and those after them.
@@ -135,36 +97,43 @@ impl Rows {
             ≡ slice_set (rows_told self.old) line
             (settled_digits (digits_at (rows_told before.now) line) (digits_at (rows_told after.now) line)) }
     {
+        let width = width_at(line);
         let line = line as usize;
-        self.rows[line] = settle_row(&before.rows[line], &after.rows[line]);
+        let row = settle_row(&before.rows[line], &after.rows[line]);
+        self.levels[line] = level_of_row(&row, width);
+        self.rows[line] = row;
     }
 
-    /// What each line has.
-    fn levels(&self) -> [Level; 22]
-        ensures { result ≡ map level_of (rows_told self.now) }
+    /// The sample between these and those after them: of the late lines, those after.
+    pub(crate) fn sample(&self, late: &[u8], after: &Rows) -> Sample
+        ensures { result
+            ≡ sample_of (sampled late.now (rows_told self.now) (rows_told after.now)) }
     {
-        let mut levels = [Level {
-            asserted: 0,
-            unknown: 0,
-        }; 22];
-        for i in 0..22 {
-            levels[i] = self.level_at(i as u8);
+        sample_at(&self.levels_with(late, after))
+    }
+
+    /// What each line has; of the late lines, what they have after that.
+    fn levels_with(&self, late: &[u8], after: &Rows) -> [Level; 22]
+        ensures { result
+            ≡ map level_of (sampled late.now (rows_told self.now) (rows_told after.now)) }
+    {
+        let mut levels = self.levels;
+        let mut left = late.len();
+        while 0 < left {
+            left -= 1;
+            copy_level(&mut levels, late[left], &after.levels);
         }
         levels
     }
+}
 
-    /// What a line has.
-    fn level_at(&self, line: u8) -> Level
-        requires { line < 22 }
-        ensures { result ≡ level_of (digits_at (rows_told self.now) line) }
-    {
-        level_of_row(&self.rows[line as usize], width_at(line))
-    }
-
-    /// The sample of the digits.
-    pub(crate) fn sample(&self) -> Sample
-        ensures { result ≡ sample_of (rows_told self.now) }
-    {
-        sample_at(&self.levels())
+/// A line gets what it has there.
+fn copy_level(levels: &mut [Level; 22], line: u8, from: &[Level; 22])
+    ensures { (before after : Values) → levels.old ≡ map level_of before →
+        from.now ≡ map level_of after → length before ≡ 22 → length after ≡ 22 →
+        levels.new ≡ map level_of (slice_set before line (digits_at after line)) }
+{
+    if line < 22 {
+        levels[line as usize] = from[line as usize];
     }
 }

@@ -1,10 +1,9 @@
 -- How a text ends, from the fault at its end.
 use Rattle.std.proofs.Common.{◌≡◌, ℕ, Bool, true, false, not, ◌&&◌, if◌then◌else◌, is_some, List, ◌++◌, length, Option, Some, None}
-use Rattle.std.proofs.Common.{option_map, refl, sym, ap, ◌∙◌}
+use Rattle.std.proofs.Common.{option_map, refl, ap}
 use Rattle.vcd_grammar.specs.declared.fault.VcdFault.{VcdFault}
 use Rattle.vcd_way.specs.Ways.{ValueRules}
 use Rattle.vcd_way.specs.Steps.{hides_stamp, open_from}
-use Rattle.vcd_way.specs.Events.{DumpEvent}
 use Rattle.vcd_way.specs.Answers.{EarlyEnd}
 use Rattle.vcd_scan.specs.Wired.{Wiring}
 use Rattle.vcd_scan.specs.Standing.{tokens_after, last_tokens_after, known_after, told_after, all_told_after, fault_behind}

@@ -1,4 +1,5 @@
 mod Events
+mod KnownDigits
 mod Endings
 mod Quiet
 mod Reading

@@ -1,13 +1,13 @@
 -- A last token after which a text may not end tells nothing.
-use Rattle.std.proofs.Common.{◌≡◌, ℕ, Bool, true, false, not, ◌&&◌, ◌||◌, if◌then◌else◌, nat_lt, nat_le, is_some, List, [], ◌∷◌, ◌++◌, length}
+use Rattle.std.proofs.Common.{◌≡◌, ℕ, Bool, true, false, not, ◌&&◌, if◌then◌else◌, nat_lt, is_some, List, [], ◌∷◌, ◌++◌}
 use Rattle.std.proofs.Common.{Option, Some, None, codes, refl, sym, ap, subst, ◌∙◌, append-nil}
-use Rattle.vcd_grammar.specs.Tokens.{Token, is_long, ended_at, open_run}
+use Rattle.vcd_grammar.specs.Tokens.{Token, is_long, ended_at}
 use Rattle.vcd_grammar.specs.Words.{ValueWord, Stamp, Scalar, Vector, Foreign, Mark, Section, Wrong, same, is_end}
 use Rattle.vcd_way.specs.declared.tap.Tap.{Tap}
 use Rattle.vcd_way.specs.Ways.{ValueRules, Way}
 use Rattle.vcd_way.specs.Steps.{Spot, AtPreface, AtHeader, InSection, AtValues, AtCode, AtOtherCode, InRemark, DumpState, Step}
-use Rattle.vcd_way.specs.Steps.{breaks, moves_to, reads_past, stamp_step, comes, given, scalar_step, vector_step, other_step}
-use Rattle.vcd_way.specs.Steps.{mark_step, stops, resumes, value_step, word_step, remark_step, if_short, value_word_by, section_at}
+use Rattle.vcd_way.specs.Steps.{stamp_step, comes, given, scalar_step, vector_step, other_step}
+use Rattle.vcd_way.specs.Steps.{mark_step, stops, resumes, value_step, remark_step, value_word_by}
 use Rattle.vcd_way.specs.Steps.{step, step_at, is_past_header_at, is_too_wide_for, vector_digits, digits_by, may_be_long}
 use Rattle.vcd_way.specs.Declarations.{DumpSection}
 use Rattle.vcd_way.specs.Answers.{fault_at_end}

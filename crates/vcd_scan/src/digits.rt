@@ -4,6 +4,7 @@ ghost use Rattle.std.specs.Prelude.{◌≡◌, Some, None, IfOk, if◌then◌els
 ghost use Rattle.std.specs.List.{list_all};
 ghost use Rattle.vcd_grammar.specs.Digits.{is_value_digit};
 ghost use Rattle.vcd_way.specs.Wide.{is_among, wide_digit};
+ghost use Rattle.vcd_way.specs.Events.{is_known_digit};
 ghost use Rattle.vcd_scan.specs.Digits.{digit_by, all_digits};
 
 use std::alloc::AllocError;
@@ -63,6 +64,38 @@ pub(crate) fn are_digits(is_wide: bool, bytes: &[u8]) -> bool
 
 /// Puts the digits that bytes mean into a list, and tells whether each byte is one.
 pub(crate) fn read_digits(is_wide: bool, bytes: &[u8], to: &mut Vec<u8>) -> Result<bool, AllocError>
+    ensures { IfOk result (λ all. all_digits is_wide bytes.now
+        ≡ (if all then Some to.new.items else None)) }
+{
+    if are_known(bytes) {
+        to.clear();
+        to.extend_from_slice(bytes)?;
+        return Ok(true);
+    }
+    read_each(is_wide, bytes, to)
+}
+
+/// Whether each byte is 0 or 1. It looks at all of them, and so at many at once.
+fn are_known(bytes: &[u8]) -> bool
+    ensures { result ≡ list_all is_known_digit bytes.now }
+{
+    let mut all = true;
+    for byte in bytes {
+        let is_known = is_known_digit(*byte);
+        all = is_known && all;
+    }
+    all
+}
+
+/// Whether the byte is 0 or 1.
+fn is_known_digit(byte: u8) -> bool
+    ensures { result ≡ is_known_digit byte }
+{
+    byte == b'0' || byte == b'1'
+}
+
+/// Puts the digits that bytes mean into a list one by one, and tells whether each byte is one.
+fn read_each(is_wide: bool, bytes: &[u8], to: &mut Vec<u8>) -> Result<bool, AllocError>
     ensures { IfOk result (λ all. all_digits is_wide bytes.now
         ≡ (if all then Some to.new.items else None)) }
 {

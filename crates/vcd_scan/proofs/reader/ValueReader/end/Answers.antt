@@ -1,4 +1,4 @@
-use Rattle.std.proofs.Common.{◌++◌, true, false, is_some, length, None, Some, sym, ap, subst, ◌∙◌}
+use Rattle.std.proofs.Common.{◌++◌, is_some, length, None, Some, sym, ap, subst, ◌∙◌}
 use Rattle.vcd_scan.specs.Told.{events_told}
 use Rattle.vcd_scan.specs.Standing.{Appends, rules_of, wiring_of, events_of, tokens_after, last_tokens_after, told_after}
 use Rattle.vcd_scan.proofs.Quiet.{told-quiet}

@@ -1,7 +1,7 @@
 -- The digits so far stand before those of the bytes that are left.
 use Rattle.std.proofs.Common.{◌≡◌, ◌++◌, length, option_map}
 use Rattle.vcd_scan.specs.Digits.{all_digits}
-use Rattle.vcd_scan.proofs.digits.read_digits.Given as goal
+use Rattle.vcd_scan.proofs.digits.read_each.Given as goal
 
 abbrev pub invariant-loop-byte : goal.invariant-loop-byte
 invariant-loop-byte l =
