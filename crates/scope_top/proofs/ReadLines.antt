@@ -1,8 +1,8 @@
 -- What is read of a text, byte by byte.
-use Rattle.std.proofs.Common.{◌≡◌, ◌≤◌, ◌<◌, ℕ, suc, ◌+◌, Bool, true, false, nat_eq, is_some, unwrap_or, List, [], ◌∷◌, ◌++◌, length, drop, get_or, Option, Some, None, refl, sym, ap, subst, ◌∙◌, arith, append_assoc, append-nil, drop-cons, add-one}
+use Rattle.std.proofs.Common.{◌≡◌, ◌≤◌, ◌<◌, ℕ, ◌+◌, true, false, nat_eq, is_some, unwrap_or, List, [], ◌∷◌, ◌++◌, length, drop, get_or, Option, Some, None, refl, sym, ap, ◌∙◌, append_assoc, append-nil, drop-cons, add-one}
 use Rattle.std.proofs.lemmas.List.{drop_all}
 use Rattle.scope_wiring.specs.Texts.{Said}
-use Rattle.scope_top.specs.Named.{Read, lines_behind, read_behind, read_lines, read_of, read_on, said_before, said_in_line}
+use Rattle.scope_top.specs.Named.{Read, read_behind, read_of, read_on, said_before, said_in_line}
 
 -- these were read of the first bytes of a text, up to a line of this number, of which these bytes came and these are left
 pub record ReadSoFar (old now : List Said) (number : ℕ) (open_line left text : List ℕ) : Type 0 where

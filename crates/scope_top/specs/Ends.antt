@@ -3,6 +3,8 @@ use Rattle.std.specs.Prelude.{Result, Ok, Err}
 use Rattle.scope_report.specs.declared.ending.Ending.{Ending}
 use Rattle.scope_report.specs.declared.ending.Ending.TheVariants as endings
 use Rattle.scope_report.specs.Endings.{ending_after}
+use Rattle.scope_wiring.specs.declared.wiring.Picking.{Picking}
+use Rattle.scope_wiring.specs.declared.wiring.Picking.TheVariants as pickings
 use Rattle.scope_watch.specs.declared.check.Finding.{Finding}
 use Rattle.scope_watch.specs.declared.check.Finding.TheVariants as findings
 use Rattle.scope_top.specs.declared.stop.Stop.{Stop}
@@ -12,6 +14,11 @@ use Rattle.scope_top.specs.declared.stop.Stop.TheVariants as stops
 abbrev pub ending_found : Finding → Ending
 ending_found (findings.Refused refusal) = endings.Unjudged
 ending_found (findings.Judged wiring told) = ending_after told.judged.verdict
+
+-- how `lines` ends that picks these wires, or refuses them
+abbrev pub ending_picked : Picking → Ending
+ending_picked (pickings.Wired wiring) = endings.Clean
+ending_picked (pickings.Refused refusal) = endings.Unjudged
 
 -- how the program ends
 abbrev pub ending_at : Result Ending Stop → Ending

@@ -1,4 +1,4 @@
-use Rattle.std.proofs.Common.{◌≡◌, ◌<◌, ◌≤◌, ◌+◌, length, true, false, nat_eq, is_some, map, ◌++◌, [], unwrap_or, get_or, eq-eqb, arith}
+use Rattle.std.proofs.Common.{◌≡◌, true, false, is_some, map, eq-eqb, arith}
 use Rattle.std.proofs.lemmas.Grind.{common_steps}
 use Rattle.scope_wiring.specs.Settling.{said_by}
 use Rattle.scope_top.specs.Named.{said_in_line}

@@ -1,0 +1,138 @@
+//! `check`: a dump, judged.
+
+ghost use Rattle.std.specs.Prelude.{◌≡◌, ◌≢◌, ◌≤◌, Err, IsTrue, IfOk, length};
+ghost use Rattle.fsb_io.specs.Faults.{Rose};
+ghost use Rattle.scope_words.specs.Orders.{KeepsWires};
+ghost use Rattle.scope_top.specs.Ends.{ending_found};
+ghost use Rattle.scope_top.specs.Performing.{EndsCheck, EndsJudged, edge_of};
+
+use crate::answer::{Answer, Stream};
+use crate::listed::{Listed, listed_choice};
+use crate::stop::Stop;
+use crate::stopped::{PIECE, stop_answer};
+use fsb_io::Source;
+use scope_check::Part;
+use scope_report::{Ending, check_text, ending_of, refusal_text};
+use scope_watch::{Checked, Finding, Sampling, check_dump};
+use scope_wiring::Choice;
+use scope_words::{Edge, Wires};
+use std::alloc::{AllocError, Global};
+
+/// Judges this part of a dump, and tells what was found.
+pub(crate) fn check_answer<L: Source, S: Source>(
+    alloc: Global,
+    name: &str,
+    wires: Wires<'_>,
+    part: Part,
+    named: &mut L,
+    dump: &mut S,
+) -> Result<Answer, Stop>
+    requires named { length name.now ≤ 4096 }
+    requires wires { KeepsWires wires }
+    ensures ends { IsTrue L.tells → IsTrue S.tells → IfOk result (λ answer.
+        EndsCheck wires.entry part (L.holds named.old) (S.holds dump.old) answer.ending) }
+    ensures lines_fault { result ≡ Err Stop.Lines →
+        Rose (L.faults named.old) (L.faults named.new) }
+    ensures dump_fault { result ≡ Err Stop.Dump → Rose (S.faults dump.old) (S.faults dump.new) }
+    ensures not_out { result ≢ Err Stop.Out }
+{
+    let sampling = Sampling {
+        edge: edge_of(wires.edge),
+        takes_first: wires.is_first,
+        late: wires.after,
+    };
+    match listed_choice(alloc, wires.choice, wires.file, named)? {
+        Listed::Unlisted(answer) => Ok(answer),
+        Listed::Chosen(choice) => judged_answer(alloc, name, &choice, part, sampling, dump),
+    }
+}
+
+fn edge_of(edge: Edge) -> vcd_way::Edge
+    ensures { result ≡ edge_of edge }
+{
+    match edge {
+        Edge::Rise => vcd_way::Edge::Rising,
+        Edge::Fall => vcd_way::Edge::Falling,
+    }
+}
+
+// Judges this part of a dump, whose wires are chosen so.
+fn judged_answer<S: Source>(
+    alloc: Global,
+    name: &str,
+    choice: &Choice,
+    part: Part,
+    sampling: Sampling,
+    dump: &mut S,
+) -> Result<Answer, Stop>
+    requires { length name.now ≤ 4096 }
+    ensures ends { IsTrue S.tells → IfOk result (λ answer.
+        EndsJudged choice.now part sampling (S.holds dump.old) answer.ending) }
+    ensures not_lines { result ≢ Err Stop.Lines }
+    ensures dump_fault { result ≡ Err Stop.Dump → Rose (S.faults dump.old) (S.faults dump.new) }
+    ensures not_out { result ≢ Err Stop.Out }
+{
+    let mut room = vec![in alloc; 0; PIECE]?;
+    match check_dump(alloc, name, dump, &mut room, choice, part, sampling) {
+        Err(stop) => stop_answer(alloc, name, stop),
+        Ok(checked) => Ok(found_answer(alloc, name, choice, &checked)?),
+    }
+}
+
+// Tells what was found.
+fn found_answer(
+    alloc: Global,
+    name: &str,
+    choice: &Choice,
+    checked: &Checked,
+) -> Result<Answer, AllocError>
+    ensures { IfOk result (λ answer. answer.ending ≡ ending_found checked.now.finding) }
+{
+    let ending = ending_found(&checked.finding);
+    let (stream, text) = found_text(alloc, name, choice, checked)?;
+    Ok(Answer {
+        ending,
+        stream,
+        text,
+    })
+}
+
+// The text of what was found, and where it goes.
+fn found_text(
+    alloc: Global,
+    name: &str,
+    choice: &Choice,
+    checked: &Checked,
+) -> Result<(Stream, Vec<u8>), AllocError> {
+    let header = &checked.header;
+    match &checked.finding {
+        Finding::Refused(refusal) => {
+            let text = refusal_text(alloc, name, &header.variables, choice, refusal)?;
+            Ok((Stream::Err, text))
+        }
+        Finding::Judged(wiring, told) => {
+            let text = check_text(
+                alloc,
+                name,
+                &header.variables,
+                &header.remarks,
+                choice,
+                wiring,
+                &told.judged,
+                told.early_end,
+                &told.last,
+            )?;
+            Ok((Stream::Out, text))
+        }
+    }
+}
+
+/// How a check ends that found this.
+pub fn ending_found(finding: &Finding) -> Ending
+    ensures { result ≡ ending_found finding.now }
+{
+    match finding {
+        Finding::Refused(_) => Ending::Unjudged,
+        Finding::Judged(_, told) => ending_of(&told.judged.verdict),
+    }
+}
