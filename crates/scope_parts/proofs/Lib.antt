@@ -1,0 +1,5 @@
+pub mod Clocks
+mod Endings
+mod Lists
+mod Sums
+mod Turns

@@ -3,11 +3,14 @@ use Rattle.std.specs.Prelude.{◌≡◌, ℕ, ◌-◌, List, [], ◌∷◌, ◌+
 use Rattle.fsb_signal.specs.declared.marks.Marks.{Marks}
 use Rattle.vcd_way.specs.Events.{DumpEvent}
 use Rattle.vcd_course.specs.Told.{last_told}
+use Rattle.scope_check.specs.declared.finding.Judged.{Judged}
 use Rattle.scope_check.specs.declared.part.Part.{Part}
 use Rattle.scope_check.specs.Findings.{IsFoundIn}
 use Rattle.scope_check.specs.Parts.{clocks_of}
 use Rattle.scope_check.specs.Standing.{Stands as JudgingStands}
 use Rattle.scope_parts.specs.declared.counts.Counts.{Counts}
+use Rattle.scope_parts.specs.declared.finding.End.{End}
+use Rattle.scope_parts.specs.declared.finding.End.TheVariants as ends
 use Rattle.scope_parts.specs.declared.finding.PartFound.{PartFound}
 use Rattle.scope_parts.specs.declared.kept.Kept.{Kept}
 use Rattle.scope_parts.specs.declared.tally.Tally.{Tally}
@@ -37,6 +40,13 @@ pub record Tallies (t : Tally) (ss : List Segment) : Type 0 where
   pub clocks : t.clocks ≡ clocks_in ss
   pub judged : t.judged ≡ judged_in ss
   pub kept : Keeps t.kept (parts_in ss)
+
+-- what is judged of a segment that ends so: up to its end, or before a reply
+abbrev pub kept_at : End → Judged → Judged → Judged
+kept_at ends.Dump found before = found
+kept_at ends.Hole found before = found
+kept_at ends.Broken found before = found
+kept_at ends.Reply found before = before
 
 -- all of the events but the last one
 abbrev pub but_last : List DumpEvent → List DumpEvent

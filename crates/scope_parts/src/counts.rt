@@ -9,7 +9,7 @@ use scope_check::TooMany;
 use vcd_course::{CourseEvent, Stamp, Told};
 
 /// How many clocks a dump has, and how many times it stops.
-#[derive(Clone, Copy, Debug, PartialEq, Eq)]
+#[derive(Clone, Copy)]
 pub(crate) struct Counts {
     pub(crate) clocks: u64,
     pub(crate) holes: u64,

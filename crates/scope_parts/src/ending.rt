@@ -1,10 +1,12 @@
 //! When a segment ends.
 
 ghost use Rattle.std.specs.Prelude.{◌≡◌, if◌then◌else◌};
+ghost use Rattle.fsb_trace.specs.Requests.{is_reply};
 ghost use Rattle.vcd_course.specs.Told.{event_told};
 ghost use Rattle.scope_check.specs.Bounds.{begins_later};
 ghost use Rattle.scope_parts.specs.declared.finding.End.TheVariants as ends;
 ghost use Rattle.scope_parts.specs.Endings.{breaks_18_last, breaks_one, ending, ends_at_hole, ends_at_reply, ends_broken, is_accepted, is_reply_on, request_on, sample_of};
+ghost use Rattle.scope_parts.specs.Standing.{kept_at};
 
 use crate::finding::End;
 use crate::latest::sample_of;
@@ -61,8 +63,22 @@ fn request_on(a: &Sample, b: &Sample) -> Option<Request>
     decode(first, second).ok()
 }
 
+// Whether two samples hold a reply.
+#[tactic(auto, unfolding(fsb_trace::specs::Requests::is_reply, fsb_trace::specs::Requests::is_reply_kind))]
+fn holds_reply(a: &Sample, b: &Sample) -> bool
+    ensures { result ≡ is_reply (request_on a.now b.now) }
+{
+    match request_on(a, b) {
+        Some(request) => match request.kind {
+            Kind::Reply => true,
+            Kind::Invalidate | Kind::Read | Kind::WriteBack | Kind::Upgrade => false,
+        },
+        None => false,
+    }
+}
+
 // Whether a reply begins with the first of two samples.
-#[tactic(auto, unfolding(crate::specs::Endings::is_reply_on, fsb_trace::specs::Requests::is_reply, fsb_trace::specs::Requests::is_reply_kind))]
+#[tactic(auto, unfolding(crate::specs::Endings::is_reply_on))]
 fn is_reply_on(first: &Option<Sample>, second: &Option<Sample>) -> bool
     ensures { result ≡ is_reply_on first.now second.now }
 {
@@ -135,9 +151,7 @@ pub(crate) fn last_end(found: &Judged) -> End
 
 /// What is judged of a segment that ends so: up to its end, or before a reply.
 pub(crate) fn kept_at(end: End, found: Judged, before: Judged) -> Judged
-    ensures reply { end ≡ End.Reply → result ≡ before }
-    ensures broken { end ≡ End.Broken → result ≡ found }
-    ensures hole { end ≡ End.Hole → result ≡ found }
+    ensures { result ≡ kept_at end found before }
 {
     match end {
         End::Reply => before,

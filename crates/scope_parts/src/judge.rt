@@ -10,7 +10,7 @@ ghost use Rattle.scope_parts.specs.declared.plan.Plan.{Plan};
 ghost use Rattle.scope_parts.specs.Plans.{later_part};
 ghost use Rattle.scope_parts.specs.Segments.{Segment, all_of};
 ghost use Rattle.scope_parts.specs.Findings.{IsJudgedInParts};
-ghost use Rattle.scope_parts.specs.Standing.{Remembers, Stands, Tallies};
+ghost use Rattle.scope_parts.specs.Standing.{Remembers, Stands, Tallies, kept_at};
 
 use crate::counts::Counts;
 use crate::ending::{ending, kept_at, last_end};
@@ -79,8 +79,7 @@ impl PartsJudge {
     // Ends the segment, of which this was found, and opens the next one.
     fn close(&mut self, end: End, found: Judged) -> Result<(), TooMany>
         ensures tallied { (ss : List Segment) (s : Segment) → Tallies self.old.tally ss →
-            (end ≡ End.Reply → s.found ≡ self.old.latest.before) →
-            (¬ (end ≡ End.Reply) → s.found ≡ found) →
+            s.found ≡ kept_at end found self.old.latest.before →
             s.end ≡ end → found.clocks ≡ clocks_of (all_of s) →
             OnOk result (Tallies self.new.tally (ss ++ s ∷ [])) }
         ensures judging { OnOk result (JudgingStands self.new.judging

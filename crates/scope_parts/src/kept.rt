@@ -11,7 +11,7 @@ use arrayvec::ArrayVec;
 use scope_check::TooMany;
 
 /// How many parts there are, and the first sixteen of them; the same of those that are broken.
-#[derive(Debug, Drop)]
+#[derive(Drop)]
 pub(crate) struct Kept {
     pub(crate) parts: u64,
     pub(crate) broken: u32,

@@ -14,7 +14,7 @@ use scope_check::Judged;
 use vcd_course::{CourseEvent, Told};
 
 /// What was found of the open segment, and before its last event.
-#[derive(Clone, Copy, Debug, PartialEq, Eq)]
+#[derive(Clone, Copy)]
 pub(crate) struct Latest {
     pub(crate) found: Judged,
     pub(crate) before: Judged,

@@ -11,7 +11,7 @@ use crate::kept::Kept;
 use scope_check::{Judged, TooMany, Verdict};
 
 /// How many clocks there are in some segments, how many are judged, and their parts.
-#[derive(Debug, Drop)]
+#[derive(Drop)]
 pub(crate) struct Tally {
     pub(crate) clocks: u64,
     pub(crate) judged: u64,
