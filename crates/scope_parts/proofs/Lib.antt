@@ -1,5 +1,9 @@
 pub mod Clocks
 mod Endings
+mod Found
+mod Holes
+mod Latest
 mod Lists
 mod Sums
+mod Tallies
 mod Turns

@@ -47,13 +47,13 @@ stands_on j k p m es e s plan marks tally counted judging latest goes = record {
 -- ---- it ends
 
 -- what is judged of it, and the clocks of a reply
-events_at : End → List DumpEvent → DumpEvent → List DumpEvent
+abbrev pub events_at : End → List DumpEvent → DumpEvent → List DumpEvent
 events_at ends.Dump open_events e = open_events ++ e ∷ []
 events_at ends.Hole open_events e = open_events ++ e ∷ []
 events_at ends.Broken open_events e = open_events ++ e ∷ []
 events_at ends.Reply open_events e = but_last open_events
 
-reply_at : End → List DumpEvent → DumpEvent → List DumpEvent
+abbrev pub reply_at : End → List DumpEvent → DumpEvent → List DumpEvent
 reply_at ends.Dump open_events e = []
 reply_at ends.Hole open_events e = []
 reply_at ends.Broken open_events e = []
@@ -69,7 +69,6 @@ segment_at end open_events e found before = record {
 
 pub all_at : (end : End) (xs : List DumpEvent) (e : DumpEvent) (f b : Judged)
     → all_of (segment_at end xs e f b) ≡ xs ++ e ∷ []
-unfolding events_at reply_at
 all_at ends.Dump xs e f b = append-nil (xs ++ e ∷ [])
 all_at ends.Hole xs e f b = append-nil (xs ++ e ∷ [])
 all_at ends.Broken xs e f b = append-nil (xs ++ e ∷ [])
@@ -80,7 +79,6 @@ all_at ends.Reply xs e f b =
 found_at : (end : End) (xs : List DumpEvent) (e : DumpEvent) (f b : Judged) (p : Part) (m : Marks)
     → IsFoundIn f p m (xs ++ e ∷ []) → IsFoundIn b p m (but_last xs)
     → IsFoundIn (kept_at end f b) p m (events_at end xs e)
-unfolding events_at
 found_at ends.Dump xs e f b p m up_to before = up_to
 found_at ends.Hole xs e f b p m up_to before = up_to
 found_at ends.Broken xs e f b p m up_to before = up_to
@@ -88,7 +86,6 @@ found_at ends.Reply xs e f b p m up_to before = before
 
 reply_size : (end : End) (p : Plan) (n : ℕ) (f : Judged) (xs : List DumpEvent) (e : DumpEvent)
     → ending p n f (last_sample xs) e ≡ Some end → length (reply_at end xs e) ≡ reply_clocks end
-unfolding reply_at
 reply_size ends.Dump p n f xs e h = refl
 reply_size ends.Hole p n f xs e h = refl
 reply_size ends.Broken p n f xs e h = refl

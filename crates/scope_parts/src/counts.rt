@@ -1,6 +1,6 @@
 //! The clocks and the holes of a dump.
 
-ghost use Rattle.std.specs.Prelude.{◌≡◌, ◌+◌, ◌++◌, ◌∷◌, [], List, IfOk, OnOk};
+ghost use Rattle.std.specs.Prelude.{◌≡◌, ◌+◌, ◌==◌, ◌++◌, ◌∷◌, [], List, IfOk, OnOk, if◌then◌else◌};
 ghost use Rattle.vcd_way.specs.Events.{DumpEvent, Hole};
 ghost use Rattle.vcd_course.specs.Told.{event_told, last_told};
 ghost use Rattle.scope_parts.specs.Standing.{Counted};
@@ -25,6 +25,13 @@ pub(crate) fn sum(a: u64, b: u64) -> Result<u64, TooMany>
         Some(s) => Ok(s),
         None => Err(TooMany),
     }
+}
+
+// The stamp that was kept, where a hole came before, and else the new one.
+fn first_stamp(holes: u64, kept: Option<Stamp>, stamp: Option<Stamp>) -> Option<Stamp>
+    ensures { result ≡ (if holes == 0 then stamp else kept) }
+{
+    if holes == 0 { stamp } else { kept }
 }
 
 impl Counts {
@@ -59,9 +66,7 @@ impl Counts {
             OnOk result (Counted self.new (es ++ Hole (last_told stamp) ∷ [])) }
     {
         let holes = sum(self.holes, 1)?;
-        if self.holes == 0 {
-            self.first_hole = stamp;
-        }
+        self.first_hole = first_stamp(self.holes, self.first_hole, stamp);
         self.holes = holes;
         Ok(())
     }

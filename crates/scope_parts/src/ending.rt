@@ -35,6 +35,14 @@ fn breaks_one(verdict: &Verdict) -> bool
     }
 }
 
+/// The clock of a broken rule, behind so many others.
+pub(crate) fn broken_clock(base: u64, verdict: &Verdict) -> Option<u64> {
+    match *verdict {
+        Verdict::Broken { clock, .. } => base.checked_add(clock),
+        Verdict::Nothing | Verdict::Accepted => None,
+    }
+}
+
 fn breaks_18_last(clocks: u64, verdict: &Verdict) -> bool
     ensures { result ≡ breaks_18_last clocks verdict.now }
 {
@@ -63,12 +71,11 @@ fn request_on(a: &Sample, b: &Sample) -> Option<Request>
     decode(first, second).ok()
 }
 
-// Whether two samples hold a reply.
-#[tactic(auto, unfolding(fsb_trace::specs::Requests::is_reply, fsb_trace::specs::Requests::is_reply_kind))]
-fn holds_reply(a: &Sample, b: &Sample) -> bool
-    ensures { result ≡ is_reply (request_on a.now b.now) }
+#[tactic(auto, unfolding(fsb_count::specs::Options::is_some_and, fsb_trace::specs::Requests::is_reply, fsb_trace::specs::Requests::is_reply_kind))]
+fn is_reply(request: Option<Request>) -> bool
+    ensures { result ≡ is_reply request }
 {
-    match request_on(a, b) {
+    match request {
         Some(request) => match request.kind {
             Kind::Reply => true,
             Kind::Invalidate | Kind::Read | Kind::WriteBack | Kind::Upgrade => false,
@@ -78,12 +85,12 @@ fn holds_reply(a: &Sample, b: &Sample) -> bool
 }
 
 // Whether a reply begins with the first of two samples.
-#[tactic(auto, unfolding(crate::specs::Endings::is_reply_on))]
+#[tactic(auto, unfolding(crate::specs::Endings::is_reply_on, fsb_count::specs::Options::is_some_and))]
 fn is_reply_on(first: &Option<Sample>, second: &Option<Sample>) -> bool
     ensures { result ≡ is_reply_on first.now second.now }
 {
     match (first, second) {
-        (Some(a), Some(b)) => a.has(Lines::ADS) && holds_reply(a, b),
+        (Some(a), Some(b)) => a.has(Lines::ADS) && is_reply(request_on(a, b)),
         _ => false,
     }
 }

@@ -13,7 +13,7 @@ ghost use Rattle.scope_parts.specs.Findings.{IsJudgedInParts};
 ghost use Rattle.scope_parts.specs.Standing.{Remembers, Stands, Tallies, kept_at};
 
 use crate::counts::Counts;
-use crate::ending::{ending, kept_at, last_end};
+use crate::ending::{broken_clock, ending, kept_at, last_end};
 use crate::finding::{End, PartsFound};
 use crate::latest::Latest;
 use crate::plan::{Plan, later_part};
@@ -98,6 +98,22 @@ impl PartsJudge {
         self.judging = Judging::new(self.marks, part);
         self.latest = Latest::first(self.judging.judged());
         Ok(())
+    }
+
+    /// How many clocks the dump has so far.
+    pub fn clocks(&self) -> u64
+        ensures { (p : Plan) (m : Marks) (es : List DumpEvent) → Stands self.now p m es →
+            result ≡ clocks_of es }
+    {
+        self.counts.clocks
+    }
+
+    /// The first clock with a broken rule, if one was found: what is drawn of a dump lies around it.
+    pub fn first_fault(&self) -> Option<u64> {
+        match self.tally.kept.faults.as_slice().first() {
+            Some(part) => broken_clock(0, &part.verdict),
+            None => broken_clock(self.tally.clocks, &self.latest.found.verdict),
+        }
     }
 
     /// What was judged and found.

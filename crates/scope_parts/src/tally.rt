@@ -2,8 +2,9 @@
 
 ghost use Rattle.std.specs.Prelude.{◌≡◌, ◌++◌, ◌∷◌, [], List, IfOk, OnOk};
 ghost use Rattle.scope_check.specs.Parts.{clocks_of};
-ghost use Rattle.scope_parts.specs.Segments.{Segment, all_of, part_told, shifted};
-ghost use Rattle.scope_parts.specs.Standing.{Tallies};
+ghost use Rattle.scope_parts.specs.declared.finding.PartFound.{PartFound};
+ghost use Rattle.scope_parts.specs.Segments.{Segment, all_of, part_told, shifted, told_if_judged};
+ghost use Rattle.scope_parts.specs.Standing.{Keeps, Tallies};
 
 use crate::counts::sum;
 use crate::finding::{End, PartFound};
@@ -46,6 +47,19 @@ fn part_told(base: u64, found: &Judged, end: End) -> Result<PartFound, TooMany>
     })
 }
 
+// Keeps the part of a segment behind so many clocks, where it has a judged clock.
+fn keep_if_judged(kept: &mut Kept, base: u64, found: &Judged, end: End) -> Result<(), TooMany>
+    ensures { (xs : List PartFound) → Keeps kept.old xs →
+        OnOk result (Keeps kept.new (xs ++ told_if_judged base found.now end)) }
+{
+    if 0 < found.judged {
+        let part = part_told(base, found, end)?;
+        kept.add(part)
+    } else {
+        Ok(())
+    }
+}
+
 impl Tally {
     /// Of no segments.
     pub(crate) fn new() -> Tally
@@ -65,10 +79,7 @@ impl Tally {
     {
         let judged = sum(self.judged, u64::from(found.judged))?;
         let more = sum(self.clocks, clocks)?;
-        if 0 < found.judged {
-            let part = part_told(self.clocks, found, end)?;
-            self.kept.add(part)?;
-        }
+        keep_if_judged(&mut self.kept, self.clocks, found, end)?;
         self.judged = judged;
         self.clocks = more;
         Ok(())
