@@ -1,9 +1,9 @@
-pub mod Clocks
 mod Endings
 mod Found
 mod Holes
-mod Latest
 mod Lists
+mod Remembering
 mod Sums
 mod Tallies
 mod Turns
+pub mod Clocks

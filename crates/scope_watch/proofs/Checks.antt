@@ -1,12 +1,17 @@
 -- What is found of a dump, from what was read of it.
-use Rattle.std.proofs.Common.{◌≡◌, ℕ, ◌⊎◌, inl, inr, List, [], ◌++◌, length, Result, Err, sym, ap, subst, ◌∙◌, append_assoc, append-nil}
+use Rattle.std.proofs.Common.{◌≡◌, ℕ, ◌⊎◌, inl, inr, List, [], ◌++◌, length, Option, None, Result, Ok, Err, IfOk, IfErr, option_map, sym, ap, subst, ◌∙◌, append_assoc, append-nil}
 use Rattle.fsb_signal.specs.declared.marks.Marks.{Marks}
 use Rattle.vcd_grammar.specs.Tokens.{tokens_so_far, tokens_from, open_run, ended_at}
 use Rattle.vcd_way.specs.Declarations.{Declaration}
 use Rattle.vcd_way.specs.Ways.{ValueRules, Way}
-use Rattle.vcd_way.specs.Events.{DumpEvent}
+use Rattle.vcd_way.specs.Answers.{first_fault_by, early_end_by, events_by}
+use Rattle.vcd_way.specs.Events.{DumpEvent, samples_among}
+use Rattle.vcd_scan.specs.declared.early.EarlyEnd.{EarlyEnd}
+use Rattle.vcd_scan.specs.Ending.{early_told}
+use Rattle.scope_ring.specs.Ring.{FedFirst}
 use Rattle.vcd_way.proofs.Interface.{tokens_longer}
 use Rattle.scope_parts.specs.declared.plan.Plan.{Plan}
+use Rattle.scope_parts.specs.Findings.{IsJudgedInParts}
 use Rattle.scope_wiring.specs.declared.wiring.Choice.{Choice}
 use Rattle.scope_wiring.specs.declared.wiring.Wiring.{Wiring}
 use Rattle.scope_way.specs.Wired.{wired_way}
@@ -66,6 +71,27 @@ judged-stop stops.TooLong seen plan marks way text h = h
 judged-stop stops.TooMany seen plan marks way text h = tt
 judged-stop stops.WriteFault seen plan marks way text h = tt
 judged-stop stops.Memory seen plan marks way text h = tt
+
+-- what a judge tells at the end of a text
+pub judged-told : (answer : Result JudgedText ScopeStop) (plan : Plan) (marks : Marks) (way : Way (List Declaration))
+    (text : List ℕ) (early : Option EarlyEnd) → first_fault_by way text ≡ None
+    → option_map early_told early ≡ early_end_by way text
+    → IfOk answer (λ told. IsJudgedInParts told.judged plan marks (events_by way text)
+    × (told.early_end ≡ early) × FedFirst told.last (samples_among (events_by way text)))
+    → IfErr answer (λ stop. stop ≡ stops.TooMany) → IsJudgedAs answer plan marks way text
+judged-told (Ok told) plan marks way text early none end h e = record {
+  none = none;
+  found = h.0;
+  early_end = ap (option_map early_told) h.1 ∙ end;
+  last = h.2;
+}
+judged-told (Err stop) plan marks way text early none end h e =
+    subst (λ x. IsJudgedAs (Err x) plan marks way text) (sym e) tt
+
+pub not-read : (answer : Result JudgedText ScopeStop) → IfErr answer (λ stop. stop ≡ stops.TooMany)
+    → answer ≡ Err stops.ReadFault → ⊥
+not-read (Ok told) h e = cc
+not-read (Err stop) h e = cc
 
 pub checked-header : (stop : ScopeStop) (choice : Choice) (plan : Plan) (s : Sampling) (text left : List ℕ)
     → IsHeaded (Err stop) text left → IsChecked (Err stop) choice plan s text

@@ -1,6 +1,6 @@
 use Rattle.std.proofs.Common.{refl}
 use Rattle.vcd_course.specs.Told.{event_told}
-use Rattle.scope_parts.proofs.Latest.{remembers_more}
+use Rattle.scope_parts.proofs.Remembering.{remembers_more}
 use Rattle.scope_parts.proofs.latest.Latest.with.Goals as goal
 
 pub returns : goal.returns

@@ -1,4 +1,4 @@
-use Rattle.std.proofs.Common.{◌≡◌, ◌∙◌, ◌+◌, ◌++◌, ap, sym, subst}
+use Rattle.std.proofs.Common.{◌∙◌, ◌+◌, ◌++◌, ap, sym, subst}
 use Rattle.scope_check.specs.declared.finding.Judged.{Judged}
 use Rattle.scope_parts.specs.declared.finding.End.{End}
 use Rattle.scope_parts.specs.Segments.{parts_in, told_if_judged}
