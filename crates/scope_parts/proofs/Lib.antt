@@ -6,4 +6,4 @@ mod Remembering
 mod Sums
 mod Tallies
 mod Turns
-pub mod Clocks
+mod Clocks

@@ -1,8 +1,6 @@
 -- The sums of segments with one more.
-use Rattle.std.proofs.Common.{◌≡◌, ◌∙◌, ℕ, ◌+◌, ◌++◌, ◌∷◌, [], List, refl, sym, ap, append_assoc, append-nil, add_assoc, add-zero, zero-add}
-use Rattle.vcd_way.specs.Events.{DumpEvent}
+use Rattle.std.proofs.Common.{◌≡◌, ◌∙◌, ℕ, ◌+◌, ◌++◌, ◌∷◌, [], List, sym, ap, append_assoc, append-nil, add_assoc, add-zero, zero-add}
 use Rattle.scope_check.specs.Parts.{clocks_of}
-use Rattle.scope_parts.specs.declared.finding.PartFound.{PartFound}
 use Rattle.scope_parts.specs.Segments.{Segment, all_of, events_in, clocks_in, judged_in, parts_behind, parts_in, told_if_judged}
 use Rattle.scope_parts.proofs.Clocks.{clocks_of-append}
 

@@ -1,7 +1,8 @@
 -- What a judge of parts stands for after one more event.
-use Rattle.std.proofs.Common.{◌≡◌, ◌∙◌, ℕ, ◌+◌, ◌-◌, ◌++◌, ◌∷◌, [], List, Option, Some, None, length, take, drop, true, false, refl, sym, ap, subst, arith, append_assoc, append-nil}
+use Rattle.std.proofs.Common.{◌≡◌, ◌∙◌, ℕ, ◌-◌, ◌++◌, ◌∷◌, [], List, Option, Some, None, Result, Ok, Err, OnOk, length, drop, refl, sym, ap, subst, arith, append_assoc, append-nil}
 use Rattle.std.proofs.lemmas.List.{length-append, length-drop, take-append-drop}
 use Rattle.fsb_signal.specs.declared.marks.Marks.{Marks}
+use Rattle.fsb_signal.specs.declared.sample.Sample.{Sample}
 use Rattle.vcd_way.specs.Events.{DumpEvent}
 use Rattle.scope_check.specs.declared.finding.Judged.{Judged}
 use Rattle.scope_check.specs.declared.part.Part.{Part}
@@ -11,11 +12,10 @@ use Rattle.scope_parts.specs.declared.finding.End.{End}
 use Rattle.scope_parts.specs.declared.finding.End.TheVariants as ends
 use Rattle.scope_parts.specs.declared.judge.PartsJudge.{PartsJudge}
 use Rattle.scope_parts.specs.declared.plan.Plan.{Plan}
-use Rattle.scope_parts.specs.declared.tally.Tally.{Tally}
 use Rattle.scope_parts.specs.Plans.{later_part}
 use Rattle.scope_parts.specs.Segments.{Segment, all_of, clocks_in, events_in, faults_in, next_part}
-use Rattle.scope_parts.specs.Endings.{breaks_one, ending, last_sample}
-use Rattle.scope_parts.specs.Findings.{EachBehind, GoesOn, IsOver, IsLast, reply_clocks}
+use Rattle.scope_parts.specs.Endings.{ending, last_sample}
+use Rattle.scope_parts.specs.Findings.{EachBehind, GoesOn, IsOver, reply_clocks}
 use Rattle.scope_parts.specs.Standing.{Counted, Remembers, Stands, Tallies, but_last, kept_at}
 use Rattle.scope_parts.proofs.Endings.{reply_behind_one}
 use Rattle.scope_parts.proofs.Lists.{each_more}
@@ -27,9 +27,10 @@ pub stands_on : (j k : PartsJudge) (p : Plan) (m : Marks) (es : List DumpEvent) 
     → k.plan ≡ j.plan → k.marks ≡ j.marks → k.tally ≡ j.tally → Counted k.counts (es ++ e ∷ [])
     → JudgingStands k.judging (next_part p s.segments) m (s.open_events ++ e ∷ [])
     → Remembers k.latest (next_part p s.segments) m (s.open_events ++ e ∷ [])
-    → ending p (length (faults_in s.segments)) k.latest.found (last_sample s.open_events) e ≡ None
+    → (f : Judged) → IsFoundIn f (next_part p s.segments) m (s.open_events ++ e ∷ [])
+    → ending p (length (faults_in s.segments)) f (last_sample s.open_events) e ≡ None
     → Stands k p m (es ++ e ∷ [])
-stands_on j k p m es e s plan marks tally counted judging latest goes = record {
+stands_on j k p m es e s plan marks tally counted judging latest f found goes = record {
   segments = s.segments;
   open_events = s.open_events ++ e ∷ [];
   planned = plan ∙ s.planned;
@@ -37,12 +38,21 @@ stands_on j k p m es e s plan marks tally counted judging latest goes = record {
   whole = ap (λ xs. xs ++ e ∷ []) s.whole ∙ append_assoc (events_in s.segments) s.open_events (e ∷ []);
   over = s.over;
   unended = each_more (GoesOn p m s.segments) s.open_events e s.unended
-      (record { found = k.latest.found; is_found = latest.found; goes_on = goes });
+      (record { found = f; is_found = found; goes_on = goes });
   judging = judging;
   latest = latest;
   tallied = subst (λ t. Tallies t s.segments) (sym tally) s.tallied;
   counted = counted;
 }
+
+-- what the judge asks is what the definition says
+pub ending_is : (j : PartsJudge) (p : Plan) (m : Marks) (es : List DumpEvent) (s : Stands j p m es) (f : Judged)
+    (e : DumpEvent) → ending j.plan j.tally.kept.broken f j.latest.asks e
+    ≡ ending p (length (faults_in s.segments)) f (last_sample s.open_events) e
+ending_is j p m es s f e =
+    ap (λ (q : Plan). ending q j.tally.kept.broken f j.latest.asks e) s.planned
+    ∙ ap (λ (n : ℕ). ending p n f j.latest.asks e) s.tallied.kept.broken
+    ∙ ap (λ (a : Option Sample). ending p (length (faults_in s.segments)) f a e) s.latest.asks
 
 -- ---- it ends
 
@@ -118,12 +128,14 @@ next-snoc p (x ∷ ss) s = refl
 pub stands_behind : (j k : PartsJudge) (p : Plan) (m : Marks) (es : List DumpEvent) (e : DumpEvent) (s : Stands j p m es)
     → (x : Segment) → all_of x ≡ s.open_events ++ e ∷ [] → IsOver p m s.segments x
     → k.plan ≡ j.plan → k.marks ≡ j.marks → Counted k.counts (es ++ e ∷ []) → Tallies k.tally (s.segments ++ x ∷ [])
-    → JudgingStands k.judging (later_part p k.tally.clocks) m [] → Remembers k.latest (later_part p k.tally.clocks) m []
+    → JudgingStands k.judging (later_part j.plan k.tally.clocks) j.marks []
+    → Remembers k.latest (later_part j.plan k.tally.clocks) j.marks []
     → Stands k p m (es ++ e ∷ [])
 stands_behind j k p m es e s x all over plan marks counted tallied judging latest =
     let ss = s.segments ++ x ∷ [] in
-    let next : later_part p k.tally.clocks ≡ next_part p ss =
-    ap (λ n. later_part p n) tallied.clocks ∙ sym (next-snoc p s.segments x) in
+    let next : later_part j.plan k.tally.clocks ≡ next_part p ss =
+    ap (λ (q : Plan). later_part q k.tally.clocks) s.planned
+    ∙ ap (λ (n : ℕ). later_part p n) tallied.clocks ∙ sym (next-snoc p s.segments x) in
     record {
       segments = ss;
       open_events = [];
@@ -134,8 +146,15 @@ stands_behind j k p m es e s x all over plan marks counted tallied judging lates
           ∙ sym (append-nil (events_in ss));
       over = each_more (IsOver p m) s.segments x s.over over;
       unended = tt;
-      judging = subst (λ (q : Part). JudgingStands k.judging q m []) next judging;
-      latest = subst (λ (q : Part). Remembers k.latest q m []) next latest;
+      judging = subst (λ (n : Marks). JudgingStands k.judging (next_part p ss) n []) s.marked
+          (subst (λ (q : Part). JudgingStands k.judging q j.marks []) next judging);
+      latest = subst (λ (n : Marks). Remembers k.latest (next_part p ss) n []) s.marked
+          (subst (λ (q : Part). Remembers k.latest q j.marks []) next latest);
       tallied = tallied;
       counted = counted;
     }
+
+-- what holds at an Ok from what holds there
+pub on_ok : {A E : Type 0} {P Q R T : Type 0} (r : Result A E) → (P → Q → R → T) → OnOk r P → OnOk r Q → OnOk r R → OnOk r T
+on_ok (Ok a) f x y z = f x y z
+on_ok (Err e) f x y z = tt

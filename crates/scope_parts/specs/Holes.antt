@@ -1,5 +1,5 @@
 -- The times for which a dump stops.
-use Rattle.std.specs.Prelude.{◌≡◌, ℕ, ◌+◌, Bool, true, false, List, [], ◌∷◌, Option, None}
+use Rattle.std.specs.Prelude.{ℕ, ◌+◌, List, [], ◌∷◌, Option, None}
 use Rattle.vcd_way.specs.Pieces.{Stamp}
 use Rattle.vcd_way.specs.Events.{DumpEvent, Sampled, Hole, Resumed}
 

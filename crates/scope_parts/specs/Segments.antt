@@ -1,5 +1,5 @@
 -- The segments of a dump, one after another, and what is judged of each.
-use Rattle.std.specs.Prelude.{◌≡◌, ℕ, ◌+◌, Bool, true, false, ◌&&◌, nat_lt, if◌then◌else◌, List, [], ◌∷◌, ◌++◌, length, filter}
+use Rattle.std.specs.Prelude.{ℕ, ◌+◌, Bool, true, false, nat_lt, if◌then◌else◌, List, [], ◌∷◌, ◌++◌, filter}
 use Rattle.vcd_way.specs.Events.{DumpEvent}
 use Rattle.scope_check.specs.declared.finding.Judged.{Judged}
 use Rattle.scope_check.specs.declared.finding.Verdict.{Verdict}
