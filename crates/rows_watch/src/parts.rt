@@ -7,6 +7,7 @@ use vcd_course::{CourseEvent, Told};
 
 /// A row: events, the last clock that may be judged, how many broken rules are looked for, and each part: its first clock, how
 /// many are judged, the broken clock and rule, and its end.
+#[derive(Drop)]
 struct Row {
     events: &'static str,
     to: Option<Bound>,
@@ -19,8 +20,18 @@ struct Row {
 // and at `g` it goes on.
 static ROWS: [Row; 17] = [
     // Without a hole or a broken rule there is one part.
-    Row { events: "....", to: None, most: 1, parts: &[(0, 4, None, End::Dump)] },
-    Row { events: "", to: None, most: 16, parts: &[] },
+    Row {
+        events: "....",
+        to: None,
+        most: 1,
+        parts: &[(0, 4, None, End::Dump)],
+    },
+    Row {
+        events: "",
+        to: None,
+        most: 16,
+        parts: &[],
+    },
     // Behind a hole the next part begins with the second clock of a quiet run.
     Row {
         events: "..pphgpp...pp..",
@@ -35,7 +46,12 @@ static ROWS: [Row; 17] = [
         parts: &[(0, 3, None, End::Hole), (4, 2, None, End::Dump)],
     },
     // It never begins again.
-    Row { events: "...hgp.p.p", to: None, most: 16, parts: &[(0, 3, None, End::Hole)] },
+    Row {
+        events: "...hgp.p.p",
+        to: None,
+        most: 16,
+        parts: &[(0, 3, None, End::Hole)],
+    },
     // Behind a broken rule nothing begins, unless more are looked for.
     Row {
         events: "..t....t...",
@@ -47,7 +63,10 @@ static ROWS: [Row; 17] = [
         events: "..t....t...",
         to: None,
         most: 2,
-        parts: &[(0, 3, Some((2, 15)), End::Broken), (4, 7, Some((7, 15)), End::Broken)],
+        parts: &[
+            (0, 3, Some((2, 15)), End::Broken),
+            (4, 7, Some((7, 15)), End::Broken),
+        ],
     },
     Row {
         events: "..t....t...",
@@ -96,9 +115,18 @@ static ROWS: [Row; 17] = [
         events: "...hg...pppRr......",
         to: None,
         most: 1,
-        parts: &[(0, 3, None, End::Hole), (4, 5, None, End::Reply), (12, 5, None, End::Dump)],
+        parts: &[
+            (0, 3, None, End::Hole),
+            (4, 5, None, End::Reply),
+            (12, 5, None, End::Dump),
+        ],
     },
-    Row { events: "...pppRr...", to: None, most: 1, parts: &[(0, 11, Some((7, 18)), End::Broken)] },
+    Row {
+        events: "...pppRr...",
+        to: None,
+        most: 1,
+        parts: &[(0, 11, Some((7, 18)), End::Broken)],
+    },
     // Such a reply counts for no broken rule, and a fault behind it does.
     Row {
         events: "..h...pppRr....t...",
@@ -139,7 +167,10 @@ fn told(letter: u8) -> Option<Told> {
 
 /// What is found of the events of a row.
 fn found(row: &Row) -> Result<PartsFound, TooMany> {
-    let marks = Marks { ap: false, rp: false };
+    let marks = Marks {
+        ap: false,
+        rp: false,
+    };
     let plan = Plan {
         first: Part {
             begin: Part::whole().begin,
