@@ -7,6 +7,7 @@ use vcd_course::{CourseEvent, Told};
 
 /// A row: events, the last clock that may be judged, how many broken rules are looked for, and each part: its first clock, how
 /// many are judged, the broken clock and rule, and its end.
+#[derive(Drop)]
 struct Row {
     events: &'static str,
     to: Option<Bound>,
@@ -14,19 +15,29 @@ struct Row {
     parts: &'static [(u64, u64, Option<(u64, u8)>, End)],
 }
 
-// `.` is a clock without an asserted line, `t` one with TRDY# alone, which breaks rule 15, and `p` one with BPRI#; `R` and
+// `.` is a clock without an asserted line, `bbAn.x` a request of agent 0 that is cancelled, `t` one with TRDY# alone, which breaks rule 15, and `p` one with BPRI#; `R` and
 // `r` are the two clocks of a reply, `W` and `w` those of a request without an ID of its winner's; at `h` the dump stops,
 // and at `g` it goes on.
 static ROWS: [Row; 17] = [
     // Without a hole or a broken rule there is one part.
-    Row { events: "....", to: None, most: 1, parts: &[(0, 4, None, End::Dump)] },
-    Row { events: "", to: None, most: 16, parts: &[] },
-    // Behind a hole the next part begins with the second clock of a quiet run.
     Row {
-        events: "..pphgpp...pp..",
+        events: "....",
         to: None,
         most: 1,
-        parts: &[(0, 4, None, End::Hole), (7, 6, None, End::Dump)],
+        parts: &[(0, 4, None, End::Dump)],
+    },
+    Row {
+        events: "",
+        to: None,
+        most: 16,
+        parts: &[],
+    },
+    // Behind a hole the next part begins with the second clock of a quiet run.
+    Row {
+        events: "..bbAn.x..hgpp..bbAn.x..",
+        to: None,
+        most: 1,
+        parts: &[(0, 10, None, End::Hole), (13, 9, None, End::Dump)],
     },
     Row {
         events: "...h...",
@@ -35,7 +46,12 @@ static ROWS: [Row; 17] = [
         parts: &[(0, 3, None, End::Hole), (4, 2, None, End::Dump)],
     },
     // It never begins again.
-    Row { events: "...hgp.p.p", to: None, most: 16, parts: &[(0, 3, None, End::Hole)] },
+    Row {
+        events: "...hgp.p.p",
+        to: None,
+        most: 16,
+        parts: &[(0, 3, None, End::Hole)],
+    },
     // Behind a broken rule nothing begins, unless more are looked for.
     Row {
         events: "..t....t...",
@@ -47,7 +63,10 @@ static ROWS: [Row; 17] = [
         events: "..t....t...",
         to: None,
         most: 2,
-        parts: &[(0, 3, Some((2, 15)), End::Broken), (4, 7, Some((7, 15)), End::Broken)],
+        parts: &[
+            (0, 3, Some((2, 15)), End::Broken),
+            (4, 7, Some((7, 15)), End::Broken),
+        ],
     },
     Row {
         events: "..t....t...",
@@ -70,7 +89,7 @@ static ROWS: [Row; 17] = [
         events: "..t.h.t...",
         to: None,
         most: 2,
-        parts: &[(0, 3, Some((2, 15)), End::Broken), (6, 3, None, End::Dump)],
+        parts: &[(0, 3, Some((2, 15)), End::Broken), (7, 2, None, End::Dump)],
     },
     // The last clock lies in the second part, before it, and in a hole.
     Row {
@@ -96,9 +115,18 @@ static ROWS: [Row; 17] = [
         events: "...hg...pppRr......",
         to: None,
         most: 1,
-        parts: &[(0, 3, None, End::Hole), (4, 5, None, End::Reply), (12, 5, None, End::Dump)],
+        parts: &[
+            (0, 3, None, End::Hole),
+            (4, 5, None, End::Reply),
+            (12, 5, None, End::Dump),
+        ],
     },
-    Row { events: "...pppRr...", to: None, most: 1, parts: &[(0, 11, Some((7, 18)), End::Broken)] },
+    Row {
+        events: "...pppRr...",
+        to: None,
+        most: 1,
+        parts: &[(0, 11, Some((7, 18)), End::Broken)],
+    },
     // Such a reply counts for no broken rule, and a fault behind it does.
     Row {
         events: "..h...pppRr....t...",
@@ -122,11 +150,16 @@ static ROWS: [Row; 17] = [
 /// What happens at a letter of a row.
 fn told(letter: u8) -> Option<Told> {
     let bpri = Lines::BPRI;
+    let begins = Lines(Lines::BREQ0.0 + Lines::ADS.0);
     let asks = Lines(Lines::BPRI.0 + Lines::ADS.0);
     match letter {
         b'.' => Some(Told::Sampled(idle_sample())),
         b't' => Some(Told::Sampled(Sample::known(Lines::TRDY, 0, 0, 0))),
         b'p' => Some(Told::Sampled(Sample::known(bpri, 0, 0, 0))),
+        b'b' => Some(Told::Sampled(Sample::known(Lines::BREQ0, 0, 0, 0))),
+        b'A' => Some(Told::Sampled(Sample::known(begins, 2, 0, 0))),
+        b'n' => Some(Told::Sampled(idle_sample())),
+        b'x' => Some(Told::Sampled(Sample::known(Lines::AERR, 0, 0, 0))),
         b'R' => Some(Told::Sampled(Sample::known(asks, 0, 17 * 8192, 0))),
         b'W' => Some(Told::Sampled(Sample::known(asks, 2, 0, 0))),
         b'r' => Some(Told::Sampled(idle_sample())),
@@ -139,7 +172,10 @@ fn told(letter: u8) -> Option<Told> {
 
 /// What is found of the events of a row.
 fn found(row: &Row) -> Result<PartsFound, TooMany> {
-    let marks = Marks { ap: false, rp: false };
+    let marks = Marks {
+        ap: false,
+        rp: false,
+    };
     let plan = Plan {
         first: Part {
             begin: Part::whole().begin,

@@ -70,7 +70,7 @@ abbrev pub ends_broken : Plan → ℕ → Judged → Bool
 ends_broken plan broken f = breaks_one f.verdict && nat_lt (broken + 1) plan.most
 
 -- the part began later, and rule 18 is broken with this event, the second clock of a reply: what it answers may have been
--- deferred before the part
+-- deferred before the part. So it is also where a request of the part itself has the reply's ID
 abbrev pub ends_at_reply : Judged → Option Sample → DumpEvent → Bool
 ends_at_reply f asks e =
     begins_later f.part.begin f.start && breaks_18_last f.clocks f.verdict && is_reply_on asks (sample_of e)
