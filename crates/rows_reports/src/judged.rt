@@ -79,6 +79,8 @@ rejected at clock 0, 5 ns (line 22 of the file): rule 2, request spacing
   Mostly wrong: ADS# lasts two clocks, a model begins a request every second
   clock, or the dump begins in the middle of traffic.
   p6scope rule 2 prints this rule
+  The dump may begin in traffic: no request that is judged comes before that clock.
+  --from 0 judges from the first clock on that ends 32 clocks without an asserted line.
 
             0*  1   2
   ADS#    \\___________
@@ -89,6 +91,7 @@ rejected at clock 0, 5 ns (line 22 of the file): rule 2, request spacing
 
 const UNKNOWN: &str = "\
 nothing could be judged: at no clock has every control line that is there a level
+  without a level at the last clock: ADS_n
   A line that nobody drives is left out by --without LINE, unless it is a needed one.
 ";
 
@@ -139,6 +142,57 @@ fn the_report_begins_with_the_wires(rt: HostRuntime) {
             Ok(true)
         )
     );
+}
+
+/// Words, values before clock 3, the second line of the answer, and whether it says that the dump may begin in traffic.
+type Early = (&'static str, &'static str, &'static str, bool);
+
+const EARLIEST: [Early; 3] = [
+    (
+        "check|x.vcd",
+        "b010 g\n",
+        "rejected at clock 3, 35 ns (line 35 of the file): rule 13, response timing",
+        true,
+    ),
+    (
+        "check|--at|0|x.vcd",
+        "b010 g\n",
+        "rejected at clock 3, 35 ns (line 35 of the file): rule 13, response timing",
+        false,
+    ),
+    (
+        "check|x.vcd",
+        "0b\n",
+        "rejected at clock 3, 35 ns (line 35 of the file): rule 6, arbitration winner",
+        false,
+    ),
+];
+
+/// Three clocks of an idle bus, these values, and three clocks.
+fn early_dump(alloc: Global, values: &str) -> Result<String, AllocError> {
+    let before = clocks(alloc, 0, 3)?;
+    let behind = clocks(alloc, 3, 3)?;
+    format!(in alloc; "{BUS}{END}{IDLE}{before}{values}{behind}")
+}
+
+/// Whether the answer has the second line of the row, and says what the row says of traffic.
+fn is_early_told(alloc: Global, row: &Early) -> Result<bool, Memory> {
+    let &(words, values, second, is_told) = row;
+    let text = early_dump(alloc, values)?;
+    let came = done(alloc, words, text.as_str(), "")?;
+    let out = came.out.as_str();
+    let tells = out.contains("\n  The dump may begin in traffic: no request");
+    Ok(out.lines().nth(1) == Some(second) && tells == is_told && came.status == 1)
+}
+
+#[test]
+fn a_dump_that_may_begin_in_traffic_is_told(rt: HostRuntime) {
+    for (at, row) in EARLIEST.iter().enumerate() {
+        assert!(rt;
+            matches!(is_early_told(rt.alloc(), row), Ok(true)),
+            "row {at}"
+        );
+    }
 }
 
 /// Three clocks of a bus without levels, a reset, and four clocks.

@@ -1,8 +1,9 @@
 //! Tests of p6scope's top call, with texts that were worked out by hand.
 //!
 //! `dumps` has the parts of small dumps, and does an order over one of them. `refused` has each cause against the wires,
-//! `judged` each verdict, `unread` the faults of a dump, the calls that fail and the wrong words, `told` the texts of
-//! `lines` and `rule`. `options` has files of `--lines`, `tools` a dump that a tool wrote.
+//! `judged` each verdict, `parts` dumps that are judged in several parts, `unread` the faults of a dump, the calls that fail
+//! and the wrong words, `told` the texts of `lines` and `rule`. `options` has files of `--lines`, `tools` a dump that a tool
+//! wrote.
 //!
 //! Nothing is promised. Read scope_top next.
 #![tactic(auto)]
@@ -13,6 +14,8 @@ mod dumps;
 mod judged;
 #[cfg(test)]
 mod options;
+#[cfg(test)]
+mod parts;
 #[cfg(test)]
 mod refused;
 #[cfg(test)]

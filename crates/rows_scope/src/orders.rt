@@ -26,7 +26,13 @@ fn told_part(alloc: Global, part: &Part) -> Result<String, AllocError> {
     let from = told_moment(alloc, part.from)?;
     let to = told_moment(alloc, part.to)?;
     let quiet = part.quiet;
-    format!(in alloc; "at {at} from {from} to {to} quiet {quiet}")
+    let most = part.most;
+    let text = format!(in alloc; "at {at} from {from} to {to} quiet {quiet}")?;
+    if most == 1 {
+        Ok(text)
+    } else {
+        format!(in alloc; "{text} most {most}")
+    }
 }
 
 fn told_wires(alloc: Global, wires: &Wires<'_>) -> Result<String, AllocError> {
@@ -89,7 +95,7 @@ pub(crate) fn told(alloc: Global, row: &str) -> Result<String, AllocError> {
 }
 
 /// Command lines, and what each asks for.
-const ORDERS: [(&str, &str); 41] = [
+const ORDERS: [(&str, &str); 44] = [
     ("lines|a.vcd", "lines a.vcd"),
     ("lines|--|-a.vcd", "lines -a.vcd"),
     ("rule", "rule None"),
@@ -139,6 +145,18 @@ const ORDERS: [(&str, &str); 41] = [
     (
         "check|--to|0s|a.vcd",
         "check a.vcd; NOTHING; at - from - to 0Second quiet 32",
+    ),
+    (
+        "check|--resume|a.vcd",
+        "check a.vcd; NOTHING; WHOLE most 16",
+    ),
+    (
+        "check|--max|2|a.vcd|--resume|--quiet|40",
+        "check a.vcd; NOTHING; at - from - to - quiet 40 most 2",
+    ),
+    (
+        "check|--resume|--max=1|a.vcd",
+        "check a.vcd; NOTHING; WHOLE",
     ),
     (
         "check|--quiet|1|a.vcd",

@@ -17,7 +17,7 @@ pub(crate) const CLOCK: &str =
     "a clock number, as 1200, or a time with its unit, as 285ns (s, ms, us, ns, ps, fs), may stand there";
 
 /// Command lines that are refused, each with its status and its text.
-const REFUSED: [(&str, &str); 72] = [
+const REFUSED: [(&str, &str); 80] = [
     (
         "foo|a.vcd",
         "2 error: unrecognized subcommand 'foo'\nthe commands: lines, check, rule; each has --help\n",
@@ -283,6 +283,38 @@ const REFUSED: [(&str, &str); 72] = [
         "2 error: '--quiet 4294967296': this is no number of clocks\na number of clocks may stand there, 1 to 4294967295\n",
     ),
     (
+        "check|--resume|--max|0|a.vcd",
+        "2 error: '--max 0': this is no such number\na number of broken rules may stand there, 1 to 16\n",
+    ),
+    (
+        "check|--resume|--max|17|a.vcd",
+        "2 error: '--max 17': this is no such number\na number of broken rules may stand there, 1 to 16\n",
+    ),
+    (
+        "check|--resume|--max|many|a.vcd",
+        "2 error: '--max many': this is no such number\na number of broken rules may stand there, 1 to 16\n",
+    ),
+    (
+        "check|--resume|--max||a.vcd",
+        "2 error: '--max ': this is no such number\na number of broken rules may stand there, 1 to 16\n",
+    ),
+    (
+        "check|--resume|--max|4294967297|a.vcd",
+        "2 error: '--max 4294967297': this is no such number\na number of broken rules may stand there, 1 to 16\n",
+    ),
+    (
+        "check|--max|2|a.vcd",
+        "2 error: --max is there without --resume\n--max says up to how many broken rules --resume looks for\n",
+    ),
+    (
+        "check|--resume|--resume|a.vcd",
+        "2 error: the argument '--resume' cannot be used multiple times\nJUDGED\n",
+    ),
+    (
+        "pick|--resume|a.vcd",
+        "2 error: unexpected argument '--resume' found\nJUDGED\n",
+    ),
+    (
         "check|--quiet|10ns|a.vcd",
         "2 error: '--quiet 10ns': this is no number of clocks\na number of clocks may stand there, 1 to 4294967295\n",
     ),
@@ -399,6 +431,16 @@ fn help_lists_each_option(rt: HostRuntime) {
             let told = told(rt.alloc(), row).expect(&rt, "memory");
             assert!(rt; told.as_str().contains(option), "{row} {option}");
         }
+    }
+}
+
+#[test]
+fn help_lists_what_check_alone_offers(rt: HostRuntime) {
+    for option in ["--resume ", "--max <N>"].iter() {
+        let check = told(rt.alloc(), "check|--help").expect(&rt, "memory");
+        assert!(rt; check.as_str().contains(option), "{option}");
+        let pick = told(rt.alloc(), "pick|--help").expect(&rt, "memory");
+        assert!(rt; !pick.as_str().contains(option), "{option}");
     }
 }
 

@@ -1,7 +1,8 @@
 //! What is found of dumps.
 
 use crate::dumps::{HEADER, QUIET, checked, checked_part, joined};
-use scope_check::{Begin, Bound, Judged, Part, Verdict};
+use scope_check::{Begin, Bound, Part, Verdict};
+use scope_parts::PartsFound;
 use scope_watch::{Checked, Finding, ScopeStop};
 use scope_wiring::Cause;
 use vcd_grammar::{VcdCause, VcdFault};
@@ -10,7 +11,7 @@ use vcd_scan::EarlyEnd;
 /// What is found of a text.
 enum Found {
     /// How many clocks it has, which is the first that is judged, how many are, and the first broken rule.
-    Judged(u64, u32, u32, Option<(u64, u8)>),
+    Judged(u64, u64, u64, Option<(u64, u8)>),
     Refused(Cause),
     /// The place of its first fault, and the cause.
     Bad(u64, VcdCause),
@@ -59,7 +60,7 @@ fn is_found(found: &Found, answer: &Result<Checked, ScopeStop>) -> bool {
             Finding::Judged(_, told) => {
                 let judged_now = &told.judged;
                 judged_now.clocks == *clocks
-                    && judged_now.start == *start
+                    && start_of(judged_now) == *start
                     && judged_now.judged == *judged
                     && is_verdict(*judged, *broken, judged_now)
             }
@@ -80,12 +81,23 @@ fn is_found(found: &Found, answer: &Result<Checked, ScopeStop>) -> bool {
     }
 }
 
+/// The first clock that is judged; all of them, where none is.
+fn start_of(found: &PartsFound) -> u64 {
+    match found.first.as_slice().first() {
+        Some(part) => part.start,
+        None => found.clocks,
+    }
+}
+
 /// Whether the verdict on so many judged clocks says this.
-fn is_verdict(judged: u32, broken: Option<(u64, u8)>, answer: &Judged) -> bool {
-    match answer.verdict {
-        Verdict::Nothing => broken.is_none() && judged == 0,
-        Verdict::Accepted => broken.is_none() && judged != 0,
-        Verdict::Broken { clock, rule, .. } => broken == Some((clock, rule)),
+fn is_verdict(judged: u64, broken: Option<(u64, u8)>, answer: &PartsFound) -> bool {
+    match answer.first.as_slice().first() {
+        None => broken.is_none() && judged == 0,
+        Some(part) => match part.verdict {
+            Verdict::Nothing => false,
+            Verdict::Accepted => broken.is_none() && judged != 0,
+            Verdict::Broken { clock, rule, .. } => broken == Some((clock, rule)),
+        },
     }
 }
 
@@ -103,7 +115,7 @@ fn findings_whatever_the_pieces(rt: HostRuntime) {
 
 /// Parts of a dump of three clocks, the first of unknown lines and the others quiet, and of each which clock is the first
 /// that is judged, and how many are. Without one all three lie before the part.
-static PARTS: [(Begin, Option<Bound>, u32, u32); 13] = [
+static PARTS: [(Begin, Option<Bound>, u64, u64); 13] = [
     (Begin::Known, Some(Bound::Clock(1)), 1, 1),
     (Begin::Known, Some(Bound::Clock(0)), 3, 0),
     (Begin::At(Bound::Clock(1)), None, 1, 2),
@@ -134,7 +146,7 @@ fn parts_begin_and_end_where_they_say(rt: HostRuntime) {
         match &checked.finding {
             Finding::Judged(_, told) => {
                 assert!(rt; told.judged.clocks == 3);
-                assert!(rt; told.judged.start == *start, "{part:?}");
+                assert!(rt; start_of(&told.judged) == *start, "{part:?}");
                 assert!(rt; told.judged.judged == *judged, "{part:?}");
             }
             Finding::Refused(_) => assert!(rt; false),

@@ -2,6 +2,7 @@
 
 use fsb_io::MemSource;
 use scope_check::Part;
+use scope_parts::Plan;
 use scope_watch::{Checked, Sampling, ScopeStop, check_dump};
 use scope_wiring::Choice;
 use std::alloc::Global;
@@ -45,6 +46,15 @@ pub(crate) const QUIET: &str = "
 #30
 0a
 ";
+
+/// This part first, and behind a broken rule nothing.
+pub(crate) fn once(first: Part) -> Plan {
+    Plan {
+        first,
+        quiet: 2,
+        most: 1,
+    }
+}
 
 /// The text of some parts, one behind the other.
 pub(crate) fn joined(alloc: Global, parts: &[&str]) -> Result<Vec<u8>, ScopeStop> {
@@ -97,7 +107,7 @@ pub(crate) fn checked_part(
         &mut source,
         &mut room,
         &choice,
-        part,
+        once(part),
         rising(alloc),
     )
 }

@@ -4,7 +4,8 @@ use Rattle.std.specs.Fmt.{decimal}
 use Rattle.vcd_course.specs.declared.event.Stamp.{Stamp}
 use Rattle.scope_check.specs.declared.finding.Verdict.{Verdict}
 use Rattle.scope_check.specs.declared.finding.Verdict.TheVariants as verdicts
-use Rattle.scope_check.specs.declared.finding.Judged.{Judged}
+use Rattle.scope_parts.specs.declared.finding.PartsFound.{PartsFound}
+use Rattle.scope_report.specs.Endings.{verdict_over}
 
 -- where a stamp stands, behind its time: `, <time> (line <line> of the file)`; nothing where there is none
 abbrev pub place_text : List ℕ → Option Stamp → List ℕ
@@ -20,6 +21,10 @@ clock_text clock time stamp = codes "rejected at clock " ++ decimal clock ++ pla
 abbrev pub rule_text : ℕ → List ℕ → List ℕ
 rule_text rule title = codes ": rule " ++ decimal rule ++ codes ", " ++ title
 
+-- what is broken, and where
+abbrev pub broken_text : ℕ → List ℕ → Option Stamp → ℕ → List ℕ → List ℕ
+broken_text clock time stamp rule title = clock_text clock time stamp ++ rule_text rule title
+
 -- a verdict on so many judged clocks, where the time of the broken clock and the title of the rule have these texts:
 -- `accepted: <judged> of <clocks> clocks judged`, or
 -- `rejected at clock <clock>, <time> (line <line> of the file): rule <rule>, <title>`
@@ -28,8 +33,8 @@ verdict_in judged clocks time title verdicts.Nothing = codes "nothing could be j
 verdict_in judged clocks time title verdicts.Accepted =
     codes "accepted: " ++ decimal judged ++ codes " of " ++ decimal clocks ++ codes " clocks judged"
 verdict_in judged clocks time title (verdicts.Broken clock rule stamp) =
-    clock_text clock time stamp ++ rule_text rule title
+    broken_text clock time stamp rule title
 
--- the verdict on what was judged
-unfoldable pub verdict_text : Judged → List ℕ → List ℕ → List ℕ
-verdict_text j time title = verdict_in j.judged j.clocks time title j.verdict
+-- the verdict on all parts of a dump
+unfoldable pub verdict_text : PartsFound → List ℕ → List ℕ → List ℕ
+verdict_text f time title = verdict_in f.judged f.clocks time title (verdict_over f)

@@ -62,3 +62,15 @@ pub fn unread_text(alloc: Global, file: &str, reason: &str) -> Result<Vec<u8>, A
     put(&mut text, "\n")?;
     Ok(text)
 }
+
+/// A dump of which a part is named by a time, and whose header does not say how long a step of its time is.
+pub fn unscaled_text(alloc: Global, file: &str) -> Result<Vec<u8>, AllocError> {
+    let mut text = named(alloc, file)?;
+    put(&mut text, UNSCALED)?;
+    Ok(text)
+}
+
+const UNSCALED: &str = "\
+: a time is named, and the header has no $timescale of 1, 10 or 100 s, ms, us, ns, ps or fs
+--at, --from and --to also take the number of a clock, as 1200
+";

@@ -6,22 +6,23 @@
 //!
 //! The line of a verdict has its text in `specs/`; the other texts are tested, in rows_reports.
 //!
-//! Next: scope_wiring and scope_check, whose answers these are.
+//! Next: scope_wiring and scope_parts, whose answers these are.
 #![tactic(auto)]
 
 pub use check::check_text;
 pub use ending::{Ending, ending_of, status};
-pub use fault::{fault_text, limit_text, unread_text};
+pub use fault::{fault_text, limit_text, unread_text, unscaled_text};
 pub use lines::lines_text;
 pub use refusal::refusal_text;
 pub use rules::{rule_list, rule_text};
-pub use scale::Scale;
-pub use verdict::put_verdict;
+pub use verdict::{put_verdict, verdict_over};
 
 mod check;
 mod ending;
 mod fault;
 mod lines;
+mod notices;
+mod parts;
 mod refusal;
 mod rules;
 mod scale;

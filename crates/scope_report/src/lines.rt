@@ -1,10 +1,11 @@
 //! What a dump declares.
 
 use crate::refusal::put_cause;
-use crate::scale::{Scale, put_time};
+use crate::scale::put_time;
 use crate::scopes::Heading;
 use crate::text::{put, put_bytes, put_count, put_scope};
 use scope_pick::{Named, Variable};
+use scope_time::{Scale, scale_of};
 use scope_wiring::{Choice, Home, Picking, found_count, heads};
 use std::alloc::{AllocError, Global};
 use vcd_header::Section;
@@ -21,7 +22,7 @@ pub fn lines_text(
     picking: &Picking,
 ) -> Result<Vec<u8>, AllocError> {
     let heading = Heading::new(alloc, variables)?;
-    let scale = Scale::of(alloc, remarks)?;
+    let scale = scale_of(alloc, remarks)?;
     let mut text = Vec::new(alloc);
     put_bytes(&mut text, file.as_bytes())?;
     put(&mut text, ": ")?;

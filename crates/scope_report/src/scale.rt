@@ -1,64 +1,13 @@
 //! The times of a dump.
 
 use crate::text::{put, put_number};
-use scope_pick::index_in;
+use scope_time::{Scale, factor_of};
+use scope_words::Unit;
 use std::alloc::{AllocError, Global};
-use vcd_header::Section;
+use vcd_course::Stamp;
 
 /// Units of time, each a thousand of the next.
 const UNITS: [&str; 6] = ["s", "ms", "us", "ns", "ps", "fs"];
-
-/// What one step of a dump's time stamps is.
-#[derive(Clone, Copy, Debug, PartialEq, Eq)]
-pub struct Scale {
-    factor: u64,
-    /// The place of the unit, from seconds on.
-    unit: usize,
-}
-
-impl Scale {
-    /// What the first `$timescale` of a header says; `None` where there is none or it says nothing.
-    pub fn of(alloc: Global, remarks: &[Section]) -> Result<Option<Scale>, AllocError> {
-        match remarks.iter().position(|remark| is_scale(remark)) {
-            None => Ok(None),
-            Some(place) => scale_at(alloc, remarks.get(place)),
-        }
-    }
-}
-
-fn is_scale(remark: &Section) -> bool {
-    remark.keyword.as_slice() == b"$timescale".as_slice()
-}
-
-fn scale_at(alloc: Global, remark: Option<&Section>) -> Result<Option<Scale>, AllocError> {
-    match remark {
-        None => Ok(None),
-        Some(remark) => {
-            let words = joined(alloc, &remark.words)?;
-            Ok(scale_in(&words))
-        }
-    }
-}
-
-fn joined(alloc: Global, words: &[Vec<u8>]) -> Result<Vec<u8>, AllocError> {
-    let mut text = Vec::new(alloc);
-    for word in words {
-        text.extend_from_slice(word)?;
-    }
-    Ok(text)
-}
-
-fn scale_in(word: &[u8]) -> Option<Scale> {
-    let place = word.iter().position(|byte| *byte < 48 || 57 < *byte)?;
-    let factor = index_in(&word[..place])?;
-    let unit = UNITS
-        .iter()
-        .position(|unit| unit.as_bytes() == &word[place..])?;
-    Some(Scale {
-        factor: u64::from(factor),
-        unit,
-    })
-}
 
 /// Appends a time in the largest unit in which it is whole; without a scale its number alone.
 pub(crate) fn put_time(
@@ -68,10 +17,38 @@ pub(crate) fn put_time(
 ) -> Result<(), AllocError> {
     match scale {
         None => put_steps(text, time),
-        Some(scale) => match time.checked_mul(scale.factor) {
+        Some(scale) => match time.checked_mul(factor_of(scale.factor)) {
             None => put_steps(text, time),
-            Some(count) => put_scaled(text, count, scale.unit),
+            Some(count) => put_scaled(text, count, place_of(scale.unit)),
         },
+    }
+}
+
+/// The time of a stamp, as text.
+pub(crate) fn time_of(
+    alloc: Global,
+    stamp: Option<Stamp>,
+    scale: Option<Scale>,
+) -> Result<Vec<u8>, AllocError> {
+    let mut time = Vec::new(alloc);
+    match stamp {
+        None => Ok(time),
+        Some(stamp) => {
+            put_time(&mut time, stamp.time, scale)?;
+            Ok(time)
+        }
+    }
+}
+
+// The place of a unit, from seconds on.
+fn place_of(unit: Unit) -> usize {
+    match unit {
+        Unit::Second => 0,
+        Unit::Millisecond => 1,
+        Unit::Microsecond => 2,
+        Unit::Nanosecond => 3,
+        Unit::Picosecond => 4,
+        Unit::Femtosecond => 5,
     }
 }
 

@@ -1,12 +1,17 @@
 -- What is found of a dump, from what was read of it.
-use Rattle.std.proofs.Common.{◌≡◌, ℕ, ◌⊎◌, inl, inr, List, [], ◌++◌, length, Result, Err, sym, ap, subst, ◌∙◌, append_assoc, append-nil}
+use Rattle.std.proofs.Common.{◌≡◌, ℕ, ◌⊎◌, inl, inr, List, [], ◌++◌, length, Option, None, Result, Ok, Err, IfOk, IfErr, option_map, sym, ap, subst, ◌∙◌, append_assoc, append-nil}
 use Rattle.fsb_signal.specs.declared.marks.Marks.{Marks}
 use Rattle.vcd_grammar.specs.Tokens.{tokens_so_far, tokens_from, open_run, ended_at}
 use Rattle.vcd_way.specs.Declarations.{Declaration}
 use Rattle.vcd_way.specs.Ways.{ValueRules, Way}
-use Rattle.vcd_way.specs.Events.{DumpEvent}
+use Rattle.vcd_way.specs.Answers.{first_fault_by, early_end_by, events_by}
+use Rattle.vcd_way.specs.Events.{DumpEvent, samples_among}
+use Rattle.vcd_scan.specs.declared.early.EarlyEnd.{EarlyEnd}
+use Rattle.vcd_scan.specs.Ending.{early_told}
+use Rattle.scope_ring.specs.Ring.{FedFirst}
 use Rattle.vcd_way.proofs.Interface.{tokens_longer}
-use Rattle.scope_check.specs.declared.part.Part.{Part}
+use Rattle.scope_parts.specs.declared.plan.Plan.{Plan}
+use Rattle.scope_parts.specs.Findings.{IsJudgedInParts}
 use Rattle.scope_wiring.specs.declared.wiring.Choice.{Choice}
 use Rattle.scope_wiring.specs.declared.wiring.Wiring.{Wiring}
 use Rattle.scope_way.specs.Wired.{wired_way}
@@ -57,35 +62,56 @@ declares-of m b text left h = by h.stands.place
 
 -- ---- stops
 
-pub judged-stop : (stop : ScopeStop) (seen : List DumpEvent → Type 0) (part : Part) (marks : Marks)
+pub judged-stop : (stop : ScopeStop) (seen : List DumpEvent → Type 0) (plan : Plan) (marks : Marks)
     (way : Way (List Declaration)) (text : List ℕ) → IsWatched (Err stop) seen way text
-    → IsJudgedAs (Err stop) part marks way text
-judged-stop (stops.Bad fault) seen part marks way text h = h
-judged-stop stops.ReadFault seen part marks way text h = tt
-judged-stop stops.TooLong seen part marks way text h = h
-judged-stop stops.TooMany seen part marks way text h = tt
-judged-stop stops.WriteFault seen part marks way text h = tt
-judged-stop stops.Memory seen part marks way text h = tt
+    → IsJudgedAs (Err stop) plan marks way text
+judged-stop (stops.Bad fault) seen plan marks way text h = h
+judged-stop stops.ReadFault seen plan marks way text h = tt
+judged-stop stops.TooLong seen plan marks way text h = h
+judged-stop stops.TooMany seen plan marks way text h = tt
+judged-stop stops.WriteFault seen plan marks way text h = tt
+judged-stop stops.Memory seen plan marks way text h = tt
 
-pub checked-header : (stop : ScopeStop) (choice : Choice) (part : Part) (s : Sampling) (text left : List ℕ)
-    → IsHeaded (Err stop) text left → IsChecked (Err stop) choice part s text
-checked-header (stops.Bad fault) choice part s text left h = inl h
-checked-header stops.ReadFault choice part s text left h = tt
-checked-header stops.TooLong choice part s text left h = h
-checked-header stops.TooMany choice part s text left h = tt
-checked-header stops.WriteFault choice part s text left h = tt
-checked-header stops.Memory choice part s text left h = tt
+-- what a judge tells at the end of a text
+pub judged-told : (answer : Result JudgedText ScopeStop) (plan : Plan) (marks : Marks) (way : Way (List Declaration))
+    (text : List ℕ) (early : Option EarlyEnd) → first_fault_by way text ≡ None
+    → option_map early_told early ≡ early_end_by way text
+    → IfOk answer (λ told. IsJudgedInParts told.judged plan marks (events_by way text)
+    × (told.early_end ≡ early) × FedFirst told.last (samples_among (events_by way text)))
+    → IfErr answer (λ stop. stop ≡ stops.TooMany) → IsJudgedAs answer plan marks way text
+judged-told (Ok told) plan marks way text early none end h e = record {
+  none = none;
+  found = h.0;
+  early_end = ap (option_map early_told) h.1 ∙ end;
+  last = h.2;
+}
+judged-told (Err stop) plan marks way text early none end h e =
+    subst (λ x. IsJudgedAs (Err x) plan marks way text) (sym e) tt
 
-pub checked-values : (stop : ScopeStop) (choice : Choice) (part : Part) (s : Sampling) (h : Header) (w : Wiring)
+pub not-read : (answer : Result JudgedText ScopeStop) → IfErr answer (λ stop. stop ≡ stops.TooMany)
+    → answer ≡ Err stops.ReadFault → ⊥
+not-read (Ok told) h e = cc
+not-read (Err stop) h e = cc
+
+pub checked-header : (stop : ScopeStop) (choice : Choice) (plan : Plan) (s : Sampling) (text left : List ℕ)
+    → IsHeaded (Err stop) text left → IsChecked (Err stop) choice plan s text
+checked-header (stops.Bad fault) choice plan s text left h = inl h
+checked-header stops.ReadFault choice plan s text left h = tt
+checked-header stops.TooLong choice plan s text left h = h
+checked-header stops.TooMany choice plan s text left h = tt
+checked-header stops.WriteFault choice plan s text left h = tt
+checked-header stops.Memory choice plan s text left h = tt
+
+pub checked-values : (stop : ScopeStop) (choice : Choice) (plan : Plan) (s : Sampling) (h : Header) (w : Wiring)
     (marks : Marks) (text : List ℕ) → IsWiredBy choice s h w text
-    → IsJudgedAs (Err stop) part marks (wired_way w.wires.items (rules_for s)) text → IsChecked (Err stop) choice part s text
-checked-values (stops.Bad fault) choice part s h w marks text wired e =
+    → IsJudgedAs (Err stop) plan marks (wired_way w.wires.items (rules_for s)) text → IsChecked (Err stop) choice plan s text
+checked-values (stops.Bad fault) choice plan s h w marks text wired e =
     inr (record { header = h; wiring = w; wired = wired; fault_is = e })
-checked-values stops.ReadFault choice part s h w marks text wired e = tt
-checked-values stops.TooLong choice part s h w marks text wired e = e
-checked-values stops.TooMany choice part s h w marks text wired e = tt
-checked-values stops.WriteFault choice part s h w marks text wired e = tt
-checked-values stops.Memory choice part s h w marks text wired e = tt
+checked-values stops.ReadFault choice plan s h w marks text wired e = tt
+checked-values stops.TooLong choice plan s h w marks text wired e = e
+checked-values stops.TooMany choice plan s h w marks text wired e = tt
+checked-values stops.WriteFault choice plan s h w marks text wired e = tt
+checked-values stops.Memory choice plan s h w marks text wired e = tt
 
 -- ---- the wires
 
@@ -105,8 +131,8 @@ taken-by choice s b text left bus h k =
     h.shows.variables
 
 -- the same with the marks and the way of the wires
-pub judged-by : (answer : Result JudgedText ScopeStop) (part : Part) (marks known : Marks) (way wired : Way (List Declaration))
-    (text : List ℕ) → marks ≡ known → wired ≡ way → IsJudgedAs answer part marks way text
-    → IsJudgedAs answer part known wired text
-judged-by answer part marks known way wired text e f h =
-    subst (λ x. IsJudgedAs answer part x wired text) e (subst (λ x. IsJudgedAs answer part marks x text) (sym f) h)
+pub judged-by : (answer : Result JudgedText ScopeStop) (plan : Plan) (marks known : Marks) (way wired : Way (List Declaration))
+    (text : List ℕ) → marks ≡ known → wired ≡ way → IsJudgedAs answer plan marks way text
+    → IsJudgedAs answer plan known wired text
+judged-by answer plan marks known way wired text e f h =
+    subst (λ x. IsJudgedAs answer plan x wired text) e (subst (λ x. IsJudgedAs answer plan marks x text) (sym f) h)

@@ -1,16 +1,11 @@
 -- The clocks of a dump that was judged.
-use Rattle.std.proofs.Common.{◌≡◌, ◌∙◌, ◌+◌, ◌++◌, ◌∷◌, [], List, Option, length, refl, ap, arith, append-nil}
-use Rattle.std.proofs.lemmas.List.{length-append}
-use Rattle.fsb_signal.specs.declared.marks.Marks.{Marks}
+use Rattle.std.proofs.Common.{◌≡◌, ◌∙◌, ◌++◌, ◌∷◌, [], List, Option, refl, ap, arith, append-nil}
 use Rattle.fsb_signal.specs.declared.sample.Sample.{Sample}
 use Rattle.vcd_way.specs.Pieces.{Stamp}
 use Rattle.vcd_way.specs.Events.{DumpEvent, Sampled, Hole, Resumed, samples_among}
 use Rattle.vcd_course.specs.declared.event.Told.{Told}
 use Rattle.vcd_course.specs.declared.event.Told.TheVariants as told
 use Rattle.vcd_course.specs.Told.{told_with}
-use Rattle.scope_check.specs.declared.finding.Judged.{Judged}
-use Rattle.scope_check.specs.declared.part.Part.{Part}
-use Rattle.scope_check.specs.Findings.{IsFoundIn}
 use Rattle.scope_ring.specs.declared.ring.Ring.{Ring}
 use Rattle.scope_ring.specs.Ring.{Stands, FedFirst}
 
@@ -44,17 +39,6 @@ told-hole a t es e = ap (λ x. samples_among (es ++ told_with x t ∷ [])) e ∙
 pub told-resumed : (a : Told) (t : Option Stamp) (es : List DumpEvent) → a ≡ told.Resumed
     → samples_among (es ++ told_with a t ∷ []) ≡ samples_among es
 told-resumed a t es e = ap (λ x. samples_among (es ++ told_with x t ∷ [])) e ∙ samples-resumed es t
-
--- a dump has as many clocks as samples
-pub clocks-counted : (f : Judged) (p : Part) (m : Marks) (es : List DumpEvent) → IsFoundIn f p m es
-    → f.clocks ≡ length (samples_among es)
-clocks-counted f p m es h =
-    let whole : samples_among es ≡ (samples_among h.before ++ samples_among h.part) ++ samples_among h.behind =
-    ap samples_among h.parted.whole ∙ samples_among-append (h.before ++ h.part) h.behind
-    ∙ ap (λ x. x ++ samples_among h.behind) (samples_among-append h.before h.part) in
-    let size = ap length whole ∙ length-append (samples_among h.before ++ samples_among h.part) (samples_among h.behind)
-    ∙ ap (λ n. n + length (samples_among h.behind)) (length-append (samples_among h.before) (samples_among h.part)) in
-    omega (arith, size, h.clocks, h.start, h.judged)
 
 -- a new ring was fed none of no samples
 pub fed-none : (ring : Ring) → Stands ring [] → FedFirst ring []

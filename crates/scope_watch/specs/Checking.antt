@@ -15,8 +15,8 @@ use Rattle.scope_wiring.specs.declared.wiring.Wiring.{Wiring}
 use Rattle.scope_wiring.specs.declared.wiring.Picking.TheVariants as pickings
 use Rattle.scope_wiring.specs.Pickings.{IsPicking}
 use Rattle.scope_way.specs.Wired.{wired_way, wired_lines}
-use Rattle.scope_check.specs.declared.part.Part.{Part}
-use Rattle.scope_check.specs.Findings.{IsFoundIn}
+use Rattle.scope_parts.specs.declared.plan.Plan.{Plan}
+use Rattle.scope_parts.specs.Findings.{IsJudgedInParts}
 use Rattle.scope_ring.specs.Ring.{FedFirst}
 use Rattle.scope_watch.specs.declared.stop.ScopeStop.{ScopeStop}
 use Rattle.scope_watch.specs.declared.stop.ScopeStop.TheVariants as stops
@@ -29,23 +29,23 @@ use Rattle.scope_watch.specs.declared.check.Finding.TheVariants as findings
 use Rattle.scope_watch.specs.Heading.{Shows, IsHeaderFault}
 use Rattle.scope_watch.specs.Watching.{rules_for}
 
--- a whole text, read in a way, has no fault; this is the verdict on this part of its events, with these marks, and
--- this its early end, if it has one; these samples were fed to the ring one after another from clock 0 on
-pub record IsJudgedText (told : JudgedText) (part : Part) (marks : Marks) (way : Way (List Declaration)) (text : List ℕ) : Type 0 where
+-- a whole text, read in a way, has no fault; this is found of its events, parted so, with these marks, and this is its
+-- early end, if it has one; these samples were fed to the ring one after another from clock 0 on
+pub record IsJudgedText (told : JudgedText) (plan : Plan) (marks : Marks) (way : Way (List Declaration)) (text : List ℕ) : Type 0 where
   pub none : first_fault_by way text ≡ None
-  pub found : IsFoundIn told.judged part marks (events_by way text)
+  pub found : IsJudgedInParts told.judged plan marks (events_by way text)
   pub early_end : option_map early_told told.early_end ≡ early_end_by way text
   pub last : FedFirst told.last (samples_among (events_by way text))
 
--- what is judged of this part of a whole text, read in a way, with these marks
-abbrev pub IsJudgedAs : Result JudgedText ScopeStop → Part → Marks → Way (List Declaration) → List ℕ → Type 0
-IsJudgedAs (Ok told) part marks way text = IsJudgedText told part marks way text
-IsJudgedAs (Err (stops.Bad fault)) part marks way text = first_fault_by way text ≡ Some fault
-IsJudgedAs (Err stops.TooLong) part marks way text = 2 ^ 40 < length text
-IsJudgedAs (Err stops.TooMany) part marks way text = Unit {0}
-IsJudgedAs (Err stops.WriteFault) part marks way text = Unit {0}
-IsJudgedAs (Err stops.Memory) part marks way text = Unit {0}
-IsJudgedAs (Err stops.ReadFault) part marks way text = Unit {0}
+-- what is judged of a whole text, read in a way and parted so, with these marks
+abbrev pub IsJudgedAs : Result JudgedText ScopeStop → Plan → Marks → Way (List Declaration) → List ℕ → Type 0
+IsJudgedAs (Ok told) plan marks way text = IsJudgedText told plan marks way text
+IsJudgedAs (Err (stops.Bad fault)) plan marks way text = first_fault_by way text ≡ Some fault
+IsJudgedAs (Err stops.TooLong) plan marks way text = 2 ^ 40 < length text
+IsJudgedAs (Err stops.TooMany) plan marks way text = Unit {0}
+IsJudgedAs (Err stops.WriteFault) plan marks way text = Unit {0}
+IsJudgedAs (Err stops.Memory) plan marks way text = Unit {0}
+IsJudgedAs (Err stops.ReadFault) plan marks way text = Unit {0}
 
 -- the header of the text declares these variables and has these sections
 pub record Declares (m : ValueRules) (h : Header) (text : List ℕ) : Type 0 where
@@ -60,14 +60,14 @@ pub record IsWiredBy (choice : Choice) (s : Sampling) (h : Header) (w : Wiring) 
   pub declares : Declares (rules_for s) h text
   pub picked : IsPicking h.variables.items choice (pickings.Wired w)
 
--- what is found of a text with this header: why its wires are not picked, or the verdict on this part of
+-- what is found of a text with this header: why its wires are not picked, or the verdicts on the parts of
 -- the samples of the wires
-abbrev pub IsFinding : Finding → Choice → Part → Sampling → Header → List ℕ → Type 0
-IsFinding (findings.Refused refusal) choice part s h text =
+abbrev pub IsFinding : Finding → Choice → Plan → Sampling → Header → List ℕ → Type 0
+IsFinding (findings.Refused refusal) choice plan s h text =
     Declares (rules_for s) h text × IsPicking h.variables.items choice (pickings.Refused refusal)
-IsFinding (findings.Judged w told) choice part s h text =
+IsFinding (findings.Judged w told) choice plan s h text =
     IsWiredBy choice s h w text
-    × IsJudgedAs (Ok told) part (marks_of_lines (wired_lines w.wires.items)) (wired_way w.wires.items (rules_for s)) text
+    × IsJudgedAs (Ok told) plan (marks_of_lines (wired_lines w.wires.items)) (wired_way w.wires.items (rules_for s)) text
 
 -- the first fault of a text behind a header of which these wires are picked
 pub record IsFaultBehind (choice : Choice) (s : Sampling) (text : List ℕ) (fault : VcdFault) : Type 0 where
@@ -77,11 +77,11 @@ pub record IsFaultBehind (choice : Choice) (s : Sampling) (text : List ℕ) (fau
   pub fault_is : first_fault_by (wired_way wiring.wires.items (rules_for s)) text ≡ Some fault
 
 -- what is answered of a text: a fault is one in its header, or the first one in the way of the wires that are picked
-abbrev pub IsChecked : Result Checked ScopeStop → Choice → Part → Sampling → List ℕ → Type 0
-IsChecked (Ok checked) choice part s text = IsFinding checked.finding choice part s checked.header text
-IsChecked (Err (stops.Bad fault)) choice part s text = IsHeaderFault text fault ⊎ IsFaultBehind choice s text fault
-IsChecked (Err stops.TooLong) choice part s text = 2 ^ 40 < length text
-IsChecked (Err stops.TooMany) choice part s text = Unit {0}
-IsChecked (Err stops.WriteFault) choice part s text = Unit {0}
-IsChecked (Err stops.Memory) choice part s text = Unit {0}
-IsChecked (Err stops.ReadFault) choice part s text = Unit {0}
+abbrev pub IsChecked : Result Checked ScopeStop → Choice → Plan → Sampling → List ℕ → Type 0
+IsChecked (Ok checked) choice plan s text = IsFinding checked.finding choice plan s checked.header text
+IsChecked (Err (stops.Bad fault)) choice plan s text = IsHeaderFault text fault ⊎ IsFaultBehind choice s text fault
+IsChecked (Err stops.TooLong) choice plan s text = 2 ^ 40 < length text
+IsChecked (Err stops.TooMany) choice plan s text = Unit {0}
+IsChecked (Err stops.WriteFault) choice plan s text = Unit {0}
+IsChecked (Err stops.Memory) choice plan s text = Unit {0}
+IsChecked (Err stops.ReadFault) choice plan s text = Unit {0}

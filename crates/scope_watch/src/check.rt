@@ -1,5 +1,5 @@
 //! The check of a dump: its events are judged as they come.
-ghost use Rattle.std.specs.Prelude.{◌≡◌, ◌≤◌, ◌<◌, ◌++◌, ◌∷◌, ℕ, List, [], Err, Some, IsTrue, OnOk, length};
+ghost use Rattle.std.specs.Prelude.{◌≡◌, ◌≤◌, ◌<◌, ◌++◌, ◌∷◌, ℕ, List, [], Err, Some, IsTrue, IfOk, IfErr, OnOk, length};
 ghost use Rattle.fsb_io.specs.Faults.{Rose};
 ghost use Rattle.vcd_grammar.specs.Tokens.{Token};
 ghost use Rattle.vcd_way.specs.Events.{DumpEvent, samples_among};
@@ -7,7 +7,11 @@ ghost use Rattle.vcd_course.specs.Told.{event_told};
 ghost use Rattle.vcd_scan.specs.Wired.{wires_told};
 ghost use Rattle.vcd_joined.specs.Behind.{gathered_in};
 ghost use Rattle.vcd_joined.specs.Choosing.{Choice as Taking, choosing, IsTaken};
+ghost use Rattle.scope_parts.specs.declared.plan.Plan.{Plan};
+ghost use Rattle.scope_parts.specs.Findings.{IsJudgedInParts};
+ghost use Rattle.scope_parts.specs.Standing.{Stands};
 ghost use Rattle.scope_ring.specs.Ring.{FedFirst};
+ghost use Rattle.fsb_signal.specs.declared.marks.Marks.{Marks};
 ghost use Rattle.scope_watch.specs.Heading.{IsReady, StandsBehind};
 ghost use Rattle.scope_watch.specs.Watching.{rules_for};
 ghost use Rattle.scope_watch.specs.Checking.{IsJudgedAs, IsChecked};
@@ -20,7 +24,7 @@ use crate::values::{Sampling, watch_values};
 use crate::watcher::EventWatcher;
 use fsb_io::Source;
 use fsb_signal::Marks;
-use scope_check::{Judged, Judging, Part, TooMany, Verdict};
+use scope_parts::{PartsFound, PartsJudge, Plan, TooMany};
 use scope_ring::Ring;
 use scope_wiring::{Choice, Refusal, Wiring};
 use std::alloc::Global;
@@ -31,10 +35,10 @@ use vcd_scan::{EarlyEnd, Wires};
 /// What was judged of a dump.
 #[derive(Debug, Drop)]
 pub struct JudgedText {
-    pub judged: Judged,
+    pub judged: PartsFound,
     /// The end of a dump that ends early: what is whole before it was judged.
     pub early_end: Option<EarlyEnd>,
-    /// The last samples up to two clocks behind the broken one; without one, up to the end.
+    /// The last samples up to two clocks behind the first broken one; without one, up to the end.
     pub last: Ring,
 }
 
@@ -54,33 +58,33 @@ pub struct Checked {
     pub finding: Finding,
 }
 
-/// The judge of the events of a dump with these marks, of which this part is judged.
+/// The judge of the events of a dump with these marks, parted so.
 #[derive(Drop)]
 struct Judge {
-    judging: Judging,
-    part: Part,
+    judging: PartsJudge,
+    plan: Plan,
     marks: Marks,
     last: Ring,
 }
 
 /// How many clocks are kept up to two behind a broken one.
-fn end_of(verdict: &Verdict) -> u64 {
-    match verdict {
-        Verdict::Broken { clock, .. } => clock.saturating_add(3),
-        Verdict::Nothing | Verdict::Accepted => u64::MAX,
+fn end_of(fault: Option<u64>) -> u64 {
+    match fault {
+        Some(clock) => clock.saturating_add(3),
+        None => u64::MAX,
     }
 }
 
-/// Shows the ring the next event of a dump, up to which this was judged.
-fn keep(last: &mut Ring, event: &CourseEvent, judged: &Judged)
+/// Shows the ring the next event of a dump, which has so many clocks up to it, and maybe a broken one.
+fn keep(last: &mut Ring, event: &CourseEvent, clocks: u64, fault: Option<u64>)
     requires { (es : List DumpEvent) × FedFirst last.old (samples_among es)
-        × (judged.now.clocks ≡ length (samples_among (es ++ event_told event.now ∷ []))) }
+        × (clocks ≡ length (samples_among (es ++ event_told event.now ∷ []))) }
     ensures { (es : List DumpEvent) → FedFirst last.old (samples_among es) →
-        judged.now.clocks ≡ length (samples_among (es ++ event_told event.now ∷ [])) →
+        clocks ≡ length (samples_among (es ++ event_told event.now ∷ [])) →
         FedFirst last.new (samples_among (es ++ event_told event.now ∷ [])) }
 {
     match event.told {
-        Told::Sampled(sample) => last.follow(&sample, judged.clocks, end_of(&judged.verdict)),
+        Told::Sampled(sample) => last.follow(&sample, clocks, end_of(fault)),
         Told::Hole => {}
         Told::Resumed => {}
     }
@@ -88,16 +92,18 @@ fn keep(last: &mut Ring, event: &CourseEvent, judged: &Judged)
 
 impl EventWatcher for Judge {
     ghost use Rattle.vcd_way.specs.Events.{samples_among};
-    ghost use Rattle.scope_check.specs.Standing.{Stands};
+    ghost use Rattle.scope_parts.specs.Standing.{Stands};
     ghost use Rattle.scope_ring.specs.Ring.{FedFirst};
 
-    ghost has_seen = { λ first now events. Stands now.judging first.part first.marks events
+    ghost has_seen = { λ first now events. Stands now.judging first.plan first.marks events
         × FedFirst now.last (samples_among events) };
 
     fn see(&mut self, event: &CourseEvent) -> Result<(), WatchStop> {
         match self.judging.take(event) {
             Ok(()) => {
-                keep(&mut self.last, event, &self.judging.judged());
+                let clocks = self.judging.clocks();
+                let fault = self.judging.first_fault();
+                keep(&mut self.last, event, clocks, fault);
                 Ok(())
             }
             Err(TooMany) => Err(WatchStop::TooMany),
@@ -105,8 +111,27 @@ impl EventWatcher for Judge {
     }
 }
 
-/// Reads on behind a header to the end of the source, and judges this part of the values of the wires, which have these
-/// marks.
+/// What was judged of a dump with this end.
+fn told_of(judge: Judge, early_end: Option<EarlyEnd>) -> Result<JudgedText, ScopeStop>
+    ensures told { (p : Plan) (m : Marks) (es : List DumpEvent) → Stands judge.judging p m es →
+        FedFirst judge.last (samples_among es) →
+        IfOk result (λ told. IsJudgedInParts told.judged p m es
+        × (told.early_end ≡ early_end) × FedFirst told.last (samples_among es)) }
+    ensures stop { IfErr result (λ stop. stop ≡ ScopeStop.TooMany) }
+{
+    let last = judge.last;
+    match judge.judging.found() {
+        Ok(judged) => Ok(JudgedText {
+            judged,
+            early_end,
+            last,
+        }),
+        Err(TooMany) => Err(ScopeStop::TooMany),
+    }
+}
+
+/// Reads on behind a header to the end of the source, and judges the values of the wires, which have these marks, part by
+/// part.
 pub fn judge_values<S: Source>(
     alloc: Global,
     source: &mut S,
@@ -114,7 +139,7 @@ pub fn judge_values<S: Source>(
     behind: Behind,
     wires: Wires,
     marks: Marks,
-    part: Part,
+    plan: Plan,
     sampling: Sampling,
 ) -> Result<JudgedText, ScopeStop>
     requires some { 0 < length room.old }
@@ -122,7 +147,7 @@ pub fn judge_values<S: Source>(
     ensures judged { IsTrue S.tells → (c : Taking) (ts : List Token) (text : List ℕ) →
         StandsBehind (rules_for sampling) behind ts text (S.left source.old) →
         IsTaken c (gathered_in (rules_for sampling) ts).header (wires_told wires) →
-        IsJudgedAs result part marks (choosing c (rules_for sampling)) text }
+        IsJudgedAs result plan marks (choosing c (rules_for sampling)) text }
     ensures read_fault { result ≡ Err ScopeStop.ReadFault →
         Rose (S.faults source.old) (S.faults source.new) }
     ensures later { S.faults source.old ≤ S.faults source.new }
@@ -130,22 +155,18 @@ pub fn judge_values<S: Source>(
     ensures holds_stays { IsTrue S.tells → S.holds source.new ≡ S.holds source.old }
 {
     let last = Ring::new(alloc)?;
-    let judging = Judging::new(marks, part);
+    let judging = PartsJudge::new(marks, plan);
     let mut judge = Judge {
         judging,
-        part,
+        plan,
         marks,
         last,
     };
     let early_end = watch_values(alloc, source, room, behind, wires, sampling, &mut judge)?;
-    Ok(JudgedText {
-        judged: judge.judging.judged(),
-        early_end,
-        last: judge.last,
-    })
+    told_of(judge, early_end)
 }
 
-/// Begins the source under the name, picks the wires of the bus in its header, and judges this part of their values. Where
+/// Begins the source under the name, picks the wires of the bus in its header, and judges their values part by part. Where
 /// they are not picked, nothing is read behind the piece in which the header ends.
 pub fn check_dump<S: Source>(
     alloc: Global,
@@ -153,13 +174,13 @@ pub fn check_dump<S: Source>(
     source: &mut S,
     room: &mut [u8],
     choice: &Choice,
-    part: Part,
+    plan: Plan,
     sampling: Sampling,
 ) -> Result<Checked, ScopeStop>
     requires named { length name.now ≤ 4096 }
     requires some { 0 < length room.old }
     ensures checked { IsTrue S.tells →
-        IsChecked result choice.now part sampling (S.holds source.old) }
+        IsChecked result choice.now plan sampling (S.holds source.old) }
     ensures named { IsTrue S.tells → OnOk result (S.begun_as source.new ≡ Some name.now) }
     ensures read_fault { result ≡ Err ScopeStop.ReadFault →
         Rose (S.faults source.old) (S.faults source.new) }
@@ -177,7 +198,7 @@ pub fn check_dump<S: Source>(
             let marks = marks_of(&bus.wiring.wires);
             let behind = begun.behind;
             let wires = bus.wires;
-            let told = judge_values(alloc, source, room, behind, wires, marks, part, sampling)?;
+            let told = judge_values(alloc, source, room, behind, wires, marks, plan, sampling)?;
             Ok(Checked {
                 header: begun.header,
                 finding: Finding::Judged(bus.wiring, told),

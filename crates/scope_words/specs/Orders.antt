@@ -39,11 +39,15 @@ ends_before (Some (Clock begin)) None = false
 ends_before (Some (Clock begin)) (Some (Time count unit)) = false
 ends_before (Some (Clock begin)) (Some (Clock end)) = nat_lt end begin
 
+-- a number of broken rules that may be looked for: 1 to 16
+abbrev pub IsMost : ℕ → Type 0
+IsMost most = (1 ≤ most) × (most ≤ 16)
+
 -- a part begins in one way, and doesn't end before it begins where that is said by numbers of clocks
 abbrev pub KeepsPart : Part → Type 0
 KeepsPart part =
     ((part.at ≡ None) ⊎ (part.from ≡ None)) × (ends_before part.at part.to ≡ false)
-    × (ends_before part.from part.to ≡ false) × (1 ≤ part.quiet)
+    × (ends_before part.from part.to ≡ false) × (1 ≤ part.quiet) × IsMost part.most
 
 -- names have 1 to 4,096 bytes, and a rule is one of 1 to 31
 abbrev pub KeepsLimits : Order → Type 0

@@ -46,7 +46,7 @@ fn moment_at(word: &[u8], place: Option<usize>) -> Option<Moment>
 {
     match place {
         None => clock_with(read_count(word)),
-        Some(place) => time_with(read_number(19, &word[..place]), unit_in(&word[place..])),
+        Some(place) => time_with(read_number(19, &word[..place]), read_unit(&word[place..])),
     }
 }
 
@@ -73,8 +73,9 @@ fn time_with(count: Option<u64>, unit: Option<Unit>) -> Option<Moment>
     }
 }
 
+/// The unit of time that a word is: s, ms, us, ns, ps or fs.
 #[tactic(auto, unfolding(crate::specs::Moments::unit_in))]
-fn unit_in(word: &[u8]) -> Option<Unit>
+pub fn read_unit(word: &[u8]) -> Option<Unit>
     ensures { result ≡ unit_in word.now }
 {
     if word == b"s".as_slice() {

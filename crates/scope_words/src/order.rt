@@ -59,4 +59,6 @@ pub struct Part {
     pub to: Option<Moment>,
     /// How many clocks without an asserted line make a quiet clock.
     pub quiet: u32,
+    /// Up to how many broken rules are looked for, 1 to 16. Without `--resume` it is 1.
+    pub most: u32,
 }

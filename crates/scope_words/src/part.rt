@@ -1,7 +1,7 @@
 //! The part of a dump that an order names.
 
 ghost use Rattle.std.specs.Prelude.{◌≡◌, ◌≤◌, IfOk, IfErr};
-ghost use Rattle.scope_words.specs.Orders.{IsError, KeepsPart, ends_before};
+ghost use Rattle.scope_words.specs.Orders.{IsError, IsMost, KeepsPart, ends_before};
 
 use crate::moment::{Moment, read_moment};
 use crate::number::read_count;
@@ -16,6 +16,9 @@ const CLOCK: &str =
 /// How many clocks without an asserted line make a quiet clock, where the user doesn't say.
 const QUIET: u32 = 32;
 
+/// How many broken rules are looked for with `--resume`, at most and where the user doesn't say.
+const MOST: u32 = 16;
+
 /// The part that the options name.
 pub(crate) fn part_of(alloc: Global, found: &ArgMatches<'_>) -> Result<Part, Stop>
     ensures ok { IfOk result KeepsPart }
@@ -25,6 +28,7 @@ pub(crate) fn part_of(alloc: Global, found: &ArgMatches<'_>) -> Result<Part, Sto
     let from = moment_of(alloc, found, "from", "--from")?;
     let to = moment_of(alloc, found, "to", "--to")?;
     let quiet = quiet_of(alloc, found)?;
+    let most = most_of(alloc, found)?;
     if at.is_some() && from.is_some() {
         let wanted =
             "--at begins exactly at a clock, --from at the first quiet one: only one of them may stand";
@@ -43,6 +47,7 @@ pub(crate) fn part_of(alloc: Global, found: &ArgMatches<'_>) -> Result<Part, Sto
         from,
         to,
         quiet,
+        most,
     })
 }
 
@@ -96,5 +101,35 @@ fn quiet_of(alloc: Global, found: &ArgMatches<'_>) -> Result<u32, Stop>
             }
             Some(count) => Ok(count),
         },
+    }
+}
+
+// Up to how many broken rules are looked for.
+fn most_of(alloc: Global, found: &ArgMatches<'_>) -> Result<u32, Stop>
+    ensures ok { IfOk result IsMost }
+    ensures err { IfErr result IsError }
+{
+    let resumes = found.get_flag("resume");
+    match found.get_str("max") {
+        None => Ok(if resumes { MOST } else { 1 }),
+        Some(word) => most_named(alloc, resumes, word),
+    }
+}
+
+// The number behind `--max`, which stands beside `--resume` alone.
+fn most_named(alloc: Global, resumes: bool, word: &str) -> Result<u32, Stop>
+    ensures ok { IfOk result IsMost }
+    ensures err { IfErr result IsError }
+{
+    if !resumes {
+        let wanted = "--max says up to how many broken rules --resume looks for";
+        return Err(wrong(alloc, "--max is there without --resume", wanted));
+    }
+    match read_count(word.as_bytes()) {
+        Some(count) if 1 <= count && count <= MOST => Ok(count),
+        _ => {
+            let wanted = "a number of broken rules may stand there, 1 to 16";
+            Err(wrong_value(alloc, "--max", word, "this is no such number", wanted))
+        }
     }
 }

@@ -40,7 +40,7 @@ fn lines<'a>(alloc: Global) -> Result<Command<'a>, AllocError> {
 
 fn check<'a>(alloc: Global) -> Result<Command<'a>, AllocError> {
     let about = "Says whether the bus keeps its rules, and explains the first one that it breaks";
-    with_judged(alloc, verb(alloc, "check", about))
+    with_resumed(alloc, with_judged(alloc, verb(alloc, "check", about)))
 }
 
 // It is read, and not offered yet.
@@ -111,8 +111,20 @@ fn with_part<'a>(
         verb,
         part(alloc, "to", "C", "The last clock that is judged"),
     );
-    let help = "How many clocks without an asserted line --from wants [default: 32]";
+    let help = "How many clocks without an asserted line a part begins behind [default: 32]";
     with(verb, part(alloc, "quiet", "N", help))
+}
+
+// The options that say whether judging goes on behind a broken rule.
+fn with_resumed<'a>(
+    alloc: Global,
+    verb: Result<Command<'a>, AllocError>,
+) -> Result<Command<'a>, AllocError> {
+    let help = "Goes on behind a broken rule, from the next quiet clock on";
+    let resume = option(alloc, "resume", help);
+    let verb = with(verb, resume.action(ArgAction::SetTrue).help_heading(PART));
+    let help = "Up to how many broken rules --resume looks for, 1 to 16 [default: 16]";
+    with(verb, part(alloc, "max", "N", help))
 }
 
 fn dump<'a>(alloc: Global) -> Arg<'a> {

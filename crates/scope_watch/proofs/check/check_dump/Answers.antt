@@ -33,9 +33,9 @@ returns-in_err-told-in-Wired-clause-checked g c = λ tells.
     subst (λ vs. IsBus vs c.args.choice.now bus) c.deref.ensures.value
     (subst (λ x. IsPicked c.deref.result.now c.args.choice.now x) c.in-Wired.is c.in_ok-refusal.ensures) in
     let same : c.from_residual-in_err-told-in-Wired.result ≡ Err c.in_err-told-in-Wired.field-0.0 = search rules in
-    rw same (checked-values _ c.args.choice.now c.args.part s b.header bus.wiring (marks_of_lines (wired_lines ws)) _
+    rw same (checked-values _ c.args.choice.now c.args.plan s b.header bus.wiring (marks_of_lines (wired_lines ws)) _
     (wired-by c.args.choice.now s b _ _ bus h k)
-    (judged-by (Err c.in_err-told-in-Wired.field-0.0) c.args.part c.marks_of-marks.result _ _ _ _
+    (judged-by (Err c.in_err-told-in-Wired.field-0.0) c.args.plan c.marks_of-marks.result _ _ _ _
     (c.marks_of-marks.ensures ∙ ap (λ x. marks_of_lines (wired_lines x)) c.deref-in-Wired.ensures.value)
     (c.picked_wires_choose.ensures (λ all. ws) m)
     (c.in_err-told-in-Wired.ensures.judged tells (picking (λ all. ws)) h.tokens _ h.stands
@@ -54,7 +54,7 @@ returns-in_ok-told-in-Wired-clause-checked g c = λ tells.
     subst (λ vs. IsBus vs c.args.choice.now bus) c.deref.ensures.value
     (subst (λ x. IsPicked c.deref.result.now c.args.choice.now x) c.in-Wired.is c.in_ok-refusal.ensures) in (
       wired-by c.args.choice.now s b _ _ bus h k,
-      judged-by (Ok c.in_ok-told-in-Wired.told) c.args.part c.marks_of-marks.result _ _ _ _
+      judged-by (Ok c.in_ok-told-in-Wired.told) c.args.plan c.marks_of-marks.result _ _ _ _
           (c.marks_of-marks.ensures ∙ ap (λ x. marks_of_lines (wired_lines x)) c.deref-in-Wired.ensures.value)
           (c.picked_wires_choose.ensures (λ all. ws) m)
           (c.in_ok-told-in-Wired.ensures.judged tells (picking (λ all. ws)) h.tokens _ h.stands

@@ -1,7 +1,7 @@
-use Rattle.std.proofs.Common.{◌≡◌, ◌∙◌, ◌+◌, ◌++◌, ◌∷◌, [], length, ap, sym, subst}
+use Rattle.std.proofs.Common.{◌∙◌, ◌∷◌, [], length, ap, sym, subst}
 use Rattle.std.proofs.lemmas.List.{length-append}
 use Rattle.vcd_way.specs.Events.{samples_among}
-use Rattle.vcd_course.specs.Told.{event_told, last_told}
+use Rattle.vcd_course.specs.Told.{last_told}
 use Rattle.scope_ring.specs.Ring.{FedFirst}
 use Rattle.scope_watch.proofs.Clocks.{told-sampled, told-hole, told-resumed}
 use Rattle.scope_watch.proofs.check.keep.Goals as goal

@@ -1,25 +1,22 @@
 use Rattle.std.proofs.Common.{◌++◌, ◌∷◌, []}
 use Rattle.vcd_course.specs.Told.{event_told}
-use Rattle.scope_watch.proofs.Clocks.{clocks-counted}
 use Rattle.scope_watch.proofs.check.JudgeEventWatcher.see.Goals as goal
 
 pub keep-requires : goal.keep-requires
 keep-requires c =
-    let p = c.requires.0.part in
+    let p = c.requires.0.plan in
     let m = c.requires.0.marks in
-    let es = c.requires.1 in
-    let more = es ++ event_told c.args.event.now ∷ [] in (
+    let es = c.requires.1 in (
       es,
       c.requires.2.1,
-      clocks-counted c.judged.result p m more (c.judged.ensures p m more (c.in-Ok.ensures p m es c.requires.2.0)),
+      c.clocks-clocks.ensures p m (es ++ event_told c.args.event.now ∷ []) (c.in-Ok.ensures p m es c.requires.2.0),
     )
 
 pub returns-in-Ok : goal.returns-in-Ok
 returns-in-Ok c = λ first es seen.
-    let p = first.part in
+    let p = first.plan in
     let m = first.marks in
-    let more = es ++ event_told c.args.event.now ∷ [] in
     let stands = c.in-Ok.ensures p m es seen.0 in (
       stands,
-      c.keep.ensures es seen.1 (clocks-counted c.judged.result p m more (c.judged.ensures p m more stands)),
+      c.keep.ensures es seen.1 (c.clocks-clocks.ensures p m (es ++ event_told c.args.event.now ∷ []) stands),
     )

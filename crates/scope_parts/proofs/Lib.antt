@@ -1,0 +1,9 @@
+mod Endings
+mod Found
+mod Holes
+mod Lists
+mod Remembering
+mod Sums
+mod Tallies
+mod Turns
+mod Clocks

@@ -1,0 +1,47 @@
+use Rattle.std.proofs.Common.{◌≡◌, ◌∙◌, ◌++◌, ◌∷◌, [], refl, sym, ap, subst}
+use Rattle.vcd_course.specs.Told.{event_told}
+use Rattle.scope_check.specs.Parts.{clocks_of}
+use Rattle.scope_parts.specs.declared.counts.Counts.{Counts}
+use Rattle.scope_parts.specs.declared.judge.PartsJudge.{PartsJudge}
+use Rattle.scope_parts.specs.Segments.{all_of, next_part}
+use Rattle.scope_parts.specs.Standing.{Counted}
+use Rattle.scope_parts.proofs.Clocks.{clocks-counted}
+use Rattle.scope_parts.proofs.Turns.{all_at, ending_is, is_over, on_ok, segment_at, stands_behind, stands_on}
+use Rattle.scope_parts.proofs.judge.PartsJudge.take.Goals as goal
+
+pub returns-in-None : goal.returns-in-None
+returns-in-None c p m es s =
+    let j = c.args.self.now in
+    let e = event_told c.args.event.now in
+    let part = next_part p s.segments in
+    let f = c.judged-found.result in
+    let judging = c.in_ok-take.ensures part m s.open_events s.judging in
+    let found = c.judged-found.ensures part m (s.open_events ++ e ∷ []) judging in
+    stands_on j (record j { counts = c.count.new.self; judging = c.take.new.self; latest = c.with-self.result })
+    p m es e s refl refl refl (c.in_ok-count.ensures es s.counted) judging
+    (c.with-self.ensures part m s.open_events s.latest found) f found
+    (sym (ending_is j p m es s f e) ∙ sym c.in-None.ensures)
+
+pub returns-in-Some : goal.returns-in-Some
+returns-in-Some c p m es s =
+    let j = c.args.self.now in
+    let k = c.close.new.self in
+    let e = event_told c.args.event.now in
+    let part = next_part p s.segments in
+    let xs = s.open_events in
+    let f = c.judged-found.result in
+    let b = j.latest.before in
+    let end = c.in-Some.end in
+    let found = c.judged-found.ensures part m (xs ++ e ∷ []) (c.in_ok-take.ensures part m xs s.judging) in
+    let x = segment_at end xs e f b in
+    let all = all_at end xs e f b in
+    let same = c.close.ensures.rest in
+    let over = is_over end p m s.segments xs e f b s.unended found s.latest.before
+    (sym (ending_is j p m es s f e) ∙ sym c.in-Some.ensures) in
+    let size : f.clocks ≡ clocks_of (all_of x) = clocks-counted f part m (xs ++ e ∷ []) found ∙ ap clocks_of (sym all) in
+    let counted : Counted k.counts (es ++ e ∷ []) =
+    subst (λ (n : Counts). Counted n (es ++ e ∷ [])) (sym (ap (λ (v : PartsJudge). v.counts) same))
+    (c.in_ok-count.ensures es s.counted) in
+    on_ok c.close.result (λ tallied judging latest. stands_behind j k p m es e s x all over
+    (ap (λ (v : PartsJudge). v.plan) same) (ap (λ (v : PartsJudge). v.marks) same) counted tallied judging latest)
+    (c.close.ensures.tallied s.segments x s.tallied refl refl size) c.close.ensures.judging c.close.ensures.latest

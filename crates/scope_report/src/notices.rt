@@ -1,0 +1,168 @@
+//! What a user may try where nothing could be judged, or where a rule is broken that perhaps is not.
+
+use crate::text::{put, put_bytes, put_count, put_listed};
+use fsb_signal::{Lines, Sample};
+use scope_check::{Begin, Verdict};
+use scope_parts::{PartFound, PartsFound};
+use scope_ring::Ring;
+use std::alloc::{AllocError, Global};
+use vcd_header::Section;
+
+/// Appends that a dump may begin in traffic, where that is so of one that is judged from its first clock with levels on.
+pub(crate) fn put_traffic(
+    text: &mut Vec<u8>,
+    found: &PartsFound,
+    last: &Ring,
+) -> Result<(), AllocError> {
+    if found.plan.first.begin == Begin::Known && is_first_in_traffic(found, last) {
+        put(text, IN_TRAFFIC)?;
+        put_count(text, u64::from(found.plan.quiet), "clock")?;
+        put(text, " without an asserted line.\n")
+    } else {
+        Ok(())
+    }
+}
+
+const IN_TRAFFIC: &str =
+    "  The dump may begin in traffic: no request that is judged comes before that clock.
+  --from 0 judges from the first clock on that ends ";
+
+// Whether the first part is broken by what may belong to a request of before it.
+fn is_first_in_traffic(found: &PartsFound, last: &Ring) -> bool {
+    match found.first.as_slice().first() {
+        None => false,
+        Some(part) => is_in_traffic(part, last),
+    }
+}
+
+fn is_in_traffic(part: &PartFound, last: &Ring) -> bool {
+    match part.verdict {
+        Verdict::Broken { clock, rule, .. } => match rule {
+            2 => clock <= part.start.saturating_add(1),
+            11 | 13 | 15 | 16 => has_no_request(last, part.start, clock),
+            _ => false,
+        },
+        Verdict::Nothing | Verdict::Accepted => false,
+    }
+}
+
+// Whether all clocks from this one on up to that one are kept, and ADS# is asserted in none of them.
+fn has_no_request(last: &Ring, from: u64, to: u64) -> bool {
+    if to < from || 16 < to - from {
+        return false;
+    }
+    for clock in from..to {
+        if may_request(last.sample_at(clock)) {
+            return false;
+        }
+    }
+    true
+}
+
+fn may_request(sample: Option<&Sample>) -> bool {
+    match sample {
+        None => true,
+        Some(sample) => sample.has(Lines::ADS),
+    }
+}
+
+/// Appends the control lines without a level at the last clock.
+pub(crate) fn put_lost_levels(
+    text: &mut Vec<u8>,
+    alloc: Global,
+    last: &Ring,
+) -> Result<(), AllocError> {
+    match last.sample_at(last.count().saturating_sub(1)) {
+        None => Ok(()),
+        Some(sample) => {
+            let lines = unknown_lines(alloc, sample)?;
+            put_listed(text, "  without a level at the last clock:", &lines, "\n")
+        }
+    }
+}
+
+// The control lines that are unknown, by their numbers.
+fn unknown_lines(alloc: Global, sample: &Sample) -> Result<Vec<u8>, AllocError> {
+    let mut lines = Vec::new(alloc);
+    for (line, bits) in CONTROL.iter() {
+        if sample.unknown.0 & bits != 0 {
+            lines.push(*line)?;
+        }
+    }
+    Ok(lines)
+}
+
+/// The control lines by their numbers, and the bits that they have in a sample.
+const CONTROL: [(u8, u32); 18] = [
+    (1, 0x1),
+    (2, 0x2),
+    (3, 0x4),
+    (4, 0x8),
+    (5, 0x10),
+    (6, 0x20),
+    (7, 0x40),
+    (8, 0x80),
+    (11, 0x100),
+    (12, 0x200),
+    (13, 0x400),
+    (14, 0x800),
+    (15, 0x7000),
+    (16, 0x8000),
+    (17, 0x10000),
+    (18, 0x20000),
+    (20, 0xc0000),
+    (21, 0x100000),
+];
+
+/// Appends a comment of the header that says that a limit is exceeded: the dump may be cut there.
+pub(crate) fn put_cut_comment(
+    text: &mut Vec<u8>,
+    alloc: Global,
+    remarks: &[Section],
+) -> Result<(), AllocError> {
+    for remark in remarks {
+        if remark.keyword.as_slice() == b"$comment".as_slice() {
+            put_limit(text, alloc, &remark.words)?;
+        }
+    }
+    Ok(())
+}
+
+fn put_limit(text: &mut Vec<u8>, alloc: Global, words: &[Vec<u8>]) -> Result<(), AllocError> {
+    if has_word(words, b"limit") && has_word(words, b"exceeded") {
+        put(text, "the file says in a comment:")?;
+        put_words(text, words)?;
+        put(text, "\n")
+    } else {
+        Ok(())
+    }
+}
+
+// Whether one of the words has this in it, in letters of either case.
+fn has_word(words: &[Vec<u8>], wanted: &[u8]) -> bool {
+    words.iter().any(|word| has_part(word, wanted))
+}
+
+fn has_part(word: &[u8], wanted: &[u8]) -> bool {
+    for place in 0..word.len() {
+        if begins_with(&word[place..], wanted) {
+            return true;
+        }
+    }
+    false
+}
+
+fn begins_with(text: &[u8], wanted: &[u8]) -> bool {
+    match text.get(..wanted.len()) {
+        None => false,
+        Some(front) => front.eq_ignore_ascii_case(wanted),
+    }
+}
+
+fn put_words(text: &mut Vec<u8>, words: &[Vec<u8>]) -> Result<(), AllocError> {
+    for word in words {
+        put(text, " ")?;
+        put_bytes(text, word)?;
+    }
+    Ok(())
+}
