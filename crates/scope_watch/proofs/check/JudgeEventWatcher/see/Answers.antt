@@ -14,8 +14,8 @@ keep-requires c =
       clocks-counted c.judged.result p m more (c.judged.ensures p m more (c.in-Ok.ensures p m es c.requires.2.0)),
     )
 
-pub returns-in-Ok : goal.returns-in-Ok
-returns-in-Ok c = λ first es seen.
+pub returns-in-Ok-clause-seen : goal.returns-in-Ok-clause-seen
+returns-in-Ok-clause-seen c = λ first es seen.
     let p = first.part in
     let m = first.marks in
     let more = es ++ event_told c.args.event.now ∷ [] in
