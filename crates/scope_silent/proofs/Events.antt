@@ -86,9 +86,11 @@ in-block ls m c stamp after h k =
     else [])
     (silent ls (sampled m.late c.values after) (sampled-idle ls m.late c.values after h k), tt)
     (each-if ls (m.takes_first && not c.is_seen && (clock_of after == digit_after m.edge))
-    (Sampled (sample_of (sampled m.late (settled c.values after) after)) stamp ∷ []) []
-    (silent ls (sampled m.late (settled c.values after) after)
-    (sampled-idle ls m.late (settled c.values after) after (settled-idle ls c.values after h k) k), tt) tt)
+    (Sampled (sample_of (sampled m.late (settled c.values after) after)) stamp ∷ []) [] (
+      silent ls (sampled m.late (settled c.values after) after)
+          (sampled-idle ls m.late (settled c.values after) after (settled-idle ls c.values after h k) k),
+      tt,
+    ) tt)
 
 in-switch : (ls : List ℕ) (switch : DumpSwitch) (stamp : Option Stamp) (es : List DumpEvent)
     → Each ls (samples_among es) → Each ls (samples_among (switch_event switch stamp ∷ es))
