@@ -1,14 +1,14 @@
 -- The samples of pieces that change some lines alone.
-use Rattle.std.proofs.Common.{◌≡◌, ℕ, zero, suc, ◌-◌, Bool, true, false, not, ◌&&◌, ◌==◌, if◌then◌else◌, List, [], ◌∷◌, ◌++◌, length, take, Option, Some, None, All, arith, refl, sym, ap}
+use Rattle.std.proofs.Common.{◌≡◌, ℕ, zero, suc, ◌-◌, Bool, true, false, not, ◌&&◌, ◌==◌, if◌then◌else◌, List, [], ◌∷◌, ◌++◌, length, take, Option, Some, None, All, refl}
 use Rattle.std.specs.List.{list_all}
 use Rattle.std.proofs.lemmas.Bool.{and_parts, and_from}
 use Rattle.std.proofs.lemmas.List.Elements.{All-nil, All-cons}
 use Rattle.fsb_signal.specs.declared.sample.Sample.{Sample}
-use Rattle.vcd_grammar.specs.Values.{Values, at_first, clock_of, sample_of}
+use Rattle.vcd_grammar.specs.Values.{Values, clock_of, sample_of}
 use Rattle.vcd_grammar.specs.Tokens.{tokens_of, tokens_so_far}
 use Rattle.vcd_grammar.specs.Judging.{is_declared}
 use Rattle.vcd_way.specs.Ways.{ValueRules}
-use Rattle.vcd_way.specs.Pieces.{Stamp, TapChange, DumpSwitch, Off, On, Happening, Comes, Gets, Switches, Piece, Changes, Switched, pieces_from, pieces_of, over}
+use Rattle.vcd_way.specs.Pieces.{Stamp, TapChange, DumpSwitch, Off, On, Happening, Comes, Gets, Switches, Piece, Changes, Switched, pieces_from, over}
 use Rattle.vcd_way.specs.Events.{DumpEvent, Sampled, Hole, Resumed, Course, course_at_first, course_after, sampled, settled, values_after, unknown_in, is_edge, digit_after, sample_in_block, switch_event, events_from, samples_among}
 use Rattle.vcd_way.specs.Steps.{first_state, happenings_in}
 use Rattle.vcd_way.specs.Answers.{is_early, events_so_far_by, events_by, pieces_in}

@@ -1,5 +1,5 @@
 -- In the way of wires no line without a wire changes.
-use Rattle.std.proofs.Common.{◌≡◌, ◌∙◌, ℕ, Bool, true, false, not, ◌&&◌, ◌||◌, ◌==◌, if◌then◌else◌, is_some, nat_lt, List, [], ◌∷◌, ◌++◌, map, Option, Some, None, codes, refl, sym, ap}
+use Rattle.std.proofs.Common.{◌≡◌, ℕ, Bool, true, false, not, ◌&&◌, ◌==◌, if◌then◌else◌, is_some, nat_lt, List, [], ◌∷◌, ◌++◌, map, Option, Some, None, codes, refl, ap}
 use Rattle.std.specs.List.{list_all}
 use Rattle.std.proofs.lemmas.Bool.{and_parts, and_from, or_left, or_right, eq-eqb}
 use Rattle.vcd_grammar.specs.declared.fault.VcdCause.TheVariants as causes
@@ -9,7 +9,7 @@ use Rattle.vcd_grammar.specs.Words.{ValueWord, Stamp, Scalar, Vector, Foreign, M
 use Rattle.vcd_grammar.specs.Judging.{is_declared}
 use Rattle.vcd_way.specs.declared.tap.Tap.{Tap}
 use Rattle.vcd_way.specs.Declarations.{DumpSection, Declaration, declaration_of, with_word}
-use Rattle.vcd_way.specs.Ways.{Kept, Keeps, Refuses, ValueRules, Way}
+use Rattle.vcd_way.specs.Ways.{Keeps, ValueRules, Way}
 use Rattle.vcd_way.specs.Pieces.{Happening, Comes, Gets, Switches}
 use Rattle.vcd_way.specs.Events.{whole}
 use Rattle.vcd_way.specs.Lawful.{IsLawfulWay}
