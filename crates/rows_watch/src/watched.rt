@@ -21,6 +21,8 @@ struct Counter {
 impl EventWatcher for Counter {
     ghost has_seen = { λ _ _ _. Unit {0} };
 
+    ghost has_failed = { λ _ _. Unit {0} };
+
     fn see(&mut self, event: &CourseEvent) -> Result<(), WatchStop> {
         if self.left == 0 {
             return Err(WatchStop::WriteFault);

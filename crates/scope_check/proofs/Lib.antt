@@ -1,3 +1,4 @@
 mod Samples
 mod Growing
 mod Turns
+mod PartTurns

@@ -2,3 +2,4 @@ pub mod Bounds
 pub mod Parts
 pub mod Standing
 pub mod Findings
+pub mod Parting

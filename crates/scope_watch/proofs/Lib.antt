@@ -4,5 +4,5 @@ mod Steps
 mod Texts
 mod Picks
 mod Stopping
-mod Checks
+pub mod Checks
 mod Clocks

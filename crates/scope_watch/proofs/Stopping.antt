@@ -1,5 +1,5 @@
 -- Stops of a source and of a watcher.
-use Rattle.std.proofs.Common.{◌≡◌, ℕ, List, Option, Result, Err, subst}
+use Rattle.std.proofs.Common.{◌≡◌, ℕ, List, Option, Result, Err, refl, subst}
 use Rattle.vcd_way.specs.Declarations.{Declaration}
 use Rattle.vcd_way.specs.Ways.{ValueRules, Way}
 use Rattle.vcd_way.specs.Events.{DumpEvent}
@@ -7,7 +7,9 @@ use Rattle.vcd_scan.specs.declared.early.EarlyEnd.{EarlyEnd}
 use Rattle.vcd_scan.specs.Wired.{Wiring}
 use Rattle.scope_watch.specs.declared.stop.ScopeStop.{ScopeStop}
 use Rattle.scope_watch.specs.declared.stop.ScopeStop.TheVariants as stops
-use Rattle.scope_watch.specs.Stops.{IsStopOfReading}
+use Rattle.scope_watch.specs.declared.stop.WatchStop.{WatchStop}
+use Rattle.scope_watch.specs.declared.stop.WatchStop.TheVariants as watches
+use Rattle.scope_watch.specs.Stops.{IsStopOfReading, stop_of}
 use Rattle.scope_watch.specs.Watching.{Finishes, IsStopOfWatching, IsWatched}
 
 pub finishes-source : (stop : ScopeStop) (seen : List DumpEvent → Type 0) (m : ValueRules) (w : Wiring)
@@ -50,3 +52,13 @@ watched-stop stops.TooLong seen way text h = absurd h
 watched-stop stops.TooMany seen way text h = tt
 watched-stop stops.WriteFault seen way text h = tt
 watched-stop stops.Memory seen way text h = tt
+
+-- a watcher that stops so that the answer is a fault of writing stopped for one
+abbrev pub failing : (X : Type 0) → ScopeStop → Result X ScopeStop
+failing X stop = Err stop
+
+pub was-write-fault : {X : Type 0} (stop : WatchStop) → failing X (stop_of stop) ≡ failing X stops.WriteFault
+    → stop ≡ watches.WriteFault
+was-write-fault watches.TooMany e = cc e
+was-write-fault watches.WriteFault e = refl
+was-write-fault watches.Memory e = cc e

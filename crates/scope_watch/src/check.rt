@@ -98,6 +98,8 @@ impl EventWatcher for Judge {
     ghost has_seen = { λ first now events. Stands now.judging first.plan first.marks events
         × FedFirst now.last (samples_among events) };
 
+    ghost has_failed = { λ _ _. ⊥ };
+
     fn see(&mut self, event: &CourseEvent) -> Result<(), WatchStop> {
         match self.judging.take(event) {
             Ok(()) => {

@@ -67,6 +67,8 @@ pub fn watch_values<S: Source, W: EventWatcher>(
         IsTaken c (gathered_in (rules_for sampling) ts).header (wires_told wires) →
         IsWatched result (λ es. W.has_seen first watcher.new (h ++ es))
         (choosing c (rules_for sampling)) text }
+    ensures write_fault { result ≡ Err ScopeStop.WriteFault → (first : W) (h : List DumpEvent) →
+        W.has_seen first watcher.old h → W.has_failed first watcher.new }
     ensures read_fault { result ≡ Err ScopeStop.ReadFault →
         Rose (S.faults source.old) (S.faults source.new) }
     ensures later { S.faults source.old ≤ S.faults source.new }
@@ -105,6 +107,10 @@ fn watch_left<S: Source, W: EventWatcher>(
         Seen (λ es. W.has_seen first watcher.old (h ++ es)) m w reader.old head fed →
         Finishes result (λ es. W.has_seen first watcher.new (h ++ es)) m w head
         (fed ++ S.left source.old) }
+    ensures write_fault { result ≡ Err ScopeStop.WriteFault → (first : W) (h : List DumpEvent) (m : ValueRules)
+        (w : Wiring) (head fed : List ℕ) →
+        Seen (λ es. W.has_seen first watcher.old (h ++ es)) m w reader.old head fed →
+        W.has_failed first watcher.new }
     ensures too_long { IsTrue S.tells → result ≡ Err ScopeStop.TooLong →
         2 ^ 40 < taken + length (S.left source.old) }
     ensures read_fault { result ≡ Err ScopeStop.ReadFault →
@@ -139,6 +145,10 @@ fn take<W: EventWatcher>(
         Seen (λ es. W.has_seen first watcher.old (h ++ es)) m w reader.old head fed →
         Seen (λ es. W.has_seen first watcher.new (h ++ es)) m w reader.new head
         (fed ++ piece.now)) }
+    ensures write_fault { result ≡ Err ScopeStop.WriteFault → (first : W) (h : List DumpEvent) (m : ValueRules)
+        (w : Wiring) (head fed : List ℕ) →
+        Seen (λ es. W.has_seen first watcher.old (h ++ es)) m w reader.old head fed →
+        W.has_failed first watcher.new }
     ensures stop { (stop : ScopeStop) → result ≡ Err stop → IsStopOfWatching stop }
 {
     match reader.feed(piece) {
@@ -161,6 +171,10 @@ fn end<W: EventWatcher>(
         (head fed : List ℕ) →
         Seen (λ es. W.has_seen first watcher.old (h ++ es)) m w reader.old head fed →
         Finishes result (λ es. W.has_seen first watcher.new (h ++ es)) m w head fed }
+    ensures write_fault { result ≡ Err ScopeStop.WriteFault → (first : W) (h : List DumpEvent) (m : ValueRules)
+        (w : Wiring) (head fed : List ℕ) →
+        Seen (λ es. W.has_seen first watcher.old (h ++ es)) m w reader.old head fed →
+        W.has_failed first watcher.new }
     ensures stop { (stop : ScopeStop) → result ≡ Err stop → IsStopOfEnd stop }
 {
     match reader.finish() {
@@ -178,6 +192,8 @@ fn show<W: EventWatcher>(reader: &mut ValueReader, watcher: &mut W) -> Result<()
     requires { (first : W) × (h : List DumpEvent) × W.has_seen first watcher.old h }
     ensures shown { OnOk result ((first : W) (h : List DumpEvent) → W.has_seen first watcher.old h →
         W.has_seen first watcher.new (h ++ events_of reader.old)) }
+    ensures failed { result ≡ Err WatchStop.WriteFault → (first : W) (h : List DumpEvent) →
+        W.has_seen first watcher.old h → W.has_failed first watcher.new }
     ensures events { OnOk result (events_of reader.new ≡ []) }
     ensures stands { (head fed : List ℕ) → Stands reader.old head fed → Stands reader.new head fed }
     ensures refusal { refusal_of reader.new ≡ refusal_of reader.old }
@@ -191,8 +207,10 @@ fn show<W: EventWatcher>(reader: &mut ValueReader, watcher: &mut W) -> Result<()
 /// Shows these events.
 fn show_each<W: EventWatcher>(events: &[CourseEvent], watcher: &mut W) -> Result<(), WatchStop>
     requires { (first : W) × (h : List DumpEvent) × W.has_seen first watcher.old h }
-    ensures { OnOk result ((first : W) (h : List DumpEvent) → W.has_seen first watcher.old h →
+    ensures seen { OnOk result ((first : W) (h : List DumpEvent) → W.has_seen first watcher.old h →
         W.has_seen first watcher.new (h ++ map event_told events.now)) }
+    ensures failed { result ≡ Err WatchStop.WriteFault → (first : W) (h : List DumpEvent) →
+        W.has_seen first watcher.old h → W.has_failed first watcher.new }
 {
     for event in events {
         watcher.see(event)?;

@@ -1,6 +1,8 @@
-use Rattle.std.proofs.Common.{◌++◌, Err, refl, ap, subst, ◌∙◌}
+use Rattle.std.proofs.Common.{rules, ◌≡◌, ◌++◌, Err, refl, sym, ap, subst, ◌∙◌}
 use Rattle.vcd_scan.specs.Standing.{tokens_after, told_after}
 use Rattle.scope_watch.proofs.Steps.{not-refused, more-shown, seen-more, seen-fault}
+use Rattle.scope_watch.specs.Stops.{stop_of}
+use Rattle.scope_watch.proofs.Stopping.{was-write-fault}
 use Rattle.scope_watch.proofs.values.take.Goals as goal
 
 pub feed-requires : goal.feed-requires
@@ -25,3 +27,10 @@ returns-in-Err-Bad-clause-seen g c = λ first h m w head fed s.
     seen-fault _ _ m w c.args.reader.now c.feed.new.self head fed c.args.piece.now c.in-Err-Bad.field-0-0 (Err c.in-Err-Bad.field-0) s fed_now.keeps
     (fed_now.stands head fed s.stands) fed_now.refusal (λ none. fed_now.answer head fed s.stands none)
     (ap (λ stop. Err stop) c.in-Err-Bad.field-0-is) fed_now.again
+
+pub returns-in_err-show-in-Ok-clause-write_fault : goal.returns-in_err-show-in-Ok-clause-write_fault
+returns-in_err-show-in-Ok-clause-write_fault g c = λ e first h m w head fed s.
+    let same : c.from_residual.result ≡ Err (stop_of c.in_err-show-in-Ok.field-0.0) = search rules in
+    let none = not-refused _ _ _ refl c.in-Ok.ensures.again in
+    c.in_err-show-in-Ok.ensures.failed (ap (λ stop. Err stop) (was-write-fault _ (sym same ∙ e))) first
+    (h ++ told_after m w (tokens_after head fed)) (s.shown none)

@@ -127,3 +127,8 @@ pub returns-in_err-take-clause-read_fault : goal.returns-in_err-take-clause-read
 returns-in_err-take-clause-read_fault g c = λ e.
     let same : c.from_residual-in_err-take.result ≡ Err c.in_err-take.field-0.0 = search rules in
     absurd (not-fault _ (c.in_err-take.ensures.stop _ refl) (sym same ∙ e))
+
+pub returns-in_err-count-clause-write_fault : goal.returns-in_err-count-clause-write_fault
+returns-in_err-count-clause-write_fault g c = λ e first h m w head fed s.
+    let same : c.from_residual.result ≡ Err c.in_err-count.field-0.0 = search rules in
+    absurd (c.in_err-count.ensures.stop stops.WriteFault (ap (λ stop. Err stop) (same-stop _ _ (sym same ∙ e))))

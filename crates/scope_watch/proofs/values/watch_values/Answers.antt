@@ -1,10 +1,10 @@
-use Rattle.std.proofs.Common.{rules, List, append-nil, ◌≡◌, ◌++◌, [], Err, length-append, refl, sym, subst, ◌∙◌, arith}
+use Rattle.std.proofs.Common.{rules, List, append-nil, ◌≡◌, ◌++◌, [], Err, length-append, refl, sym, ap, subst, ◌∙◌, arith}
 use Rattle.vcd_way.specs.Events.{DumpEvent}
 use Rattle.vcd_scan.specs.Wired.{wires_told}
 use Rattle.vcd_joined.specs.Choosing.{of_values}
 use Rattle.scope_watch.specs.Watching.{rules_for, Seen}
 use Rattle.scope_watch.proofs.Steps.{sampled_at, rules-same, seen-first}
-use Rattle.scope_watch.proofs.Stopping.{watched-stop, not-fault}
+use Rattle.scope_watch.proofs.Stopping.{watched-stop, not-fault, same-stop}
 use Rattle.scope_watch.proofs.Texts.{Laws, watched}
 use Rattle.scope_watch.proofs.values.watch_values.Goals as goal
 
@@ -88,3 +88,30 @@ pub returns-in_err-take-clause-read_fault : goal.returns-in_err-take-clause-read
 returns-in_err-take-clause-read_fault g c = λ e.
     let same : c.from_residual.result ≡ Err c.in_err-take.field-0.0 = search rules in
     absurd (not-fault _ (c.in_err-take.ensures.stop _ refl) (sym same ∙ e))
+
+pub returns-in_err-take-clause-write_fault : goal.returns-in_err-take-clause-write_fault
+returns-in_err-take-clause-write_fault g c = λ e first h has.
+    let same : c.from_residual.result ≡ Err c.in_err-take.field-0.0 = search rules in
+    let b = c.requires.begun in
+    let now = c.new-reader.ensures in
+    let seen : List DumpEvent → Type 0 = λ es. g.W.EventWatcher.has_seen first c.args.watcher.now (h ++ es) in
+    c.in_err-take.ensures.write_fault (ap (λ stop. Err stop) (same-stop _ _ (sym same ∙ e))) first h
+    (of_values (rules_for c.args.sampling)) (wires_told c.args.wires) b.head []
+    (seen-first seen _ _ c.new-reader.result b.head
+    (now.rules ∙ rules-same c.args.sampling c.new-course.result (sampled_at c.args.sampling) c.new-course.ensures.rules refl refl c.new-course.ensures.late)
+    now.wiring (now.stands b.head b.cutter) now.fresh now.events
+    (subst (λ x. g.W.EventWatcher.has_seen first c.args.watcher.now x) (sym (append-nil h)) has))
+
+pub returns-clause-write_fault : goal.returns-clause-write_fault
+returns-clause-write_fault g c = λ e first h has.
+    let b = c.requires.begun in
+    let now = c.new-reader.ensures in
+    let m = of_values (rules_for c.args.sampling) in
+    let w = wires_told c.args.wires in
+    let seen : List DumpEvent → Type 0 = λ es. g.W.EventWatcher.has_seen first c.args.watcher.now (h ++ es) in
+    c.watch_left.ensures.write_fault e first h m w b.head c.deref.result.now
+    (c.in_ok-take.ensures.seen first h m w b.head []
+    (seen-first seen _ _ c.new-reader.result b.head
+    (now.rules ∙ rules-same c.args.sampling c.new-course.result (sampled_at c.args.sampling) c.new-course.ensures.rules refl refl c.new-course.ensures.late)
+    now.wiring (now.stands b.head b.cutter) now.fresh now.events
+    (subst (λ x. g.W.EventWatcher.has_seen first c.args.watcher.now x) (sym (append-nil h)) has)))

@@ -12,8 +12,8 @@ keep-requires c =
       c.clocks-clocks.ensures p m (es ++ event_told c.args.event.now ∷ []) (c.in-Ok.ensures p m es c.requires.2.0),
     )
 
-pub returns-in-Ok : goal.returns-in-Ok
-returns-in-Ok c = λ first es seen.
+pub returns-in-Ok-clause-seen : goal.returns-in-Ok-clause-seen
+returns-in-Ok-clause-seen c = λ first es seen.
     let p = first.plan in
     let m = first.marks in
     let stands = c.in-Ok.ensures p m es seen.0 in (

@@ -1,0 +1,4 @@
+mod Wired
+mod Writing
+mod Copies
+mod ReadBack

@@ -1,0 +1,5 @@
+mod Bits
+mod Sample
+mod Taps
+mod Steps
+mod Events
