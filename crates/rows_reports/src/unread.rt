@@ -117,7 +117,6 @@ const UNOFFERED: [Unoffered; 5] = [
         "--to with a time: this is not done yet\n",
     ),
     (
-        "check|--quiet|5|x.vcd",
         "--quiet without --from: this is not done yet\n",
     ),
 ];

@@ -2,7 +2,7 @@
 use Rattle.std.specs.Prelude.{Result, Ok, Err}
 use Rattle.scope_report.specs.declared.ending.Ending.{Ending}
 use Rattle.scope_report.specs.declared.ending.Ending.TheVariants as endings
-use Rattle.scope_report.specs.Endings.{ending_after}
+use Rattle.scope_report.specs.Endings.{ending_after, verdict_over}
 use Rattle.scope_wiring.specs.declared.wiring.Picking.{Picking}
 use Rattle.scope_wiring.specs.declared.wiring.Picking.TheVariants as pickings
 use Rattle.scope_watch.specs.declared.check.Finding.{Finding}
@@ -13,7 +13,7 @@ use Rattle.scope_top.specs.declared.stop.Stop.TheVariants as stops
 -- how a check ends that found this
 abbrev pub ending_found : Finding → Ending
 ending_found (findings.Refused refusal) = endings.Unjudged
-ending_found (findings.Judged wiring told) = ending_after told.judged.verdict
+ending_found (findings.Judged wiring told) = ending_after (verdict_over told.judged)
 
 -- how `lines` ends that picks these wires, or refuses them
 abbrev pub ending_picked : Picking → Ending

@@ -1,5 +1,5 @@
 -- What is done yet of what an order may ask for.
-use Rattle.std.specs.Prelude.{Bool, true, false, not, ◌&&◌, ◌||◌, nat_eq, is_some, Option, Some, None}
+use Rattle.std.specs.Prelude.{Bool, true, false, not, ◌&&◌, Option, Some, None}
 use Rattle.scope_words.specs.declared.moment.Moment.{Moment}
 use Rattle.scope_words.specs.declared.moment.Moment.TheVariants as moments
 use Rattle.scope_words.specs.declared.order.Order.{Order}
@@ -12,11 +12,10 @@ is_time None = false
 is_time (Some (moments.Clock clock)) = false
 is_time (Some (moments.Time count unit)) = true
 
--- the part is named by numbers of clocks, and `--quiet` only beside `--from`
+-- the part is named by numbers of clocks
 unfoldable pub is_done_part : Part → Bool
 is_done_part part =
     not (is_time part.at) && not (is_time part.from) && not (is_time part.to)
-    && (is_some part.from || nat_eq part.quiet 32)
 
 -- what the order asks for is done
 unfoldable pub is_done : Order → Bool

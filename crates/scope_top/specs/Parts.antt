@@ -5,6 +5,7 @@ use Rattle.scope_check.specs.declared.part.Bound.TheVariants as bounds
 use Rattle.scope_check.specs.declared.part.Begin.{Begin}
 use Rattle.scope_check.specs.declared.part.Begin.TheVariants as begins
 use Rattle.scope_check.specs.declared.part.Part.{Part}
+use Rattle.scope_parts.specs.declared.plan.Plan.{Plan}
 use Rattle.scope_words.specs.declared.moment.Moment.{Moment}
 use Rattle.scope_words.specs.declared.moment.Moment.TheVariants as moments
 use Rattle.scope_words.specs.declared.order.Part.{Part as Words}
@@ -27,3 +28,7 @@ part_of words = record {
   begin = begin_of (bound_of words.at) (bound_of words.from) words.quiet;
   to = bound_of words.to;
 }
+
+-- the parts that the words say: the first, and those that begin again behind so many quiet clocks
+abbrev pub plan_of : Words → Plan
+plan_of words = record { first = part_of words; quiet = words.quiet; most = words.most }

@@ -1,6 +1,6 @@
 -- How an order ends, over what the file of `--lines` and the dump hold.
 use Rattle.std.specs.Prelude.{◌≡◌, ◌≤◌, ◌<◌, ◌^◌, ◌⊎◌, ℕ, Bool, true, false, IsSome, List, [], ◌++◌, map, Option, Some, None, length, Result, Ok, Err}
-use Rattle.scope_check.specs.declared.part.Part.{Part}
+use Rattle.scope_parts.specs.declared.plan.Plan.{Plan}
 use Rattle.scope_wiring.specs.declared.wiring.Choice.{Choice}
 use Rattle.scope_wiring.specs.declared.wiring.Picking.{Picking}
 use Rattle.scope_wiring.specs.Pickings.{IsPicking}
@@ -28,7 +28,7 @@ use Rattle.scope_top.specs.declared.listed.Listed.TheVariants as listings
 use Rattle.scope_top.specs.Ends.{ending_found, ending_picked}
 use Rattle.scope_top.specs.Named.{read_of}
 use Rattle.scope_top.specs.Orders.{is_done}
-use Rattle.scope_top.specs.Parts.{part_of}
+use Rattle.scope_top.specs.Parts.{plan_of}
 
 -- ---- what the words say
 
@@ -92,17 +92,17 @@ abbrev pub EndsChecked : Result Checked ScopeStop → Ending → Type 0
 EndsChecked (Ok checked) ending = ending ≡ ending_found checked.finding
 EndsChecked (Err stop) ending = EndsStopped stop ending
 
--- how a check of this part of a dump ends, by this choice and sampling
-pub record EndsJudged (choice : Choice) (part : Part) (s : Sampling) (dumped : List ℕ) (ending : Ending) : Type 0 where
+-- how a check of these parts of a dump ends, by this choice and sampling
+pub record EndsJudged (choice : Choice) (plan : Plan) (s : Sampling) (dumped : List ℕ) (ending : Ending) : Type 0 where
   pub answer : Result Checked ScopeStop
-  pub is_checked : IsChecked answer choice part s dumped
+  pub is_checked : IsChecked answer choice plan s dumped
   pub ends : EndsChecked answer ending
 
 -- how a check ends: the choice is what the words and the file of `--lines` say
-pub record EndsChosen (wires : Wires) (part : Part) (listed dumped : List ℕ) (ending : Ending) : Type 0 where
+pub record EndsChosen (wires : Wires) (plan : Plan) (listed dumped : List ℕ) (ending : Ending) : Type 0 where
   pub choice : Choice
   pub says : Says wires.choice (text_named wires.file listed) choice
-  pub judged : EndsJudged choice part (sampling_of wires) dumped ending
+  pub judged : EndsJudged choice plan (sampling_of wires) dumped ending
 
 -- how a check ends whose file of `--lines` can't be read
 pub record EndsUnlisted (wires : Wires) (listed : List ℕ) (ending : Ending) : Type 0 where
@@ -110,9 +110,9 @@ pub record EndsUnlisted (wires : Wires) (listed : List ℕ) (ending : Ending) : 
   pub ends : ending ≡ endings.Unjudged
 
 -- how a check ends
-abbrev pub EndsCheck : Wires → Part → List ℕ → List ℕ → Ending → Type 0
-EndsCheck wires part listed dumped ending =
-    EndsChosen wires part listed dumped ending ⊎ EndsUnlisted wires listed ending
+abbrev pub EndsCheck : Wires → Plan → List ℕ → List ℕ → Ending → Type 0
+EndsCheck wires plan listed dumped ending =
+    EndsChosen wires plan listed dumped ending ⊎ EndsUnlisted wires listed ending
 
 -- ---- `lines`
 
@@ -142,7 +142,7 @@ pub record EndsLines (dumped : List ℕ) (ending : Ending) : Type 0 where
 abbrev pub EndsDone : Order → List ℕ → List ℕ → Ending → Type 0
 EndsDone (orders.Lines dump) listed dumped ending = EndsLines dumped ending
 EndsDone (orders.Check wires part dump) listed dumped ending =
-    EndsCheck wires (part_of part) listed dumped ending
+    EndsCheck wires (plan_of part) listed dumped ending
 EndsDone (orders.Pick wires part dump) listed dumped ending = ending ≡ endings.BadWords
 EndsDone (orders.Rule number) listed dumped ending = ending ≡ endings.Clean
 

@@ -11,26 +11,26 @@ use crate::listed::{Listed, listed_choice};
 use crate::stop::Stop;
 use crate::stopped::{PIECE, stop_answer};
 use fsb_io::Source;
-use scope_check::Part;
-use scope_report::{Ending, check_text, ending_of, refusal_text};
+use scope_parts::Plan;
+use scope_report::{Ending, check_text, ending_of, refusal_text, verdict_over};
 use scope_watch::{Checked, Finding, Sampling, check_dump};
 use scope_wiring::Choice;
 use scope_words::{Edge, Wires};
 use std::alloc::{AllocError, Global};
 
-/// Judges this part of a dump, and tells what was found.
+/// Judges the parts of a dump that are planned, and tells what was found.
 pub(crate) fn check_answer<L: Source, S: Source>(
     alloc: Global,
     name: &str,
     wires: Wires<'_>,
-    part: Part,
+    plan: Plan,
     named: &mut L,
     dump: &mut S,
 ) -> Result<Answer, Stop>
     requires named { length name.now ≤ 4096 }
     requires wires { KeepsWires wires }
     ensures ends { IsTrue L.tells → IsTrue S.tells → IfOk result (λ answer.
-        EndsCheck wires.entry part (L.holds named.old) (S.holds dump.old) answer.ending) }
+        EndsCheck wires.entry plan (L.holds named.old) (S.holds dump.old) answer.ending) }
     ensures lines_fault { result ≡ Err Stop.Lines →
         Rose (L.faults named.old) (L.faults named.new) }
     ensures dump_fault { result ≡ Err Stop.Dump → Rose (S.faults dump.old) (S.faults dump.new) }
@@ -43,7 +43,7 @@ pub(crate) fn check_answer<L: Source, S: Source>(
     };
     match listed_choice(alloc, wires.choice, wires.file, named)? {
         Listed::Unlisted(answer) => Ok(answer),
-        Listed::Chosen(choice) => judged_answer(alloc, name, &choice, part, sampling, dump),
+        Listed::Chosen(choice) => judged_answer(alloc, name, &choice, plan, sampling, dump),
     }
 }
 
@@ -56,24 +56,24 @@ fn edge_of(edge: Edge) -> vcd_way::Edge
     }
 }
 
-// Judges this part of a dump, whose wires are chosen so.
+// Judges these parts of a dump, whose wires are chosen so.
 fn judged_answer<S: Source>(
     alloc: Global,
     name: &str,
     choice: &Choice,
-    part: Part,
+    plan: Plan,
     sampling: Sampling,
     dump: &mut S,
 ) -> Result<Answer, Stop>
     requires { length name.now ≤ 4096 }
     ensures ends { IsTrue S.tells → IfOk result (λ answer.
-        EndsJudged choice.now part sampling (S.holds dump.old) answer.ending) }
+        EndsJudged choice.now plan sampling (S.holds dump.old) answer.ending) }
     ensures not_lines { result ≢ Err Stop.Lines }
     ensures dump_fault { result ≡ Err Stop.Dump → Rose (S.faults dump.old) (S.faults dump.new) }
     ensures not_out { result ≢ Err Stop.Out }
 {
     let mut room = vec![in alloc; 0; PIECE]?;
-    match check_dump(alloc, name, dump, &mut room, choice, part, sampling) {
+    match check_dump(alloc, name, dump, &mut room, choice, plan, sampling) {
         Err(stop) => stop_answer(alloc, name, stop),
         Ok(checked) => Ok(found_answer(alloc, name, choice, &checked)?),
     }
@@ -133,6 +133,6 @@ pub fn ending_found(finding: &Finding) -> Ending
 {
     match finding {
         Finding::Refused(_) => Ending::Unjudged,
-        Finding::Judged(_, told) => ending_of(&told.judged.verdict),
+        Finding::Judged(_, told) => ending_of(&verdict_over(&told.judged)),
     }
 }

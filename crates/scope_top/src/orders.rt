@@ -8,7 +8,7 @@ ghost use Rattle.scope_top.specs.Performing.{Ends, EndsDone};
 use crate::answer::{Answer, Stream, hand_out};
 use crate::check::check_answer;
 use crate::lines::lines_answer;
-use crate::part::part_of;
+use crate::part::plan_of;
 use crate::stop::Stop;
 use crate::undone::unoffered;
 use fsb_io::{Sink, Source};
@@ -85,7 +85,7 @@ fn done_answer<L: Source, S: Source>(
             wires,
             part,
             dump: name,
-        } => check_answer(alloc, name, wires, part_of(&part), named, dump),
+        } => check_answer(alloc, name, wires, plan_of(&part), named, dump),
         Order::Pick {
             wires: _wires,
             part: _part,

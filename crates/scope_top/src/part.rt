@@ -1,9 +1,10 @@
 //! The part of a dump that an order names.
 
 ghost use Rattle.std.specs.Prelude.{◌≡◌};
-ghost use Rattle.scope_top.specs.Parts.{bound_of, part_of};
+ghost use Rattle.scope_top.specs.Parts.{bound_of, part_of, plan_of};
 
 use scope_check::{Begin, Bound, Part};
+use scope_parts::Plan;
 use scope_words::Moment;
 
 /// The part that the words say: from the first clock on at which every line is known, exactly from a clock on, or from a
@@ -20,6 +21,17 @@ pub fn part_of(part: &scope_words::Part) -> Part
         },
     };
     Part { begin, to }
+}
+
+/// The parts that the words say: the first, and those that begin again behind so many quiet clocks.
+pub(crate) fn plan_of(part: &scope_words::Part) -> Plan
+    ensures { result ≡ plan_of part.now }
+{
+    Plan {
+        first: part_of(part),
+        quiet: part.quiet,
+        most: part.most,
+    }
 }
 
 // The clock of a number. A time is none: it is refused before.

@@ -27,8 +27,6 @@ fn unoffered_part(part: &Part) -> Option<&'static str>
         Some("--from with a time")
     } else if is_time(part.to) {
         Some("--to with a time")
-    } else if part.from.is_none() && part.quiet != 32 {
-        Some("--quiet without --from")
     } else {
         None
     }

@@ -15,10 +15,10 @@ returns-in-Chosen-clause-ends g c = λ lines_tell dump_tells.
     let Chosen : Listed → Type 0 = λ l. EndsListed wires.choice (text_named wires.file listed) l in
     let says = subst Chosen c.in-Chosen.is (c.in_ok-answer.ensures.listed lines_tell) in
     IfOk-weaker c.judged_answer.result
-    (λ a. EndsJudged c.in-Chosen.choice c.args.part (sampled c.edge_of.result) dumped a.ending)
-    (λ a. EndsCheck wires c.args.part listed dumped a.ending)
+    (λ a. EndsJudged c.in-Chosen.choice c.args.plan (sampled c.edge_of.result) dumped a.ending)
+    (λ a. EndsCheck wires c.args.plan listed dumped a.ending)
     (λ a judged.
-    let Judged : Edge → Type 0 = λ edge. EndsJudged c.in-Chosen.choice c.args.part (sampled edge) dumped a.ending in
+    let Judged : Edge → Type 0 = λ edge. EndsJudged c.in-Chosen.choice c.args.plan (sampled edge) dumped a.ending in
     inl (record {
       choice = c.in-Chosen.choice;
       says = says;

@@ -6,7 +6,7 @@ use Rattle.scope_top.proofs.check.judged_answer.Goals as goal
 pub returns-in-Err-clause-ends : goal.returns-in-Err-clause-ends
 returns-in-Err-clause-ends g c = λ tells. IfOk-weaker c.stop_answer.result
     (λ a. EndsStopped c.in-Err.stop a.ending)
-    (λ a. EndsJudged c.args.choice.now c.args.part c.args.sampling (g.S.Source.holds c.args.dump.now) a.ending)
+    (λ a. EndsJudged c.args.choice.now c.args.plan c.args.sampling (g.S.Source.holds c.args.dump.now) a.ending)
     (λ a ends. record {
       answer = Err c.in-Err.stop;
       is_checked = c.in-Err.ensures.checked tells;
