@@ -1,5 +1,5 @@
 -- Which scope of a dump is the bus.
-use Rattle.std.specs.Prelude.{ℕ, Bool, true, false, nat_eq, nat_lt, not, length, ◌&&◌, ◌||◌, List, [], ◌∷◌, Option, Some, None, is_some, if◌then◌else◌}
+use Rattle.std.specs.Prelude.{ℕ, Bool, true, false, nat_eq, nat_lt, not, ◌&&◌, ◌||◌, List, [], ◌∷◌, Option, Some, None, is_some, if◌then◌else◌}
 use Rattle.std.specs.List.{find, filter, list_any, list_all}
 use Rattle.scope_pick.specs.declared.wires.Named.{Named}
 use Rattle.scope_pick.specs.Places.{is_line_needed, is_multi_bit}
@@ -144,8 +144,6 @@ buses ns settled = filter (stands_alone ns settled (qualified ns settled)) (qual
 unfoldable pub is_free : List ℕ → ℕ → Bool
 is_free settled line = not (is_line_needed line) || is_listed settled line
 
--- a scope is needed: a variable is named like a line, or a needed line is not settled
-unfoldable pub is_scope_needed : List Named → List ℕ → Bool
-is_scope_needed ns settled =
-    not (nat_eq (length ns) 0)
-    || not (list_all (is_free settled) lines)
+-- a scope is needed: a needed line is not settled. Where all are, nothing is taken from a scope that nobody named
+unfoldable pub is_scope_needed : List ℕ → Bool
+is_scope_needed settled = not (list_all (is_free settled) lines)

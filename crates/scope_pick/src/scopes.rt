@@ -29,7 +29,7 @@ pub fn picked(alloc: Global, names: &[Named], settled: &[u8]) -> Result<Option<N
         (IsPicked names.now settled.now)
         (IsScopeFault names.now settled.now) }
 {
-    if !is_scope_needed(names, settled) {
+    if !is_scope_needed(settled) {
         return Ok(None);
     }
     let scopes = match qualified(alloc, names, settled) {
@@ -48,12 +48,12 @@ pub fn picked(alloc: Global, names: &[Named], settled: &[u8]) -> Result<Option<N
     }
 }
 
-/// Whether a scope is needed: a variable is named like a line, or a needed line is not settled.
+/// Whether a scope is needed: a needed line is not settled. Where all are, nothing is taken from a scope that nobody named.
 #[tactic(auto, unfolding(crate::specs::Scopes::is_scope_needed))]
-pub fn is_scope_needed(names: &[Named], settled: &[u8]) -> bool
-    ensures { result ≡ is_scope_needed names.now settled.now }
+pub fn is_scope_needed(settled: &[u8]) -> bool
+    ensures { result ≡ is_scope_needed settled.now }
 {
-    !names.is_empty() || !are_free(settled, &LINES)
+    !are_free(settled, &LINES)
 }
 
 // Whether each of the lines is settled or isn't needed.

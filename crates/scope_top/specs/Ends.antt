@@ -1,5 +1,5 @@
 -- How a command ends.
-use Rattle.std.specs.Prelude.{Result, Ok, Err}
+use Rattle.std.specs.Prelude.{◌==◌, if◌then◌else◌, Result, Ok, Err}
 use Rattle.scope_report.specs.declared.ending.Ending.{Ending}
 use Rattle.scope_report.specs.declared.ending.Ending.TheVariants as endings
 use Rattle.scope_report.specs.Endings.{ending_after, verdict_over}
@@ -7,6 +7,8 @@ use Rattle.scope_wiring.specs.declared.wiring.Picking.{Picking}
 use Rattle.scope_wiring.specs.declared.wiring.Picking.TheVariants as pickings
 use Rattle.scope_watch.specs.declared.check.Finding.{Finding}
 use Rattle.scope_watch.specs.declared.check.Finding.TheVariants as findings
+use Rattle.scope_copy.specs.declared.copy.CopyFinding.{CopyFinding}
+use Rattle.scope_copy.specs.declared.copy.CopyFinding.TheVariants as copies
 use Rattle.scope_top.specs.declared.stop.Stop.{Stop}
 use Rattle.scope_top.specs.declared.stop.Stop.TheVariants as stops
 
@@ -14,6 +16,11 @@ use Rattle.scope_top.specs.declared.stop.Stop.TheVariants as stops
 abbrev pub ending_found : Finding → Ending
 ending_found (findings.Refused refusal) = endings.Unjudged
 ending_found (findings.Judged wiring told) = ending_after (verdict_over told.judged)
+
+-- how a copy ends that found this: clean where a clock was written
+abbrev pub ending_copied : CopyFinding → Ending
+ending_copied (copies.Refused refusal) = endings.Unjudged
+ending_copied (copies.Copied wiring told) = if told.clocks == 0 then endings.Unjudged else endings.Clean
 
 -- how `lines` ends that picks these wires, or refuses them
 abbrev pub ending_picked : Picking → Ending

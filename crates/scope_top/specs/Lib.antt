@@ -1,5 +1,4 @@
 pub mod Ends
 pub mod Named
-pub mod Orders
 pub mod Parts
 pub mod Performing

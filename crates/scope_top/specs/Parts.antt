@@ -1,34 +1,28 @@
--- The part of a dump that an order names.
-use Rattle.std.specs.Prelude.{ℕ, Option, Some, None}
-use Rattle.scope_check.specs.declared.part.Bound.{Bound}
-use Rattle.scope_check.specs.declared.part.Bound.TheVariants as bounds
-use Rattle.scope_check.specs.declared.part.Begin.{Begin}
-use Rattle.scope_check.specs.declared.part.Begin.TheVariants as begins
+-- The parts of a dump that an order names.
+use Rattle.std.specs.Prelude.{◌≡◌, ◌⊎◌, ℕ, List, Option, Some, None, Ok}
 use Rattle.scope_check.specs.declared.part.Part.{Part}
 use Rattle.scope_parts.specs.declared.plan.Plan.{Plan}
-use Rattle.scope_words.specs.declared.moment.Moment.{Moment}
-use Rattle.scope_words.specs.declared.moment.Moment.TheVariants as moments
+use Rattle.scope_time.specs.Parts.{part_in}
+use Rattle.scope_time.specs.Scales.{scale_of}
+use Rattle.scope_watch.specs.declared.header.Begun.{Begun}
+use Rattle.scope_watch.specs.Heading.{IsHeaded}
 use Rattle.scope_words.specs.declared.order.Part.{Part as Words}
 
--- the clock of a number; a time is none
-abbrev pub bound_of : Option Moment → Option Bound
-bound_of None = None
-bound_of (Some (moments.Clock clock)) = Some (bounds.Clock clock)
-bound_of (Some (moments.Time count unit)) = None
+-- the header of the dump was read, and this is what it shows
+pub record HasHeader (dumped : List ℕ) (begun : Begun) : Type 0 where
+  pub left : List ℕ
+  pub is_headed : IsHeaded (Ok begun) dumped left
 
--- how a part begins: exactly at a clock, at a quiet one, or where every line is known
-abbrev pub begin_of : Option Bound → Option Bound → ℕ → Begin
-begin_of (Some bound) from quiet = begins.At bound
-begin_of None (Some bound) quiet = begins.Quiet bound quiet
-begin_of None None quiet = begins.Known
+-- the words name this part, or none, in steps of the dump's `$timescale`
+pub record NamesScaled (words : Words) (dumped : List ℕ) (part : Option Part) : Type 0 where
+  pub begun : Begun
+  pub has_header : HasHeader dumped begun
+  pub part_is : part_in (scale_of begun.header.remarks.items) words ≡ part
 
--- the part that the words say
-abbrev pub part_of : Words → Part
-part_of words = record {
-  begin = begin_of (bound_of words.at) (bound_of words.from) words.quiet;
-  to = bound_of words.to;
-}
+-- the words name this part: without a time, or in steps of the dump's `$timescale`
+abbrev pub NamesPart : Words → List ℕ → Part → Type 0
+NamesPart words dumped part = (part_in None words ≡ Some part) ⊎ NamesScaled words dumped (Some part)
 
--- the parts that the words say: the first, and those that begin again behind so many quiet clocks
-abbrev pub plan_of : Words → Plan
-plan_of words = record { first = part_of words; quiet = words.quiet; most = words.most }
+-- the parts that are judged: the first, and those that begin again behind so many quiet clocks
+abbrev pub plan_of : Words → Part → Plan
+plan_of words first = record { first = first; quiet = words.quiet; most = words.most }

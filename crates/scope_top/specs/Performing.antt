@@ -1,6 +1,9 @@
 -- How an order ends, over what the file of `--lines` and the dump hold.
-use Rattle.std.specs.Prelude.{◌≡◌, ◌≤◌, ◌<◌, ◌^◌, ◌⊎◌, ℕ, Bool, true, false, IsSome, List, [], ◌++◌, map, Option, Some, None, length, Result, Ok, Err}
+use Rattle.std.specs.Prelude.{◌≡◌, ◌≤◌, ◌<◌, ◌^◌, ◌⊎◌, ℕ, IsSome, List, [], ◌++◌, map, Option, Some, None, length, Result, Ok, Err}
+use Rattle.scope_check.specs.declared.part.Part.{Part}
 use Rattle.scope_parts.specs.declared.plan.Plan.{Plan}
+use Rattle.scope_copy.specs.declared.copy.Copied.{Copied}
+use Rattle.scope_copy.specs.Copying.{IsCopied}
 use Rattle.scope_wiring.specs.declared.wiring.Choice.{Choice}
 use Rattle.scope_wiring.specs.declared.wiring.Picking.{Picking}
 use Rattle.scope_wiring.specs.Pickings.{IsPicking}
@@ -10,6 +13,7 @@ use Rattle.scope_words.specs.declared.order.Edge.{Edge}
 use Rattle.scope_words.specs.declared.order.Edge.TheVariants as words
 use Rattle.scope_words.specs.declared.order.Order.{Order}
 use Rattle.scope_words.specs.declared.order.Order.TheVariants as orders
+use Rattle.scope_words.specs.declared.order.Part.{Part as Words}
 use Rattle.scope_words.specs.declared.order.Wires.{Wires}
 use Rattle.vcd_way.specs.declared.tap.Edge.{Edge as WayEdge}
 use Rattle.vcd_way.specs.declared.tap.Edge.TheVariants as edges
@@ -21,14 +25,17 @@ use Rattle.scope_watch.specs.declared.stop.ScopeStop.TheVariants as stops
 use Rattle.scope_watch.specs.declared.values.Sampling.{Sampling}
 use Rattle.scope_watch.specs.Checking.{IsChecked}
 use Rattle.scope_watch.specs.Heading.{IsHeaded}
+use Rattle.scope_time.specs.Parts.{part_in}
+use Rattle.scope_time.specs.Scales.{scale_of}
 use Rattle.scope_report.specs.declared.ending.Ending.{Ending}
 use Rattle.scope_report.specs.declared.ending.Ending.TheVariants as endings
 use Rattle.scope_top.specs.declared.listed.Listed.{Listed}
 use Rattle.scope_top.specs.declared.listed.Listed.TheVariants as listings
-use Rattle.scope_top.specs.Ends.{ending_found, ending_picked}
+use Rattle.scope_top.specs.declared.settled.Settled.{Settled}
+use Rattle.scope_top.specs.declared.settled.Settled.TheVariants as settlings
+use Rattle.scope_top.specs.Ends.{ending_copied, ending_found, ending_picked}
 use Rattle.scope_top.specs.Named.{read_of}
-use Rattle.scope_top.specs.Orders.{is_done}
-use Rattle.scope_top.specs.Parts.{plan_of}
+use Rattle.scope_top.specs.Parts.{NamesPart, NamesScaled, plan_of}
 
 -- ---- what the words say
 
@@ -85,6 +92,47 @@ EndsStopped stops.ReadFault ending = ⊥
 EndsStopped stops.WriteFault ending = ⊥
 EndsStopped stops.Memory ending = ⊥
 
+-- ---- how a command ends that takes wires and a part of a dump
+
+-- how it ends whose dump has no header that can be read
+pub record EndsHeaderless (dumped : List ℕ) (ending : Ending) : Type 0 where
+  pub stop : ScopeStop
+  pub left : List ℕ
+  pub is_headed : IsHeaded (Err stop) dumped left
+  pub ends : EndsStopped stop ending
+
+-- how it ends whose words name no part of the dump: its header can't be read, or has no `$timescale` for a time
+abbrev pub EndsUnparted : Words → List ℕ → Ending → Type 0
+EndsUnparted words dumped ending =
+    EndsHeaderless dumped ending ⊎ (NamesScaled words dumped None × (ending ≡ endings.Unjudged))
+
+-- how it ends whose file of `--lines` can't be read
+abbrev pub EndsUnlisted : Wires → List ℕ → Ending → Type 0
+EndsUnlisted wires listed ending =
+    IsUnreadable (text_named wires.file listed) × (ending ≡ endings.Unjudged)
+
+-- how it ends that has a part, and ends so with it
+pub record EndsParted (Does : Part → Ending → Type 0) (words : Words) (dumped : List ℕ) (ending : Ending) : Type 0 where
+  pub part : Part
+  pub names : NamesPart words dumped part
+  pub does : Does part ending
+
+-- the same, or it has no part, and then this holds
+abbrev pub EndsSettled : (Part → Ending → Type 0) → Type 0 → Words → List ℕ → Ending → Type 0
+EndsSettled Does Else words dumped ending =
+    EndsParted Does words dumped ending ⊎ (EndsUnparted words dumped ending × Else)
+
+-- how it ends: the choice is what the words and the file of `--lines` say, and it ends so with it
+pub record EndsChosen (Does : Choice → Ending → Type 0) (wires : Wires) (listed : List ℕ) (ending : Ending) : Type 0 where
+  pub choice : Choice
+  pub says : Says wires.choice (text_named wires.file listed) choice
+  pub does : Does choice ending
+
+-- the same, or it has no choice, and then this holds
+abbrev pub EndsWired : (Choice → Ending → Type 0) → Type 0 → Wires → List ℕ → Ending → Type 0
+EndsWired Does Else wires listed ending =
+    EndsChosen Does wires listed ending ⊎ (EndsUnlisted wires listed ending × Else)
+
 -- ---- `check`
 
 -- how a check ends that answers this of the dump
@@ -98,21 +146,38 @@ pub record EndsJudged (choice : Choice) (plan : Plan) (s : Sampling) (dumped : L
   pub is_checked : IsChecked answer choice plan s dumped
   pub ends : EndsChecked answer ending
 
--- how a check ends: the choice is what the words and the file of `--lines` say
-pub record EndsChosen (wires : Wires) (plan : Plan) (listed dumped : List ℕ) (ending : Ending) : Type 0 where
-  pub choice : Choice
-  pub says : Says wires.choice (text_named wires.file listed) choice
-  pub judged : EndsJudged choice plan (sampling_of wires) dumped ending
-
--- how a check ends whose file of `--lines` can't be read
-pub record EndsUnlisted (wires : Wires) (listed : List ℕ) (ending : Ending) : Type 0 where
-  pub unreadable : IsUnreadable (text_named wires.file listed)
-  pub ends : ending ≡ endings.Unjudged
+-- how a check of the parts that the words name ends, by this choice and sampling
+abbrev pub EndsPlanned : Words → Sampling → List ℕ → Choice → Ending → Type 0
+EndsPlanned words s dumped choice ending =
+    EndsSettled (λ part. EndsJudged choice (plan_of words part) s dumped) (Unit {0}) words dumped ending
 
 -- how a check ends
-abbrev pub EndsCheck : Wires → Plan → List ℕ → List ℕ → Ending → Type 0
-EndsCheck wires plan listed dumped ending =
-    EndsChosen wires plan listed dumped ending ⊎ EndsUnlisted wires listed ending
+abbrev pub EndsCheck : Wires → Words → List ℕ → List ℕ → Ending → Type 0
+EndsCheck wires words listed dumped ending =
+    EndsWired (EndsPlanned words (sampling_of wires) dumped) (Unit {0}) wires listed ending
+
+-- ---- `pick`
+
+-- how a copy ends that answers this of the dump
+abbrev pub EndsCopiedAs : Result Copied ScopeStop → Ending → Type 0
+EndsCopiedAs (Ok copied) ending = ending ≡ ending_copied copied.finding
+EndsCopiedAs (Err stop) ending = EndsStopped stop ending
+
+-- how the copy of this part of a dump ends, by this choice and sampling: what the sink held before, and holds now
+pub record EndsCopied (choice : Choice) (s : Sampling) (dumped old new : List ℕ) (part : Part) (ending : Ending) : Type 0 where
+  pub answer : Result Copied ScopeStop
+  pub is_copied : IsCopied answer choice part s dumped old new
+  pub ends : EndsCopiedAs answer ending
+
+-- how the copy of the part that the words name ends; where they name none nothing was put
+abbrev pub EndsPut : Words → Sampling → List ℕ → List ℕ → List ℕ → Choice → Ending → Type 0
+EndsPut words s dumped old new choice ending =
+    EndsSettled (EndsCopied choice s dumped old new) (new ≡ old) words dumped ending
+
+-- how an order to pick ends; where its wires can't be chosen nothing was put
+abbrev pub EndsPick : Wires → Words → List ℕ → List ℕ → List ℕ → List ℕ → Ending → Type 0
+EndsPick wires words listed dumped old new ending =
+    EndsWired (EndsPut words (sampling_of wires) dumped old new) (new ≡ old) wires listed ending
 
 -- ---- `lines`
 
@@ -138,22 +203,13 @@ pub record EndsLines (dumped : List ℕ) (ending : Ending) : Type 0 where
 
 -- ---- the row of each order
 
--- how an order ends that is done; one to pick never is
-abbrev pub EndsDone : Order → List ℕ → List ℕ → Ending → Type 0
-EndsDone (orders.Lines dump) listed dumped ending = EndsLines dumped ending
-EndsDone (orders.Check wires part dump) listed dumped ending =
-    EndsCheck wires (plan_of part) listed dumped ending
-EndsDone (orders.Pick wires part dump) listed dumped ending = ending ≡ endings.BadWords
-EndsDone (orders.Rule number) listed dumped ending = ending ≡ endings.Clean
-
--- the same, or bad words where it is not done
-abbrev pub EndsIf : Bool → Order → List ℕ → List ℕ → Ending → Type 0
-EndsIf true order listed dumped ending = EndsDone order listed dumped ending
-EndsIf false order listed dumped ending = ending ≡ endings.BadWords
-
--- how an order ends, where the file of `--lines` holds the first text and the dump the second
-abbrev pub Ends : Order → List ℕ → List ℕ → Ending → Type 0
-Ends order listed dumped ending = EndsIf (is_done order) order listed dumped ending
+-- how an order ends, where the file of `--lines` holds the first text and the dump the second, and the sink of answers the
+-- third before and the fourth now
+abbrev pub Ends : Order → List ℕ → List ℕ → List ℕ → List ℕ → Ending → Type 0
+Ends (orders.Lines dump) listed dumped old new ending = EndsLines dumped ending
+Ends (orders.Check wires part dump) listed dumped old new ending = EndsCheck wires part listed dumped ending
+Ends (orders.Pick wires part dump) listed dumped old new ending = EndsPick wires part listed dumped old new ending
+Ends (orders.Rule number) listed dumped old new ending = ending ≡ endings.Clean
 
 -- ---- parts of it
 
@@ -161,3 +217,14 @@ Ends order listed dumped ending = EndsIf (is_done order) order listed dumped end
 abbrev pub EndsListed : Choice → Option (List ℕ) → Listed → Type 0
 EndsListed words text (listings.Chosen choice) = Says words text choice
 EndsListed words text (listings.Unlisted answer) = IsUnreadable text × (answer.ending ≡ endings.Unjudged)
+
+-- how the settling of the part that the words name ends
+abbrev pub EndsNamed : Words → List ℕ → Settled → Type 0
+EndsNamed words dumped (settlings.Part part) = NamesPart words dumped part
+EndsNamed words dumped (settlings.Unsettled answer) = EndsUnparted words dumped answer.ending
+
+-- how that ends by the steps of a dump with this header
+abbrev pub EndsScaled : Words → Header → Settled → Type 0
+EndsScaled words header (settlings.Part part) = part_in (scale_of header.remarks.items) words ≡ Some part
+EndsScaled words header (settlings.Unsettled answer) =
+    (part_in (scale_of header.remarks.items) words ≡ None) × (answer.ending ≡ endings.Unjudged)

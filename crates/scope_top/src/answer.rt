@@ -41,6 +41,19 @@ pub(crate) fn hand_out<O: Sink, E: Sink>(
     }
 }
 
+/// Writes the text of an answer to where a refusal goes, if there is one.
+pub(crate) fn hand_err<E: Sink>(answer: &Answer, err: &mut E) -> Result<Ending, Stop>
+    ensures ending { IfOk result (λ ending. ending ≡ answer.now.ending) }
+    ensures stop { (stop : Stop) → result ≡ Err stop → stop ≡ Stop.Out }
+    ensures err_fault { OnErr result (Rose (E.faults err.old) (E.faults err.new)) }
+{
+    if answer.text.is_empty() {
+        Ok(answer.ending)
+    } else {
+        written(put_all(err, &answer.text), answer.ending)
+    }
+}
+
 // How a command ends whose text was written, or was not.
 fn written(told: Result<(), Failed>, ending: Ending) -> Result<Ending, Stop>
     ensures ending { OnOk told (result ≡ Ok ending) }

@@ -4,10 +4,11 @@ ghost use Rattle.std.specs.Prelude.{◌≡◌, ◌≢◌, ◌≤◌, Err, IsTrue
 ghost use Rattle.fsb_io.specs.Faults.{Rose};
 ghost use Rattle.scope_words.specs.Orders.{KeepsWires};
 ghost use Rattle.scope_top.specs.Ends.{ending_found};
-ghost use Rattle.scope_top.specs.Performing.{EndsCheck, EndsJudged, edge_of};
+ghost use Rattle.scope_top.specs.Performing.{EndsCheck, EndsJudged, EndsPlanned, edge_of};
 
 use crate::answer::{Answer, Stream};
 use crate::listed::{Listed, listed_choice};
+use crate::settled::{Settled, plan_of, settled_part};
 use crate::stop::Stop;
 use crate::stopped::{PIECE, stop_answer};
 use fsb_io::Source;
@@ -15,22 +16,22 @@ use scope_parts::Plan;
 use scope_report::{Ending, check_text, ending_of, refusal_text, verdict_over};
 use scope_watch::{Checked, Finding, Sampling, check_dump};
 use scope_wiring::Choice;
-use scope_words::{Edge, Wires};
+use scope_words::{Edge, Part, Wires};
 use std::alloc::{AllocError, Global};
 
-/// Judges the parts of a dump that are planned, and tells what was found.
+/// Judges the parts of a dump that the words name, and tells what was found.
 pub(crate) fn check_answer<L: Source, S: Source>(
     alloc: Global,
     name: &str,
     wires: Wires<'_>,
-    plan: Plan,
+    words: &Part,
     named: &mut L,
     dump: &mut S,
 ) -> Result<Answer, Stop>
     requires named { length name.now ≤ 4096 }
     requires wires { KeepsWires wires }
     ensures ends { IsTrue L.tells → IsTrue S.tells → IfOk result (λ answer.
-        EndsCheck wires.entry plan (L.holds named.old) (S.holds dump.old) answer.ending) }
+        EndsCheck wires.entry words.now (L.holds named.old) (S.holds dump.old) answer.ending) }
     ensures lines_fault { result ≡ Err Stop.Lines →
         Rose (L.faults named.old) (L.faults named.new) }
     ensures dump_fault { result ≡ Err Stop.Dump → Rose (S.faults dump.old) (S.faults dump.new) }
@@ -43,16 +44,40 @@ pub(crate) fn check_answer<L: Source, S: Source>(
     };
     match listed_choice(alloc, wires.choice, wires.file, named)? {
         Listed::Unlisted(answer) => Ok(answer),
-        Listed::Chosen(choice) => judged_answer(alloc, name, &choice, plan, sampling, dump),
+        Listed::Chosen(choice) => parted_answer(alloc, name, &choice, words, sampling, dump),
     }
 }
 
-fn edge_of(edge: Edge) -> vcd_way::Edge
+pub(crate) fn edge_of(edge: Edge) -> vcd_way::Edge
     ensures { result ≡ edge_of edge }
 {
     match edge {
         Edge::Rise => vcd_way::Edge::Rising,
         Edge::Fall => vcd_way::Edge::Falling,
+    }
+}
+
+// Judges the parts that the words name, of a dump whose wires are chosen so.
+fn parted_answer<S: Source>(
+    alloc: Global,
+    name: &str,
+    choice: &Choice,
+    words: &Part,
+    sampling: Sampling,
+    dump: &mut S,
+) -> Result<Answer, Stop>
+    requires { length name.now ≤ 4096 }
+    ensures ends { IsTrue S.tells → IfOk result (λ answer.
+        EndsPlanned words.now sampling (S.holds dump.old) choice.now answer.ending) }
+    ensures not_lines { result ≢ Err Stop.Lines }
+    ensures dump_fault { result ≡ Err Stop.Dump → Rose (S.faults dump.old) (S.faults dump.new) }
+    ensures not_out { result ≢ Err Stop.Out }
+{
+    match settled_part(alloc, name, words, dump)? {
+        Settled::Unsettled(answer) => Ok(answer),
+        Settled::Part(first) => {
+            judged_answer(alloc, name, choice, plan_of(words, first), sampling, dump)
+        }
     }
 }
 

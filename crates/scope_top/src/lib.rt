@@ -4,15 +4,15 @@
 //! it ends is one relation, `Ends` in `specs/Performing.antt`, with a row for each form of an order: a check ends clean
 //! exactly where at least one clock was judged and no rule is broken. `ending_at` is the end of the program.
 //!
-//! Next: scope_watch, which reads and judges, and scope_report, whose texts these are.
+//! Next: scope_watch, which reads and judges, scope_copy, which writes what was picked, and scope_report, whose texts these
+//! are.
 #![tactic(auto)]
 
 pub use check::ending_found;
 pub use named::{LineFault, read_options};
 pub use orders::perform;
-pub use part::part_of;
+pub use pick::ending_copied;
 pub use stop::{Stop, ending_at};
-pub use undone::unoffered;
 
 mod answer;
 mod check;
@@ -20,7 +20,7 @@ mod lines;
 mod listed;
 mod named;
 mod orders;
-mod part;
+mod pick;
+mod settled;
 mod stop;
 mod stopped;
-mod undone;

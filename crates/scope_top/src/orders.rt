@@ -1,23 +1,22 @@
 //! What an order asks for, done.
 
-ghost use Rattle.std.specs.Prelude.{◌≡◌, ◌≢◌, ◌⊎◌, Err, IsTrue, IfOk};
+ghost use Rattle.std.specs.Prelude.{◌≡◌, ◌≤◌, ◌⊎◌, Err, IsTrue, IfOk, length};
 ghost use Rattle.fsb_io.specs.Faults.{Rose};
-ghost use Rattle.scope_words.specs.Orders.{KeepsLimits};
-ghost use Rattle.scope_top.specs.Performing.{Ends, EndsDone};
+ghost use Rattle.scope_words.specs.Orders.{KeepsLimits, KeepsWires};
+ghost use Rattle.scope_top.specs.Performing.{Ends, EndsCheck, EndsLines, EndsPick};
 
-use crate::answer::{Answer, Stream, hand_out};
+use crate::answer::{Answer, Stream, hand_err, hand_out};
 use crate::check::check_answer;
 use crate::lines::lines_answer;
-use crate::part::plan_of;
+use crate::pick::pick_answer;
 use crate::stop::Stop;
-use crate::undone::unoffered;
 use fsb_io::{Sink, Source};
-use scope_report::{Ending, rule_list, rule_text, unread_text};
-use scope_words::Order;
+use scope_report::{Ending, rule_list, rule_text};
+use scope_words::{Order, Part, Wires};
 use std::alloc::{AllocError, Global};
 
 /// Does what the order asks for. The answer goes to `out`; a refusal, and why a file says nothing, to `err`. `named` is the
-/// file of `--lines`, `dump` the dump.
+/// file of `--lines`, `dump` the dump. Where an order names a time, the dump is begun twice.
 ///
 /// How it ends is one relation, `Ends`, with a row for each form of an order. Where it comes to no end, the source or the
 /// sink that it names has failed in this call, or memory lacked.
@@ -30,79 +29,116 @@ pub fn perform<L: Source, S: Source, O: Sink, E: Sink>(
     err: &mut E,
 ) -> Result<Ending, Stop>
     requires { KeepsLimits order }
+    ensures ends { IsTrue L.tells → IsTrue S.tells → IsTrue O.tells →
+        IfOk result (Ends order.entry (L.holds named.old) (S.holds dump.old) (O.holds out.old)
+        (O.holds out.new)) }
+    ensures lines_fault { result ≡ Err Stop.Lines →
+        Rose (L.faults named.old) (L.faults named.new) }
+    ensures dump_fault { result ≡ Err Stop.Dump → Rose (S.faults dump.old) (S.faults dump.new) }
+    ensures out_fault { IsTrue S.tells → result ≡ Err Stop.Out →
+        Rose (O.faults out.old) (O.faults out.new) ⊎ Rose (E.faults err.old) (E.faults err.new) }
+{
+    match order {
+        Order::Rule { number } => tell_rule(alloc, number, out, err),
+        Order::Lines { dump: name } => tell_lines(alloc, name, dump, out, err),
+        Order::Check {
+            wires,
+            part,
+            dump: name,
+        } => check(alloc, name, wires, &part, named, dump, out, err),
+        Order::Pick {
+            wires,
+            part,
+            dump: name,
+        } => pick(alloc, name, wires, &part, named, dump, out, err),
+    }
+}
+
+// Tells a rule, or the titles of all.
+fn tell_rule<O: Sink, E: Sink>(
+    alloc: Global,
+    number: Option<u8>,
+    out: &mut O,
+    err: &mut E,
+) -> Result<Ending, Stop>
+    ensures ends { IfOk result (λ ending. ending ≡ Ending.Clean) }
+    ensures stop { (stop : Stop) → result ≡ Err stop →
+        (stop ≡ Stop.Memory) ⊎ (stop ≡ Stop.Out) }
+    ensures out_fault { result ≡ Err Stop.Out →
+        Rose (O.faults out.old) (O.faults out.new) ⊎ Rose (E.faults err.old) (E.faults err.new) }
+{
+    let answer = rule_answer(alloc, number)?;
+    hand_out(&answer, out, err)
+}
+
+// Tells what a dump declares.
+fn tell_lines<S: Source, O: Sink, E: Sink>(
+    alloc: Global,
+    name: &str,
+    dump: &mut S,
+    out: &mut O,
+    err: &mut E,
+) -> Result<Ending, Stop>
+    requires { length name.now ≤ 4096 }
+    ensures ends { IsTrue S.tells → IfOk result (EndsLines (S.holds dump.old)) }
+    ensures not_lines { result ≡ Err Stop.Lines → ⊥ }
+    ensures dump_fault { result ≡ Err Stop.Dump → Rose (S.faults dump.old) (S.faults dump.new) }
+    ensures out_fault { result ≡ Err Stop.Out →
+        Rose (O.faults out.old) (O.faults out.new) ⊎ Rose (E.faults err.old) (E.faults err.new) }
+{
+    let answer = lines_answer(alloc, name, dump)?;
+    hand_out(&answer, out, err)
+}
+
+// Judges the parts of a dump that the words name, and tells what was found.
+fn check<L: Source, S: Source, O: Sink, E: Sink>(
+    alloc: Global,
+    name: &str,
+    wires: Wires<'_>,
+    words: &Part,
+    named: &mut L,
+    dump: &mut S,
+    out: &mut O,
+    err: &mut E,
+) -> Result<Ending, Stop>
+    requires named { length name.now ≤ 4096 }
+    requires wires { KeepsWires wires }
     ensures ends { IsTrue L.tells → IsTrue S.tells →
-        IfOk result (Ends order.entry (L.holds named.old) (S.holds dump.old)) }
+        IfOk result (EndsCheck wires.entry words.now (L.holds named.old) (S.holds dump.old)) }
     ensures lines_fault { result ≡ Err Stop.Lines →
         Rose (L.faults named.old) (L.faults named.new) }
     ensures dump_fault { result ≡ Err Stop.Dump → Rose (S.faults dump.old) (S.faults dump.new) }
     ensures out_fault { result ≡ Err Stop.Out →
         Rose (O.faults out.old) (O.faults out.new) ⊎ Rose (E.faults err.old) (E.faults err.new) }
 {
-    let answer = answer_to(alloc, order, named, dump)?;
+    let answer = check_answer(alloc, name, wires, words, named, dump)?;
     hand_out(&answer, out, err)
 }
 
-// The answer to an order.
-fn answer_to<L: Source, S: Source>(
+// Writes the part of a dump that the words name, and tells what was not written.
+fn pick<L: Source, S: Source, O: Sink, E: Sink>(
     alloc: Global,
-    order: Order<'_>,
+    name: &str,
+    wires: Wires<'_>,
+    words: &Part,
     named: &mut L,
     dump: &mut S,
-) -> Result<Answer, Stop>
-    requires { KeepsLimits order }
-    ensures ends { IsTrue L.tells → IsTrue S.tells → IfOk result (λ answer.
-        Ends order.entry (L.holds named.old) (S.holds dump.old) answer.ending) }
+    out: &mut O,
+    err: &mut E,
+) -> Result<Ending, Stop>
+    requires named { length name.now ≤ 4096 }
+    requires wires { KeepsWires wires }
+    ensures ends { IsTrue L.tells → IsTrue S.tells → IsTrue O.tells →
+        IfOk result (EndsPick wires.entry words.now (L.holds named.old) (S.holds dump.old)
+        (O.holds out.old) (O.holds out.new)) }
     ensures lines_fault { result ≡ Err Stop.Lines →
         Rose (L.faults named.old) (L.faults named.new) }
     ensures dump_fault { result ≡ Err Stop.Dump → Rose (S.faults dump.old) (S.faults dump.new) }
-    ensures not_out { result ≢ Err Stop.Out }
+    ensures out_fault { IsTrue S.tells → result ≡ Err Stop.Out →
+        Rose (O.faults out.old) (O.faults out.new) ⊎ Rose (E.faults err.old) (E.faults err.new) }
 {
-    match unoffered(&order) {
-        Some(what) => Ok(undone_answer(alloc, what)?),
-        None => done_answer(alloc, order, named, dump),
-    }
-}
-
-// The answer to an order whose options are done.
-fn done_answer<L: Source, S: Source>(
-    alloc: Global,
-    order: Order<'_>,
-    named: &mut L,
-    dump: &mut S,
-) -> Result<Answer, Stop>
-    requires { KeepsLimits order }
-    ensures ends { IsTrue L.tells → IsTrue S.tells → IfOk result (λ answer.
-        EndsDone order.entry (L.holds named.old) (S.holds dump.old) answer.ending) }
-    ensures lines_fault { result ≡ Err Stop.Lines →
-        Rose (L.faults named.old) (L.faults named.new) }
-    ensures dump_fault { result ≡ Err Stop.Dump → Rose (S.faults dump.old) (S.faults dump.new) }
-    ensures not_out { result ≢ Err Stop.Out }
-{
-    match order {
-        Order::Rule { number } => Ok(rule_answer(alloc, number)?),
-        Order::Lines { dump: name } => lines_answer(alloc, name, dump),
-        Order::Check {
-            wires,
-            part,
-            dump: name,
-        } => check_answer(alloc, name, wires, plan_of(&part), named, dump),
-        Order::Pick {
-            wires: _wires,
-            part: _part,
-            dump: _name,
-        } => Ok(undone_answer(alloc, "pick")?),
-    }
-}
-
-// Tells that something is not done yet.
-fn undone_answer(alloc: Global, what: &str) -> Result<Answer, AllocError>
-    ensures { IfOk result (λ answer. answer.ending ≡ Ending.BadWords) }
-{
-    Ok(Answer {
-        ending: Ending::BadWords,
-        stream: Stream::Err,
-        text: unread_text(alloc, what, "this is not done yet")?,
-    })
+    let answer = pick_answer(alloc, name, wires, words, named, dump, out)?;
+    hand_err(&answer, err)
 }
 
 // Tells a rule, or the titles of all.

@@ -39,7 +39,7 @@ home_among ns settled scopes =
 -- the scope that is judged where the user names none
 unfoldable pub home_by_default : List Named → List ℕ → Home
 home_by_default ns settled =
-    if is_scope_needed ns settled then home_among ns settled (qualified ns settled) else Nowhere
+    if is_scope_needed settled then home_among ns settled (qualified ns settled) else Nowhere
 
 -- the scope that is judged
 unfoldable pub home_of : List Variable → List Named → List ℕ → Option (Vec ℕ Global) → Home

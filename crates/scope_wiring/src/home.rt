@@ -13,7 +13,7 @@ use std::alloc::{AllocError, Global};
 /// The scope that is judged, by its first declaration.
 #[derive(Clone, Copy, Debug, PartialEq, Eq)]
 pub enum Home {
-    /// None: no variable is named like a line, and the user names them all.
+    /// None: the user names every needed line, or leaves it out.
     Nowhere,
     At(usize),
     /// It is not to be told which.
@@ -74,7 +74,7 @@ fn is_in_scope(path: &[u8], variable: &Variable) -> bool
 fn home_by_default(alloc: Global, names: &[Named], settled: &[u8]) -> Result<Home, AllocError>
     ensures { IfOk result (λ h. h ≡ home_by_default names.now settled.now) }
 {
-    if !is_scope_needed(names, settled) {
+    if !is_scope_needed(settled) {
         return Ok(Home::Nowhere);
     }
     let scopes = qualified(alloc, names, settled)?;
