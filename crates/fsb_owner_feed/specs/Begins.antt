@@ -14,7 +14,7 @@ use Rattle.fsb_owner_feed.specs.declared.begins.Begins.{Begins}
 -- the request of two clocks with these samples
 unfoldable pub request_by : Sample → Sample → Option Request
 request_by first second =
-    option_and_then (λ b. option_and_then (λ a. request_of a b) (known_pair first)) (known_pair second)
+    option_and_then (λ a. option_and_then (λ b. request_of a b) (known_pair second)) (known_pair first)
 
 -- the line that this winner names with the address word of this sample
 unfoldable pub line_by : Option Who → Sample → Option ℕ

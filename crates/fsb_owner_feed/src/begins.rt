@@ -26,8 +26,9 @@ pub struct Begins {
 fn request_by(first: &Sample, second: &Sample) -> Option<Request>
     ensures { result ≡ request_by first.now second.now }
 {
-    let words = known_pair(second)?;
-    decode(known_pair(first)?, words).ok()
+    let first = known_pair(first)?;
+    let second = known_pair(second)?;
+    decode(first, second).ok()
 }
 
 /// The line that the winner names with the address word of this sample, if it is a symmetric agent.
