@@ -10,6 +10,7 @@ ghost use Rattle.fsb_laws.specs.Orderly.{Orderly};
 ghost use Rattle.fsb_laws.specs.Progress.{ends_snoop_of, may_answer_next, transfer_of};
 ghost use Rattle.fsb_heads.specs.Heads.{Stands as HeadsStands, snooped_count};
 ghost use Rattle.fsb_owner_table.specs.Happened.{Happens, begun_row};
+ghost use Rattle.fsb_owner_table.specs.Kept.{rows_of};
 ghost use Rattle.fsb_owner_feed.specs.Begins.{SaysBegins};
 ghost use Rattle.fsb_owner_feed.specs.Table.{GoesOn, IsReached, SaysAnswered, SaysAsking, SaysMoving, SaysWaiting, Stands, fed, moves_by};
 
@@ -69,6 +70,13 @@ impl Table {
             begins: None,
             clock: 0,
         }
+    }
+
+    /// The rows of the requests that are not over, in order.
+    pub fn rows(&self) -> &[Row]
+        ensures { (h : Trace) → Stands self.now h → result.now ≡ rows_of h }
+    {
+        self.rows.as_slice()
     }
 
     /// The row of the request that is snooped next.
