@@ -3,73 +3,68 @@
 ghost use Rattle.std.specs.Prelude.{◌^◌, ◌<◌, length};
 
 use fsb_owner_feed::Table;
-use fsb_signal::Sample;
-use fsb_trace::{end_of, outcome_of, requests, response, snoop_end};
 use rows_store::{
-    CANCELLED_BY_ADDRESS_ERROR, Clock, DEFERRED_AND_REPLIED, DIRTY_VICTIM_WRITTEN_BACK,
-    LOAD_THEN_STORE_HIT, LOCKED_INCREMENTS, STALLED_SNOOP, STORE_HANDED_OVER_BEFORE_ARRIVAL,
-    TWO_AGENTS_OVERLAP, UPGRADE_LOST_AND_HANDED, UPGRADE_OF_A_SHARED_LINE, WRITE_BACK_HELD_OFF,
-    trace,
+    CANCELLED_BY_ADDRESS_ERROR, Clock, DEFERRED_AND_REPLIED, DIRTY_VICTIM_WRITTEN_BACK, STALLED_SNOOP,
+    STORE_HANDED_OVER_BEFORE_ARRIVAL, TWO_AGENTS_OVERLAP, WRITE_BACK_HELD_OFF, sample,
 };
 use std::alloc::Global;
 use std::process::Abort;
 
-/// The first clock of the live request with this clock among its numbers, as the whole trace tells it.
-fn told(
-    w: &[Sample],
-    seen: &[fsb_trace::Seen],
-    clock: u32,
-    number: fn(&[Sample], u32) -> Option<u32>,
-) -> Option<u32> {
-    let mut i = 0;
-    for request in seen {
-        if !request.cancelled {
-            if number(w, i) == Some(clock) {
-                return Some(request.clock);
-            }
-            i += 1;
+/// A live request's first clock, snoop end, response and end.
+type Numbers = (u32, u32, u32, u32);
+
+/// The first clock of the request that has its snoop end, its response and its end at this clock.
+fn told(numbers: &[Numbers], clock: u32) -> (Option<u32>, Option<u32>, Option<u32>) {
+    let mut told = (None, None, None);
+    for &(first, snoop, response, end) in numbers {
+        if snoop == clock {
+            told.0 = Some(first);
+        }
+        if response == clock {
+            told.1 = Some(first);
+        }
+        if end == clock {
+            told.2 = Some(first);
         }
     }
-    None
+    told
 }
 
-fn expect_found(rt: &impl Abort, alloc: Global, clocks: &[Clock]) {
-    let w = trace(alloc, clocks).expect(rt, "out of memory");
-    let seen = requests(alloc, &w).expect(rt, "out of memory");
+/// Asserts that a table finds these numbers in the run, and these requests in their second clocks.
+fn expect_found(
+    rt: &impl Abort,
+    alloc: Global,
+    clocks: &[Clock],
+    numbers: &[Numbers],
+    begun: &[u32],
+)
+    requires { length clocks.now < 2 ^ 32 }
+{
     let mut table = Table::new(alloc);
-    let mut events = 0;
-    for (clock, sample) in w.iter().enumerate() {
-        let happened = table.feed(sample).expect(rt, "out of memory");
-        let clock = clock as u32;
-        assert_eq!(rt; happened.clock, clock);
-        assert_eq!(rt; happened.snooped, told(&w, &seen, clock, snoop_end));
-        assert_eq!(rt; happened.answered, told(&w, &seen, clock, response));
-        assert_eq!(rt; happened.ended, told(&w, &seen, clock, end_of));
-        if happened.snooped.is_some() { events += 1; }
-        if let Some(row) = happened.begun {
-            assert_eq!(rt; row.seen.clock + 1, clock);
-            for s in &seen {
-                if s.clock == row.seen.clock {
-                    assert_eq!(rt; row.seen.who, s.who);
-                    assert_eq!(rt; row.seen.request, s.request);
-                }
-            }
-        }
+    for (at, &clock) in clocks.iter().enumerate() {
+        let happened = table.feed(&sample(clock)).expect(rt, "out of memory");
+        let (snooped, answered, ended) = told(numbers, happened.clock);
+        assert!(rt; happened.clock as usize == at);
+        assert!(rt; happened.snooped == snooped);
+        assert!(rt; happened.answered == answered);
+        assert!(rt; happened.ended == ended);
+        let first = happened.clock.saturating_sub(1);
+        assert!(rt; happened.begun.is_some() == (at > 0 && begun.contains(&first)));
     }
-    assert!(rt; events > 0);
 }
 
 #[test]
 fn found_in_worked_runs(rt: HostRuntime) {
-    expect_found(&rt, rt.alloc(), &LOAD_THEN_STORE_HIT);
-    expect_found(&rt, rt.alloc(), &TWO_AGENTS_OVERLAP);
-    expect_found(&rt, rt.alloc(), &STORE_HANDED_OVER_BEFORE_ARRIVAL);
-    expect_found(&rt, rt.alloc(), &STALLED_SNOOP);
-    expect_found(&rt, rt.alloc(), &CANCELLED_BY_ADDRESS_ERROR);
-    expect_found(&rt, rt.alloc(), &LOCKED_INCREMENTS);
-    expect_found(&rt, rt.alloc(), &DEFERRED_AND_REPLIED);
-    expect_found(&rt, rt.alloc(), &DIRTY_VICTIM_WRITTEN_BACK);
-    expect_found(&rt, rt.alloc(), &UPGRADE_LOST_AND_HANDED);
-    expect_found(&rt, rt.alloc(), &UPGRADE_OF_A_SHARED_LINE);
-    expect_found(&rt, rt.alloc(), &WRITE_BACK_HELD_OFF);
+    let a = rt.alloc();
+    expect_found(&rt, a, &TWO_AGENTS_OVERLAP, &[(2, 6, 8, 11), (5, 9, 12, 15)], &[2, 5]);
+    let handed = [(2, 6, 8, 11), (5, 9, 14, 17)];
+    expect_found(&rt, a, &STORE_HANDED_OVER_BEFORE_ARRIVAL, &handed, &[2, 5]);
+    expect_found(&rt, a, &STALLED_SNOOP, &[(2, 10, 12, 15)], &[2]);
+    expect_found(&rt, a, &CANCELLED_BY_ADDRESS_ERROR, &[(8, 12, 14, 17)], &[2, 8]);
+    let deferred = [(2, 6, 8, 8), (5, 9, 11, 11), (14, 18, 20, 20), (21, 25, 27, 30), (24, 28, 31, 34)];
+    expect_found(&rt, a, &DEFERRED_AND_REPLIED, &deferred, &[2, 5, 14, 21, 24]);
+    let held_off = [(2, 6, 8, 11), (13, 17, 21, 24), (18, 22, 25, 28)];
+    expect_found(&rt, a, &WRITE_BACK_HELD_OFF, &held_off, &[2, 13, 18]);
+    let written = [(2, 6, 8, 11), (14, 18, 22, 25), (28, 32, 34, 37), (40, 44, 46, 49)];
+    expect_found(&rt, a, &DIRTY_VICTIM_WRITTEN_BACK, &written, &[2, 14, 28, 40]);
 }

@@ -1,7 +1,6 @@
-//! The table of requests, fed with worked runs: what it finds at each clock is what the plain calls of `fsb_trace` tell of the
-//! whole trace.
+//! The table of requests, fed with worked runs whose numbers were worked out by hand.
 //!
-//! Nothing is promised.
+//! Nothing is promised. Read fsb_owner_feed next.
 #![tactic(auto)]
 
 #[cfg(test)]
