@@ -22,10 +22,19 @@ use Rattle.fsb_owner_table.specs.Rows.{row_at}
 use Rattle.fsb_owner_feed.specs.declared.begins.Begins.{Begins}
 use Rattle.fsb_owner_feed.specs.Begins.{IsLast, SaysBegins, line_by, request_by}
 
-line_cases : (who : Option Who) (first : Sample) → elim who [
-      | Some who ↦ elim who [ Symmetric a ↦ Some (first.addr.bits / 4) | Priority ↦ None ]
+-- the line, by the winner and the sample
+abbrev line_with : Option Who → Option Sample → Option ℕ
+line_with winner sample =
+    elim winner [
+      | Some who ↦ elim who [ Symmetric a ↦ option_map (λ s. s.addr.bits / 4) sample | Priority ↦ None ]
       | None ↦ None
-    ] ≡ line_by who first
+    ]
+
+line_of-is : (w : Trace) (q : ℕ) → line_of w q ≡ line_with (winner_at w q) (slice_get w q)
+unfolding line_of
+line_of-is w q = refl
+
+line_cases : (who : Option Who) (first : Sample) → line_with who (Some first) ≡ line_by who first
 unfolding line_by
 line_cases None first = refl
 line_cases (Some (Symmetric a)) first = refl
@@ -52,8 +61,9 @@ module _ {h : Trace} (x : Sample) {begins : Begins} {q : ℕ} (l : IsLast begins
   request_new = rw (first_at, second_at) refl
 
   pub line_new : line_of v q ≡ line_by begins.who begins.first
-  unfolding line_of
-  line_new = rw (winner_new, first_at) (line_cases begins.who begins.first)
+  line_new =
+      line_of-is v q ∙ ap (λ o. line_with o (slice_get v q)) winner_new ∙ ap (line_with begins.who) first_at
+      ∙ line_cases begins.who begins.first
 
   pub seen_new : ◌≡◌ {A = Seen}
       (record { clock = q; who = begins.who; request = request_by begins.first x; cancelled = false }) (seen_at v q)

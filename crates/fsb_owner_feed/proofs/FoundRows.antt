@@ -50,13 +50,13 @@ one_cases p r false false e f = rw e refl
 one_cases p r true true e f = absurd (let k = f refl in let no : ⊥ = cc in no)
 one_cases p r true false e f = refl
 
-module _ (p : Row → Bool) (h : Trace) (open : (q : ℕ) → p (row_at h q) ≡ true → is_row_closed (row_at h q) (length h - 3) ≡ false) where
+module _ (p : Row → Bool) (h : Trace) (going : (q : ℕ) → p (row_at h q) ≡ true → is_row_closed (row_at h q) (length h - 3) ≡ false) where
   one_found : (q : ℕ) → find p (option_to_list (kept_at h q)) ≡ option_map (row_at h) (cond (passes p h q) (Some q) None)
   one_found q =
       elim (cases_Bool (line_at ADS h q)) [
         | inl t ↦
             ap (λ o. find p (option_to_list o)) (kept_is h q t)
-            ∙ one_cases p (row_at h q) (is_row_closed (row_at h q) (length h - 3)) (p (row_at h q)) refl (open q)
+            ∙ one_cases p (row_at h q) (is_row_closed (row_at h q) (length h - 3)) (p (row_at h q)) refl (going q)
             ∙ map_cond (row_at h) (p (row_at h q)) q
             ∙ ap (λ b. option_map (row_at h) (cond (b && p (row_at h q)) (Some q) None)) (sym t)
         | inr f ↦

@@ -1,6 +1,6 @@
 -- What happens to requests with a sample: which one has its snoop end, its response or its end.
 use Rattle.std.proofs.Common.{ℕ, suc, ◌+◌, ◌<◌, ◌≤◌, ◌≡◌, Bool, true, false, cond, not, ◌&&◌, Option, Some, None, inl, inr, add-one}
-use Rattle.std.proofs.Common.{[], ◌∷◌, ◌++◌, is_none, is_some, length, refl, sym, ap, ◌∙◌, arith, subst}
+use Rattle.std.proofs.Common.{[], ◌∷◌, ◌++◌, is_none, is_some, nat_le, length, refl, sym, ap, ◌∙◌, arith, subst}
 use Rattle.std.specs.Option.{option_map}
 use Rattle.std.proofs.lemmas.Bool.{and_parts, cases_Bool, cases_eq, cases_lt, eq-eqb, false_from_ne_true, both_ways, ne_eqb}
 use Rattle.fsb_count.specs.Options.{is_at, is_some_and}
@@ -24,7 +24,7 @@ use Rattle.fsb_laws.proofs.Interface.{response_clock_of-new, response_count-kept
 use Rattle.fsb_laws.proofs.Interface.{snoop_end_of-more, snoop_end_of-old, snoops_to-ended, snoops_to-kept, transfer_of-begun}
 use Rattle.fsb_laws.proofs.Interface.{ads_before_end, transfer_of-kept, transfer_parts}
 use Rattle.fsb_laws.proofs.OrderlySteps.{response_now}
-use Rattle.fsb_heads.specs.Heads.{snooped_count}
+use Rattle.fsb_heads.specs.Heads.{MovesWith, snooped_count}
 use Rattle.fsb_heads.proofs.Interface.{snoops_to}
 use Rattle.fsb_owner_table.specs.declared.row.Row.{Row}
 use Rattle.fsb_owner_table.specs.Rows.{reached, row_at, snoop_at, snooped_by}
@@ -160,6 +160,37 @@ module _ {table : Table} {x : Sample} {h : Trace} (g : GoesOn table x h) where
   pub none_waits : responds x ≡ true → SaysWaiting h None → ⊥
   none_waits r none = let s = snooped_before r in let there = s.1 in let no : ⊥ = cc in no
 
+  pub answered_by : (o : Option Row) → responds x ≡ true → SaysWaiting h o → SaysAnswered x h o
+  answered_by None r s = absurd (none_waits r s)
+  answered_by (Some row) r s = (r, s)
+
+-- whether a request may respond next, by its row
+snoop_by : (h : Trace) (n : ℕ) (o : Option ℕ) (q : ℕ) → reached snoop_end_of h q ≡ o
+    → is_some_and (snoop_at h q) (λ s. nat_le (s.clock + 2) n) ≡ is_some_and o (λ t. nat_le (t + 2) n)
+unfolding snoop_at snooped_by is_some_and
+snoop_by h n None q e = rw e refl
+snoop_by h n (Some t) q e = rw e refl
+
+snoop_field : (h : Trace) (q : ℕ) → (row_at h q).snoop ≡ snoop_at h q
+unfolding row_at
+snoop_field h q = refl
+
+pub may_row : (h : Trace) (row : Row) → IsRowOf h (response_count h) row
+    → (is_some_and row.snoop (λ s. nat_le (s.clock + 2) (length h)) && is_none (transfer_of h)) ≡ may_answer_next h
+unfolding may_answer_next
+may_row h row r =
+    let q : ℕ = row.seen.clock in
+    let k = numbered h (response_count h) q r.clock in
+    let snoop : row.snoop ≡ snoop_at h q = ap (λ w. w.snoop) r.is ∙ snoop_field h q in
+    ap (λ b. b && is_none (transfer_of h))
+    (ap (λ o. is_some_and o (λ s. nat_le (s.clock + 2) (length h))) snoop
+    ∙ snoop_by h (length h) (snoop_end_of h (response_count h)) q
+    (reached-live snoop_end_of h q k.1 ∙ ap (snoop_end_of h) k.2))
+
+pub may_none : (h : Trace) → snoop_end_of h (response_count h) ≡ None → may_answer_next h ≡ false
+unfolding may_answer_next is_some_and
+may_none h e = rw e refl
+
 -- what a response tells of a request, by its row
 handed : (h : Trace) (i q s : ℕ) → reached snoop_end_of h q ≡ Some s → snoop_end_of h i ≡ Some s
     → is_some_and (snoop_at h q) (λ k. k.hitm) ≡ line_at_snoop_end HITM h i
@@ -284,6 +315,22 @@ module _ {table : Table} {x : Sample} {h : Trace} (g : GoesOn table x h) where
   pub ended_row : (row : Row) (moves : Bool) → responds x ≡ true → IsRowOf h (response_count h) row
       → moves_by (Some row) x ≡ moves → IsReached end_of (cond moves None (Some row.seen.clock)) w (length h)
   ended_row row moves r is e = at_once row moves r is (sym (moves_told row r is) ∙ e)
+
+  pub ended_answered : (o : Option Row) (moves : Bool) → responds x ≡ true → SaysAnswered x h o → moves_by o x ≡ moves
+      → IsReached end_of (cond moves None (option_map (λ r. r.seen.clock) o)) w (length h)
+  ended_answered None moves r s e = absurd (both_ways _ s r)
+  ended_answered (Some row) moves r s e = ended_row row moves r s.1 e
+
+  pub moves_with : (o : Option Row) → SaysAnswered x h o → MovesWith x (moves_by o x) h
+  moves_with None s =
+      record { orderly = g.before; timely = in_time g; moves_is = λ r. absurd (both_ways _ s r) }
+  moves_with (Some row) s =
+      record {
+        orderly = g.before;
+        timely = in_time g;
+        moves_is = λ r. moves_told row r s.1
+            ∙ sym (moves_new h x w (snooped_count h) one (snoops_to h) (below g r) r);
+      }
 
   -- without one
   last_cases : (o p : Option ℕ) (moving : Option Row) → responds x ≡ false → transfer_of h ≡ o → transfer_of w ≡ p

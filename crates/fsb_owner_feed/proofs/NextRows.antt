@@ -71,17 +71,17 @@ is_moving : (h : Trace) (q : ℕ)
 unfolding row_at
 is_moving h q = refl
 
+off : (b : Bool) → not b ≡ true → b ≡ false
+off true e = absurd (let no : ⊥ = cc in no)
+off false e = refl
+
 live_at : (h : Trace) (q : ℕ) → line_at ADS h q ≡ true → is_cancelled h q ≡ false → is_live h q ≡ true
 unfolding is_live
 live_at h q t f = rw (t, f) refl
 
 alive : (h : Trace) (q : ℕ) → is_live h q ≡ true → is_cancelled h q ≡ false
 unfolding is_live
-alive h q t =
-    elim (cases_Bool (is_cancelled h q)) [
-      | inl c ↦ absurd (let k = (and_parts _ _ t).1 in let f : false ≡ true = rw c at k in let no : ⊥ = cc in no)
-      | inr f ↦ f
-    ]
+alive h q t = off (is_cancelled h q) (and_parts (line_at ADS h q) (not (is_cancelled h q)) t).1
 
 -- a request whose end is reached has its response and its snoop end
 module _ (h : Trace) (orderly : Orderly h) (q : ℕ) where
@@ -100,31 +100,28 @@ module _ (h : Trace) (orderly : Orderly h) (q : ℕ) where
   asking_open : is_row_asking (row_at h q) ≡ true → is_row_closed (row_at h q) (length h - 3) ≡ false
   asking_open =
       stays_open is_row_asking h q
-      (λ t. let p = (and_parts _ _ (sym (is_asking h q) ∙ t)).0 in
-      elim (cases_Bool (is_cancelled h q)) [
-        | inl c ↦ absurd (let f : false ≡ true = rw c at p in let no : ⊥ = cc in no)
-        | inr f ↦ f
-      ])
+      (λ t. off (is_cancelled h q) (and_parts (not (is_cancelled h q)) (is_none (reached snoop_end_of h q))
+      (sym (is_asking h q) ∙ t)).0)
       (λ t. none_by (reached end_of h q) (λ e k.
-      let none = is_none-none (reached snoop_end_of h q) (and_parts _ _ (sym (is_asking h q) ∙ t)).1 in
+      let none = is_none-none (reached snoop_end_of h q) (and_parts (not (is_cancelled h q)) (is_none (reached snoop_end_of h q)) (sym (is_asking h q) ∙ t)).1 in
       let r = of_end e k in
       let s = of_response r.0 r.1 in let there = s.1 in let no : ⊥ = cc in no))
 
   waiting_open : is_row_waiting (row_at h q) ≡ true → is_row_closed (row_at h q) (length h - 3) ≡ false
   waiting_open =
       stays_open is_row_waiting h q
-      (λ t. let s = some_of (reached snoop_end_of h q) (and_parts _ _ (sym (is_waiting h q) ∙ t)).0 in
+      (λ t. let s = some_of (reached snoop_end_of h q) (and_parts (is_some (reached snoop_end_of h q)) (is_none (reached response_clock_of h q)) (sym (is_waiting h q) ∙ t)).0 in
       alive h q (reached-parts snoop_end_of h q s.0 s.1).0)
       (λ t. none_by (reached end_of h q) (λ e k.
-      let none = is_none-none (reached response_clock_of h q) (and_parts _ _ (sym (is_waiting h q) ∙ t)).1 in
+      let none = is_none-none (reached response_clock_of h q) (and_parts (is_some (reached snoop_end_of h q)) (is_none (reached response_clock_of h q)) (sym (is_waiting h q) ∙ t)).1 in
       let r = of_end e k in let there = r.1 in let no : ⊥ = cc in no))
 
   moving_open : is_row_moving (row_at h q) ≡ true → is_row_closed (row_at h q) (length h - 3) ≡ false
   moving_open =
       stays_open is_row_moving h q
-      (λ t. let s = some_of (reached response_clock_of h q) (and_parts _ _ (sym (is_moving h q) ∙ t)).0 in
+      (λ t. let s = some_of (reached response_clock_of h q) (and_parts (is_some (reached response_clock_of h q)) (is_none (reached end_of h q)) (sym (is_moving h q) ∙ t)).0 in
       alive h q (reached-parts response_clock_of h q s.0 s.1).0)
-      (λ t. is_none-none (reached end_of h q) (and_parts _ _ (sym (is_moving h q) ∙ t)).1)
+      (λ t. is_none-none (reached end_of h q) (and_parts (is_some (reached response_clock_of h q)) (is_none (reached end_of h q)) (sym (is_moving h q) ∙ t)).1)
 
 -- a live request has number s where those with lesser numbers are others, and no live request before it has it
 number_is : (h : Trace) (s q : ℕ) → (live_number_of h q < s → ⊥)
@@ -152,12 +149,9 @@ module _ (h : Trace) (orderly : Orderly h) where
   asks_for : (q : ℕ) → passes is_row_asking h q ≡ true
       → (is_live h q ≡ true) × (snoop_end_of h (live_number_of h q) ≡ None)
   asks_for q t =
-      let p = and_parts _ _ t in
-      let k = and_parts _ _ (sym (is_asking h q) ∙ p.1) in
-      let live : is_live h q ≡ true = live_at h q p.0 (elim (cases_Bool (is_cancelled h q)) [
-        | inl c ↦ absurd (let m = k.0 in let f : false ≡ true = rw c at m in let no : ⊥ = cc in no)
-        | inr f ↦ f
-      ]) in
+      let p = and_parts (line_at ADS h q) (is_row_asking (row_at h q)) t in
+      let k = and_parts (not (is_cancelled h q)) (is_none (reached snoop_end_of h q)) (sym (is_asking h q) ∙ p.1) in
+      let live : is_live h q ≡ true = live_at h q p.0 (off (is_cancelled h q) k.0) in
       (live, sym (reached-live snoop_end_of h q live) ∙ is_none-none (reached snoop_end_of h q) k.1)
 
   asks_not : (q : ℕ) → passes is_row_asking h q ≡ false → is_live h q ≡ true
@@ -201,7 +195,8 @@ module _ (h : Trace) (orderly : Orderly h) where
   waits_for : (q : ℕ) → passes is_row_waiting h q ≡ true → (is_live h q ≡ true)
       × ((t : ℕ) × (snoop_end_of h (live_number_of h q) ≡ Some t)) × (response_clock_of h (live_number_of h q) ≡ None)
   waits_for q t =
-      let k = and_parts _ _ (sym (is_waiting h q) ∙ (and_parts _ _ t).1) in
+      let k = and_parts (is_some (reached snoop_end_of h q)) (is_none (reached response_clock_of h q))
+      (sym (is_waiting h q) ∙ (and_parts (line_at ADS h q) (is_row_waiting (row_at h q)) t).1) in
       let s = some_of (reached snoop_end_of h q) k.0 in
       let p = reached-parts snoop_end_of h q s.0 s.1 in
       (
@@ -265,7 +260,8 @@ module _ (h : Trace) (orderly : Orderly h) where
   moves_for : (q : ℕ) → passes is_row_moving h q ≡ true → (is_live h q ≡ true)
       × ((r : ℕ) × (response_clock_of h (live_number_of h q) ≡ Some r)) × (end_of h (live_number_of h q) ≡ None)
   moves_for q t =
-      let k = and_parts _ _ (sym (is_moving h q) ∙ (and_parts _ _ t).1) in
+      let k = and_parts (is_some (reached response_clock_of h q)) (is_none (reached end_of h q))
+      (sym (is_moving h q) ∙ (and_parts (line_at ADS h q) (is_row_moving (row_at h q)) t).1) in
       let s = some_of (reached response_clock_of h q) k.0 in
       let p = reached-parts response_clock_of h q s.0 s.1 in
       (p.0, (s.0, p.1), sym (reached-live end_of h q p.0) ∙ is_none-none (reached end_of h q) k.1)

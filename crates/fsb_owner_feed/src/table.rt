@@ -1,7 +1,10 @@
 //! The table: what happens with the next sample, and the table after it.
 
-ghost use Rattle.std.specs.Prelude.{◌≡◌, ◌<◌, ◌≤◌, ◌+◌, ◌^◌, false, ◌∷◌, ◌++◌, [], length, ◌&&◌, is_none, is_some, OnOk, IfOk};
+ghost use Rattle.std.specs.Prelude.{◌≡◌, ◌<◌, ◌≤◌, ◌+◌, ◌^◌, nat_le, false, ◌∷◌, ◌++◌, [], length, ◌&&◌, is_none, is_some, OnOk, IfOk};
 ghost use Rattle.std.specs.Option.{option_map};
+ghost use Rattle.fsb_count.specs.Options.{is_some_and};
+ghost use Rattle.fsb_signal.specs.declared.lines.TheConstants.Lines.{TRDY};
+ghost use Rattle.fsb_signal.specs.Samples.{has_line};
 ghost use Rattle.fsb_trace.specs.At.{Trace};
 ghost use Rattle.fsb_trace.specs.Snoop.{snoop_end_of};
 ghost use Rattle.fsb_trace.specs.Response.{end_of};
@@ -12,10 +15,10 @@ ghost use Rattle.fsb_heads.specs.Heads.{Stands as HeadsStands, snooped_count};
 ghost use Rattle.fsb_owner_table.specs.Happened.{Happens, begun_row};
 ghost use Rattle.fsb_owner_table.specs.Kept.{rows_of};
 ghost use Rattle.fsb_owner_feed.specs.Begins.{SaysBegins};
-ghost use Rattle.fsb_owner_feed.specs.Table.{GoesOn, IsReached, SaysAnswered, SaysAsking, SaysMoving, SaysWaiting, Stands, fed, moves_by};
+ghost use Rattle.fsb_owner_feed.specs.Table.{GoesOn, IsReached, IsRowOf, SaysAnswered, SaysAsking, SaysMoving, SaysWaiting, Stands, fed, moves_by};
 
 use crate::begins::Begins;
-use crate::found::{first_asking, first_moving, first_waiting, is_two_before};
+use crate::found::{first_asking, first_moving, first_waiting, is_snooped_two_before};
 use fsb_arbiter::Arbiter;
 use fsb_heads::{Heads, Next, responds, stalls};
 use fsb_io::Memory;
@@ -48,6 +51,7 @@ fn clock_of(row: Option<Row>) -> Option<u32>
 }
 
 /// Whether data move with a response that is the sample, of this request.
+#[tactic(auto, unfolding(fsb_count::specs::Options::is_some_and))]
 fn moves_by(row: &Option<Row>, sample: &Sample) -> bool
     ensures { result ≡ moves_by row.now sample.now }
 {
@@ -100,6 +104,15 @@ impl Table {
         first_moving(self.rows.as_slice())
     }
 
+    /// Whether the snoop of the request with this row, which is snooped next, ends with the sample of this clock.
+    #[tactic(auto, unfolding(fsb_laws::specs::Progress::ends_snoop_of))]
+    fn ends_snoop(&self, row: &Row, clock: u32, sample: &Sample) -> bool
+        ensures { (h : Trace) → Stands self.now h → IsRowOf h (snooped_count h) row.now →
+            clock ≡ length h → result ≡ ends_snoop_of h (snooped_count h) sample.now }
+    {
+        self.heads.is_due(row.seen.clock, clock) && !stalls(sample)
+    }
+
     /// The request that has its snoop end with the sample of this clock.
     fn snooped(&self, clock: u32, sample: &Sample) -> Option<u32>
         ensures reached { (h : Trace) → GoesOn self.now sample.now h → clock ≡ length h →
@@ -109,7 +122,7 @@ impl Table {
     {
         match self.asking() {
             Some(row) => {
-                if self.heads.is_due(row.seen.clock, clock) && !stalls(sample) {
+                if self.ends_snoop(&row, clock, sample) {
                     Some(row.seen.clock)
                 } else {
                     None
@@ -187,15 +200,32 @@ impl Table {
         }
     }
 
+    /// Whether the request with this row, which responds next, may respond at this clock.
+    fn may_respond(&self, row: &Row, clock: u32) -> bool
+        ensures { (h : Trace) → Stands self.now h →
+            result ≡ (is_some_and row.now.snoop (λ s. nat_le (s.clock + 2) clock)
+            && is_none (transfer_of h)) }
+    {
+        is_snooped_two_before(row, clock) && self.heads.chunks().is_none()
+    }
+
     /// Whether a response may come at this clock.
     fn may_answer(&self, clock: u32) -> bool
         ensures { (h : Trace) → Stands self.now h → Orderly h → clock ≡ length h →
             result ≡ may_answer_next h }
     {
         match self.waiting() {
-            Some(row) => is_two_before(&row, clock) && self.heads.chunks().is_none(),
+            Some(row) => self.may_respond(&row, clock),
             None => false,
         }
+    }
+
+    /// Whether the target is ready with the sample of this clock for the request that responds next.
+    fn readies(&self, clock: u32, sample: &Sample) -> bool
+        ensures { (h : Trace) → Stands self.now h → Orderly h → clock ≡ length h →
+            result ≡ (has_line sample.now TRDY && may_answer_next h) }
+    {
+        sample.has(Lines::TRDY) && self.may_answer(clock)
     }
 
     /// The heads after the sample of this clock, with which a snoop ends or does not.
@@ -206,7 +236,7 @@ impl Table {
     {
         let next = Next {
             snoops,
-            readies: sample.has(Lines::TRDY) && self.may_answer(clock),
+            readies: self.readies(clock, sample),
             moves: moves_by(&self.answered(sample), sample),
         };
         self.heads.after(clock, sample, &next)
