@@ -106,8 +106,7 @@ pub begins_some : (h : Trace) (x : Sample) (who : Option Who) → has_line x ADS
 begins_some h x who t is =
     let one = one_more h x in
     let size = one.size in
-    let e : length (h ++ x ∷ []) - 1 ≡ length h = omega (arith, size) in
-    (
+    let e : length (h ++ x ∷ []) - 1 ≡ length h = omega (arith, size) in (
       asks_now h x ∙ t,
       record {
         last = omega (arith, size);

@@ -198,8 +198,7 @@ module _ (h : Trace) (orderly : Orderly h) where
       let k = and_parts (is_some (reached snoop_end_of h q)) (is_none (reached response_clock_of h q))
       (sym (is_waiting h q) ∙ (and_parts (line_at ADS h q) (is_row_waiting (row_at h q)) t).1) in
       let s = some_of (reached snoop_end_of h q) k.0 in
-      let p = reached-parts snoop_end_of h q s.0 s.1 in
-      (
+      let p = reached-parts snoop_end_of h q s.0 s.1 in (
         p.0,
         (s.0, p.1),
         sym (reached-live response_clock_of h q p.0) ∙ is_none-none (reached response_clock_of h q) k.1,
@@ -308,8 +307,7 @@ module _ (h : Trace) (orderly : Orderly h) where
   first_moving (Some q) e =
       let p = first_where-found _ (length h - 1) q e in
       let a = moves_for q p.1 in
-      let r = a.1 in
-      (
+      let r = a.1 in (
         live_number_of h q,
         last_open (live_number_of h q) r.0 (transfer_of h) refl r.1 a.2,
         row_of h (live_number_of h q) q (live_clock_of-number h q (omega (arith, p.0)) a.0),

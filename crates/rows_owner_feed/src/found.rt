@@ -4,8 +4,9 @@ ghost use Rattle.std.specs.Prelude.{◌^◌, ◌<◌, length};
 
 use fsb_owner_feed::Table;
 use rows_store::{
-    CANCELLED_BY_ADDRESS_ERROR, Clock, DEFERRED_AND_REPLIED, DIRTY_VICTIM_WRITTEN_BACK, STALLED_SNOOP,
-    STORE_HANDED_OVER_BEFORE_ARRIVAL, TWO_AGENTS_OVERLAP, WRITE_BACK_HELD_OFF, sample,
+    CANCELLED_BY_ADDRESS_ERROR, Clock, DEFERRED_AND_REPLIED, DIRTY_VICTIM_WRITTEN_BACK,
+    STALLED_SNOOP, STORE_HANDED_OVER_BEFORE_ARRIVAL, TWO_AGENTS_OVERLAP, WRITE_BACK_HELD_OFF,
+    sample,
 };
 use std::alloc::Global;
 use std::process::Abort;
@@ -41,8 +42,8 @@ fn expect_found(
     requires { length clocks.now < 2 ^ 32 }
 {
     let mut table = Table::new(alloc);
-    for (at, &clock) in clocks.iter().enumerate() {
-        let happened = table.feed(&sample(clock)).expect(rt, "out of memory");
+    for at in 0..clocks.len() {
+        let happened = table.feed(&sample(clocks[at])).expect(rt, "out of memory");
         let (snooped, answered, ended) = told(numbers, happened.clock);
         assert!(rt; happened.clock as usize == at);
         assert!(rt; happened.snooped == snooped);
@@ -56,15 +57,50 @@ fn expect_found(
 #[test]
 fn found_in_worked_runs(rt: HostRuntime) {
     let a = rt.alloc();
-    expect_found(&rt, a, &TWO_AGENTS_OVERLAP, &[(2, 6, 8, 11), (5, 9, 12, 15)], &[2, 5]);
+    expect_found(
+        &rt,
+        a,
+        &TWO_AGENTS_OVERLAP,
+        &[(2, 6, 8, 11), (5, 9, 12, 15)],
+        &[2, 5],
+    );
     let handed = [(2, 6, 8, 11), (5, 9, 14, 17)];
     expect_found(&rt, a, &STORE_HANDED_OVER_BEFORE_ARRIVAL, &handed, &[2, 5]);
     expect_found(&rt, a, &STALLED_SNOOP, &[(2, 10, 12, 15)], &[2]);
-    expect_found(&rt, a, &CANCELLED_BY_ADDRESS_ERROR, &[(8, 12, 14, 17)], &[2, 8]);
-    let deferred = [(2, 6, 8, 8), (5, 9, 11, 11), (14, 18, 20, 20), (21, 25, 27, 30), (24, 28, 31, 34)];
-    expect_found(&rt, a, &DEFERRED_AND_REPLIED, &deferred, &[2, 5, 14, 21, 24]);
+    expect_found(
+        &rt,
+        a,
+        &CANCELLED_BY_ADDRESS_ERROR,
+        &[(8, 12, 14, 17)],
+        &[2, 8],
+    );
+    let deferred = [
+        (2, 6, 8, 8),
+        (5, 9, 11, 11),
+        (14, 18, 20, 20),
+        (21, 25, 27, 30),
+        (24, 28, 31, 34),
+    ];
+    expect_found(
+        &rt,
+        a,
+        &DEFERRED_AND_REPLIED,
+        &deferred,
+        &[2, 5, 14, 21, 24],
+    );
     let held_off = [(2, 6, 8, 11), (13, 17, 21, 24), (18, 22, 25, 28)];
     expect_found(&rt, a, &WRITE_BACK_HELD_OFF, &held_off, &[2, 13, 18]);
-    let written = [(2, 6, 8, 11), (14, 18, 22, 25), (28, 32, 34, 37), (40, 44, 46, 49)];
-    expect_found(&rt, a, &DIRTY_VICTIM_WRITTEN_BACK, &written, &[2, 14, 28, 40]);
+    let written = [
+        (2, 6, 8, 11),
+        (14, 18, 22, 25),
+        (28, 32, 34, 37),
+        (40, 44, 46, 49),
+    ];
+    expect_found(
+        &rt,
+        a,
+        &DIRTY_VICTIM_WRITTEN_BACK,
+        &written,
+        &[2, 14, 28, 40],
+    );
 }
