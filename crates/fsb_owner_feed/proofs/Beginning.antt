@@ -1,22 +1,20 @@
 -- The request that began at the last clock, in its second clock.
-use Rattle.std.proofs.Common.{ℕ, ◌+◌, ◌-◌, ◌<◌, ◌≤◌, ◌≡◌, ◌/◌, Bool, true, false, cond, nat_le, Option, Some, None}
-use Rattle.std.proofs.Common.{[], ◌∷◌, ◌++◌, length, refl, slice_get, sym, ap, ◌∙◌, arith, subst}
-use Rattle.std.specs.Option.{option_and_then, option_map}
-use Rattle.std.proofs.lemmas.Bool.{le-leb, leb-true, leb-false, and_left, lt-leb}
-use Rattle.fsb_signal.specs.declared.lines.Lines.{Lines}
+use Rattle.std.proofs.Common.{ℕ, ◌+◌, ◌-◌, ◌≡◌, ◌/◌, Bool, true, false, nat_le, Option, Some, None}
+use Rattle.std.proofs.Common.{[], ◌∷◌, ◌++◌, length, refl, slice_get, sym, ap, ◌∙◌, arith}
+use Rattle.std.specs.Option.{option_map}
+use Rattle.std.proofs.lemmas.Bool.{le-leb, leb-true}
 use Rattle.fsb_signal.specs.declared.lines.TheConstants.Lines.{ADS}
 use Rattle.fsb_signal.specs.declared.sample.Sample.{Sample}
-use Rattle.fsb_signal.specs.Samples.{has_line, line_at}
+use Rattle.fsb_signal.specs.Samples.{has_line}
 use Rattle.fsb_trace.specs.declared.seen.Seen.{Seen}
 use Rattle.fsb_trace.specs.declared.who.Who.{Who}
 use Rattle.fsb_trace.specs.declared.who.Who.TheVariants.{Symmetric, Priority}
-use Rattle.fsb_trace.specs.At.{Trace, known_pair_at, known_pair, line_back, request_at}
-use Rattle.fsb_trace.specs.Requests.{is_cancelled, line_of, seen_at}
+use Rattle.fsb_trace.specs.At.{Trace, known_pair_at, line_back, request_at}
+use Rattle.fsb_trace.specs.Requests.{line_of, seen_at}
 use Rattle.fsb_trace.specs.Winner.{winner_at}
 use Rattle.fsb_trace.proofs.Interface.{winner_at-agree}
 use Rattle.fsb_laws.specs.OneMore.{OneMore}
 use Rattle.fsb_laws.proofs.Interface.{is_cancelled-late, line_at-new, line_at-old, one_more}
-use Rattle.fsb_owner_table.specs.declared.row.Row.{Row}
 use Rattle.fsb_owner_table.specs.Happened.{begun_row}
 use Rattle.fsb_owner_table.specs.Rows.{row_at}
 use Rattle.fsb_owner_feed.specs.declared.begins.Begins.{Begins}

@@ -1,12 +1,11 @@
 -- What a test finds among the rows that are kept of a trace.
-use Rattle.std.proofs.Common.{ℕ, zero, suc, ◌+◌, ◌-◌, ◌<◌, ◌≡◌, Bool, true, false, cond, not, ◌&&◌, Option, Some, None, ◌⊎◌, inl, inr}
-use Rattle.std.proofs.Common.{[], ◌∷◌, length, refl, sym, ap, ◌∙◌, arith}
+use Rattle.std.proofs.Common.{ℕ, zero, suc, ◌-◌, ◌≡◌, Bool, true, false, cond, not, ◌&&◌, Option, Some, None, ◌⊎◌, inl, inr}
+use Rattle.std.proofs.Common.{length, refl, sym, ap, ◌∙◌}
 use Rattle.std.specs.List.{find}
 use Rattle.std.specs.Option.{option_map, option_or, option_to_list}
 use Rattle.std.proofs.lemmas.Bool.{and_parts, cases_Bool, false_from_ne_true, or_cases}
 use Rattle.std.proofs.lemmas.List.Folds.{find-append}
 use Rattle.fsb_count.specs.Clocks.{first_where}
-use Rattle.fsb_count.specs.Options.{is_before}
 use Rattle.fsb_count.proofs.Interface.{is_before-parts}
 use Rattle.fsb_signal.specs.declared.lines.TheConstants.Lines.{ADS}
 use Rattle.fsb_signal.specs.Samples.{line_at}
@@ -16,8 +15,8 @@ use Rattle.fsb_trace.specs.Outcome.{is_deferred}
 use Rattle.fsb_trace.specs.Response.{end_of}
 use Rattle.fsb_laws.proofs.OutstandingSteps.{deferred_response}
 use Rattle.fsb_owner_table.specs.declared.row.Row.{Row}
-use Rattle.fsb_owner_table.specs.Kept.{is_row_closed, is_row_dropped, kept_at, kept_below, row_last_clock}
-use Rattle.fsb_owner_table.specs.Rows.{reached, reached_by_reply, row_at}
+use Rattle.fsb_owner_table.specs.Kept.{is_row_closed, kept_at, kept_below, row_last_clock}
+use Rattle.fsb_owner_table.specs.Rows.{reached, row_at}
 use Rattle.fsb_owner_table.specs.RowAfter.{is_row_deferred}
 use Rattle.fsb_owner_table.proofs.Reached.{reached-live}
 use Rattle.fsb_owner_table.proofs.RowGoes.{deferred_is}

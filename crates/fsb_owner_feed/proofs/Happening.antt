@@ -1,21 +1,20 @@
 -- What happens to requests with a sample: which one has its snoop end, its response or its end.
-use Rattle.std.proofs.Common.{ℕ, suc, ◌+◌, ◌<◌, ◌≤◌, ◌≡◌, Bool, true, false, cond, not, ◌&&◌, Option, Some, None, inl, inr, add-one}
+use Rattle.std.proofs.Common.{ℕ, ◌+◌, ◌<◌, ◌≤◌, ◌≡◌, Bool, true, false, cond, ◌&&◌, Option, Some, None, inl, inr, add-one}
 use Rattle.std.proofs.Common.{[], ◌∷◌, ◌++◌, is_none, is_some, nat_le, length, refl, sym, ap, ◌∙◌, arith, subst}
 use Rattle.std.specs.Option.{option_map}
-use Rattle.std.proofs.lemmas.Bool.{and_parts, cases_Bool, cases_eq, cases_lt, eq-eqb, false_from_ne_true, both_ways, ne_eqb}
+use Rattle.std.proofs.lemmas.Bool.{cases_eq, cases_lt, eq-eqb, false_from_ne_true, both_ways, ne_eqb}
 use Rattle.fsb_count.specs.Options.{is_at, is_some_and}
 use Rattle.fsb_count.proofs.Interface.{is_at-from, is_at-some}
 use Rattle.fsb_signal.specs.declared.lines.TheConstants.Lines.{DRDY, HITM}
 use Rattle.fsb_signal.specs.declared.sample.Sample.{Sample}
-use Rattle.fsb_signal.specs.Samples.{has_line, line_at, response_of}
+use Rattle.fsb_signal.specs.Samples.{has_line, response_of}
 use Rattle.fsb_trace.specs.At.{Trace}
-use Rattle.fsb_trace.specs.Requests.{is_live, live_clock_of, live_number_of, seen_at}
+use Rattle.fsb_trace.specs.Requests.{live_clock_of, live_number_of, seen_at}
 use Rattle.fsb_trace.specs.Snoop.{line_at_snoop_end, snoop_end_of}
-use Rattle.fsb_trace.specs.Outcome.{does_move, moves_data, response_clock_of, told_by}
+use Rattle.fsb_trace.specs.Outcome.{does_move, response_clock_of, told_by}
 use Rattle.fsb_trace.specs.Response.{end_of}
-use Rattle.fsb_trace.specs.Rules.{is_transferring_of, may_answer}
 use Rattle.fsb_trace.proofs.Interface.{end_of-response, live_clock_of-number, snoop_end_of-clock}
-use Rattle.fsb_laws.specs.OneMore.{OneMore, responds, stalls}
+use Rattle.fsb_laws.specs.OneMore.{OneMore, responds}
 use Rattle.fsb_laws.specs.Orderly.{Orderly}
 use Rattle.fsb_laws.specs.Progress.{EndsTo, chunk_step, ends_snoop_of, may_answer_next, response_count, transfer_of}
 use Rattle.fsb_laws.proofs.Interface.{answered_below, end_of-kept, end_of-old, ends_to-moving, ends_to-still, is_live-ads}

@@ -1,9 +1,9 @@
 -- Which rows are next: those of the requests that are snooped, respond and move data next.
-use Rattle.std.proofs.Common.{ℕ, zero, suc, ◌+◌, ◌-◌, ◌<◌, ◌≤◌, ◌≡◌, Bool, true, false, cond, not, ◌&&◌, Option, Some, None, inl, inr}
+use Rattle.std.proofs.Common.{ℕ, suc, ◌+◌, ◌-◌, ◌<◌, ◌≤◌, ◌≡◌, Bool, true, false, not, ◌&&◌, Option, Some, None, inl, inr}
 use Rattle.std.proofs.Common.{is_none, is_some, length, refl, sym, ap, ◌∙◌, arith, subst}
 use Rattle.std.specs.List.{find}
 use Rattle.std.specs.Option.{option_map}
-use Rattle.std.proofs.lemmas.Bool.{and_parts, cases_Bool, cases_lt, cases_order}
+use Rattle.std.proofs.lemmas.Bool.{and_parts, cases_lt}
 use Rattle.fsb_count.specs.Clocks.{count_where, first_where}
 use Rattle.fsb_count.proofs.Interface.{first_where-found, first_where-none, is_none-none, nth_where-found, nth_where-there}
 use Rattle.fsb_signal.specs.declared.lines.TheConstants.Lines.{ADS}
@@ -16,11 +16,10 @@ use Rattle.fsb_trace.specs.Response.{end_of}
 use Rattle.fsb_trace.proofs.Interface.{end_of-response, live_clock_of-number, snoop_end_of-clock}
 use Rattle.fsb_laws.specs.Orderly.{Orderly}
 use Rattle.fsb_laws.specs.Progress.{response_count, transfer_of}
-use Rattle.fsb_laws.proofs.Interface.{ends_to-moving, ends_to-still, has_answer, is_live-ads, response_counted, response_past}
+use Rattle.fsb_laws.proofs.Interface.{ends_to-moving, ends_to-still, has_answer, is_live-ads, response_counted}
 use Rattle.fsb_laws.proofs.Interface.{response_there, snoop_end_of-above, transfer_parts}
 use Rattle.fsb_heads.specs.Heads.{snooped_count}
 use Rattle.fsb_heads.proofs.Interface.{snoops_to}
-use Rattle.fsb_owner_table.specs.declared.row.Row.{Row}
 use Rattle.fsb_owner_table.specs.Kept.{is_row_closed, kept_below}
 use Rattle.fsb_owner_table.specs.Rows.{reached, row_at, snoop_at}
 use Rattle.fsb_owner_table.proofs.Reached.{reached-live, reached-parts}

@@ -1,4 +1,4 @@
-use Rattle.std.proofs.Common.{subst, sym, ◌≡◌, ◌∙◌, ap, length}
+use Rattle.std.proofs.Common.{subst, sym, ◌∙◌}
 use Rattle.fsb_owner_feed.specs.Table.{SaysWaiting}
 use Rattle.fsb_owner_feed.proofs.Happening.{may_none, may_row}
 use Rattle.fsb_owner_feed.proofs.table.Table.may_answer.Goals as goal

@@ -1,6 +1,5 @@
-use Rattle.std.proofs.Common.{refl, subst, sym, ◌∙◌}
-use Rattle.fsb_heads.specs.Heads.{snooped_count}
-use Rattle.fsb_owner_feed.specs.Table.{IsRowOf, SaysAsking}
+use Rattle.std.proofs.Common.{subst, sym, ◌∙◌}
+use Rattle.fsb_owner_feed.specs.Table.{SaysAsking}
 use Rattle.fsb_owner_feed.proofs.Happening.{none_asks, snooped_none, snooped_row}
 use Rattle.fsb_owner_feed.proofs.table.Table.snooped.Goals as goal
 
