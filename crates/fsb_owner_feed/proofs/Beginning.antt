@@ -17,8 +17,8 @@ use Rattle.fsb_laws.specs.OneMore.{OneMore}
 use Rattle.fsb_laws.proofs.Interface.{is_cancelled-late, line_at-new, line_at-old, one_more}
 use Rattle.fsb_owner_table.specs.Happened.{begun_row}
 use Rattle.fsb_owner_table.specs.Rows.{row_at}
-use Rattle.fsb_owner_feed.specs.declared.begins.Begins.{Begins}
-use Rattle.fsb_owner_feed.specs.Begins.{IsLast, SaysBegins, line_by, request_by}
+use Rattle.fsb_owner_feed.specs.declared.begins.FirstClock.{FirstClock}
+use Rattle.fsb_owner_feed.specs.Begins.{IsLast, SaysBegins, line_by, decoded_by}
 
 -- the line, by the winner and the sample
 abbrev line_with : Option Who → Option Sample → Option ℕ
@@ -38,7 +38,7 @@ line_cases None first = refl
 line_cases (Some (Symmetric a)) first = refl
 line_cases (Some Priority) first = refl
 
-module _ {h : Trace} (x : Sample) {begins : Begins} {q : ℕ} (l : IsLast begins q h) where
+module _ {h : Trace} (x : Sample) {begins : FirstClock} {q : ℕ} (l : IsLast begins q h) where
   abbrev v : Trace
   v = h ++ x ∷ []
 
@@ -54,8 +54,8 @@ module _ {h : Trace} (x : Sample) {begins : Begins} {q : ℕ} (l : IsLast begins
   winner_new : winner_at v q ≡ begins.who
   winner_new = sym (winner_at-agree (length h) h v q m.agree (omega (arith, l.last))) ∙ sym l.who
 
-  request_new : request_at v q ≡ request_by begins.first x
-  unfolding request_at request_by known_pair_at
+  request_new : request_at v q ≡ decoded_by begins.first x
+  unfolding request_at decoded_by known_pair_at
   request_new = rw (first_at, second_at) refl
 
   pub line_new : line_of v q ≡ line_by begins.who begins.first
@@ -64,7 +64,7 @@ module _ {h : Trace} (x : Sample) {begins : Begins} {q : ℕ} (l : IsLast begins
       ∙ line_cases begins.who begins.first
 
   pub seen_new : ◌≡◌ {A = Seen}
-      (record { clock = q; who = begins.who; request = request_by begins.first x; cancelled = false }) (seen_at v q)
+      (record { clock = q; who = begins.who; request = decoded_by begins.first x; cancelled = false }) (seen_at v q)
   unfolding seen_at
   seen_new =
       rw (winner_new, request_new, is_cancelled-late v q (omega (arith, l.last, m.size))) refl
@@ -93,7 +93,7 @@ pub begun_none : (h : Trace) (x : Sample) → SaysBegins None h → begun_row (h
 unfolding begun_row
 begun_none h x f = rw (asked_back h x ∙ f) refl
 
-pub begun_some : (h : Trace) (x : Sample) (begins : Begins) → SaysBegins (Some begins) h
+pub begun_some : (h : Trace) (x : Sample) (begins : FirstClock) → SaysBegins (Some begins) h
     → begun_row (h ++ x ∷ []) (length h) ≡ Some (row_at (h ++ x ∷ []) (length h - 1))
 unfolding begun_row
 begun_some h x begins s = rw (asked_back h x ∙ s.0) refl

@@ -32,7 +32,7 @@ use Rattle.fsb_owner_table.specs.Happened.{reaches}
 use Rattle.fsb_owner_table.proofs.Reached.{reached-live, reached-parts}
 use Rattle.fsb_owner_table.proofs.RowGoes.{request_of}
 use Rattle.fsb_owner_feed.specs.declared.table.Table.{Table}
-use Rattle.fsb_owner_feed.specs.Table.{GoesOn, IsReached, IsRowOf, SaysAnswered, SaysAsking, SaysMoving, SaysWaiting, moves_by}
+use Rattle.fsb_owner_feed.specs.Table.{ComesNext, IsReached, IsRowOf, SaysAnswered, SaysAsking, SaysMoving, SaysWaiting, moves_by}
 use Rattle.fsb_owner_feed.proofs.NextRows.{numbered}
 
 -- the clock of one live request alone is n
@@ -63,7 +63,7 @@ reached_none f v n none = λ q.
     sym (false_from_ne_true (is_at (reached f v q) n) (λ t.
     none (live_number_of v q) (reached-parts f v q n (is_at-some (reached f v q) n t)).1))
 
-module _ {table : Table} {x : Sample} {h : Trace} (g : GoesOn table x h) where
+module _ {table : Table} {x : Sample} {h : Trace} (g : ComesNext table x h) where
   abbrev v : Trace
   v = h ++ x ∷ []
 
@@ -233,7 +233,7 @@ no_chunk : (comes : Bool) → chunk_step comes None ≡ None
 unfolding chunk_step
 no_chunk comes = refl
 
-module _ {table : Table} {x : Sample} {h : Trace} (g : GoesOn table x h) where
+module _ {table : Table} {x : Sample} {h : Trace} (g : ComesNext table x h) where
   abbrev w : Trace
   w = h ++ x ∷ []
 

@@ -61,7 +61,7 @@ pub record Stands (table : Table) (h : Trace) : Type 0 where
   pub clock : table.clock ≡ length h
 
 -- the sample comes after a trace that the table stands for, and requests keep their distance and responses their time in both
-pub record GoesOn (table : Table) (x : Sample) (h : Trace) : Type 0 where
+pub record ComesNext (table : Table) (x : Sample) (h : Trace) : Type 0 where
   pub stands : Stands table h
   pub before : Orderly h
   pub after : Orderly (h ++ x ∷ [])

@@ -5,7 +5,7 @@ ghost use Rattle.fsb_laws.specs.Orderly.{Orderly};
 ghost use Rattle.fsb_trace.specs.At.{Trace};
 ghost use Rattle.fsb_trace.specs.Requests.{seen_at};
 ghost use Rattle.fsb_owner_table.specs.Rows.{row_at};
-ghost use Rattle.fsb_owner_feed.specs.Begins.{IsLast, line_by, request_by};
+ghost use Rattle.fsb_owner_feed.specs.Begins.{IsLast, line_by, decoded_by};
 
 use fsb_encode::{Request, decode};
 use fsb_owner_table::{Row, begun_row};
@@ -14,7 +14,7 @@ use fsb_trace::{Seen, Who, known_pair};
 
 /// A request in its first clock.
 #[derive(Clone, Copy, Debug, PartialEq, Eq)]
-pub struct Begins {
+pub struct FirstClock {
     /// The winner of that clock; none where there is none.
     pub who: Option<Who>,
     /// The sample of that clock.
@@ -22,9 +22,9 @@ pub struct Begins {
 }
 
 /// The request of two clocks with these samples, where they hold a lawful one.
-#[tactic(auto, unfolding(crate::specs::Begins::request_by))]
-fn request_by(first: &Sample, second: &Sample) -> Option<Request>
-    ensures { result ≡ request_by first.now second.now }
+#[tactic(auto, unfolding(crate::specs::Begins::decoded_by))]
+fn decoded_by(first: &Sample, second: &Sample) -> Option<Request>
+    ensures { result ≡ decoded_by first.now second.now }
 {
     let first = known_pair(first)?;
     let second = known_pair(second)?;
@@ -42,7 +42,7 @@ fn line_by(who: Option<Who>, first: &Sample) -> Option<u64>
     }
 }
 
-impl Begins {
+impl FirstClock {
     /// The request as it is seen in its second clock, which has this sample.
     fn seen(&self, clock: u32, second: &Sample) -> Seen
         ensures { (h : Trace) → IsLast self.now clock h →
@@ -51,7 +51,7 @@ impl Begins {
         Seen {
             clock,
             who: self.who,
-            request: request_by(&self.first, second),
+            request: decoded_by(&self.first, second),
             cancelled: false,
         }
     }

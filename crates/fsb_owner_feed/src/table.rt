@@ -15,9 +15,9 @@ ghost use Rattle.fsb_heads.specs.Heads.{Stands as HeadsStands, snooped_count};
 ghost use Rattle.fsb_owner_table.specs.Happened.{Happens, begun_row};
 ghost use Rattle.fsb_owner_table.specs.Kept.{rows_of};
 ghost use Rattle.fsb_owner_feed.specs.Begins.{SaysBegins};
-ghost use Rattle.fsb_owner_feed.specs.Table.{GoesOn, IsReached, IsRowOf, SaysAnswered, SaysAsking, SaysMoving, SaysWaiting, Stands, fed, moves_by};
+ghost use Rattle.fsb_owner_feed.specs.Table.{ComesNext, IsReached, IsRowOf, SaysAnswered, SaysAsking, SaysMoving, SaysWaiting, Stands, fed, moves_by};
 
-use crate::begins::Begins;
+use crate::begins::FirstClock;
 use crate::found::{first_asking, first_moving, first_waiting, is_snooped_two_before};
 use fsb_arbiter::Arbiter;
 use fsb_heads::{Heads, Next, responds, stalls};
@@ -35,7 +35,7 @@ pub struct Table {
     arbiter: Arbiter,
     heads: Heads,
     /// The request that began at the last clock.
-    begins: Option<Begins>,
+    begins: Option<FirstClock>,
     /// How many samples were fed.
     clock: u64,
 }
@@ -115,9 +115,9 @@ impl Table {
 
     /// The request that has its snoop end with the sample of this clock.
     fn snooped(&self, clock: u32, sample: &Sample) -> Option<u32>
-        ensures reached { (h : Trace) → GoesOn self.now sample.now h → clock ≡ length h →
+        ensures reached { (h : Trace) → ComesNext self.now sample.now h → clock ≡ length h →
             IsReached snoop_end_of result (h ++ sample.now ∷ []) (length h) }
-        ensures there { (h : Trace) → GoesOn self.now sample.now h → clock ≡ length h →
+        ensures there { (h : Trace) → ComesNext self.now sample.now h → clock ≡ length h →
             is_some result ≡ ends_snoop_of h (snooped_count h) sample.now }
     {
         match self.asking() {
@@ -134,7 +134,7 @@ impl Table {
 
     /// The request that responds with the sample.
     fn answered(&self, sample: &Sample) -> Option<Row>
-        ensures { (h : Trace) → GoesOn self.now sample.now h → SaysAnswered sample.now h result }
+        ensures { (h : Trace) → ComesNext self.now sample.now h → SaysAnswered sample.now h result }
     {
         if responds(sample) {
             self.waiting()
@@ -145,7 +145,7 @@ impl Table {
 
     /// Whether data that are on the way end with the sample, which is no response.
     fn ends_data(&self, sample: &Sample) -> bool
-        ensures { (h : Trace) → GoesOn self.now sample.now h → responds sample.now ≡ false →
+        ensures { (h : Trace) → ComesNext self.now sample.now h → responds sample.now ≡ false →
             result ≡ (is_some (transfer_of h) && is_none (transfer_of (h ++ sample.now ∷ []))) }
     {
         self.heads.chunks().is_some() && self.heads.chunks_with(sample, false).is_none()
@@ -153,7 +153,7 @@ impl Table {
 
     /// The request that ends with the sample, with which this one responds.
     fn ended(&self, sample: &Sample, answered: &Option<Row>) -> Option<u32>
-        ensures { (h : Trace) → GoesOn self.now sample.now h → SaysAnswered sample.now h answered.now →
+        ensures { (h : Trace) → ComesNext self.now sample.now h → SaysAnswered sample.now h answered.now →
             IsReached end_of result (h ++ sample.now ∷ []) (length h) }
     {
         if responds(sample) {
@@ -171,7 +171,7 @@ impl Table {
 
     /// The row of the request whose second clock is the sample's.
     fn begun(&self, clock: u32, sample: &Sample) -> Option<Row>
-        ensures { (h : Trace) → GoesOn self.now sample.now h → clock ≡ length h →
+        ensures { (h : Trace) → ComesNext self.now sample.now h → clock ≡ length h →
             result ≡ begun_row (h ++ sample.now ∷ []) (length h) }
     {
         match self.begins {
@@ -183,9 +183,9 @@ impl Table {
     /// What happens to requests with the next sample.
     pub fn happened(&self, sample: &Sample) -> Happened
         requires { fed self.now < 2 ^ 32 }
-        ensures happens { (h : Trace) → GoesOn self.now sample.now h →
+        ensures happens { (h : Trace) → ComesNext self.now sample.now h →
             Happens h sample.now (h ++ sample.now ∷ []) result }
-        ensures snoops { (h : Trace) → GoesOn self.now sample.now h →
+        ensures snoops { (h : Trace) → ComesNext self.now sample.now h →
             is_some result.snooped ≡ ends_snoop_of h (snooped_count h) sample.now }
     {
         let clock = self.clock as u32;
@@ -230,7 +230,7 @@ impl Table {
 
     /// The heads after the sample of this clock, with which a snoop ends or does not.
     fn heads_with(&self, clock: u32, sample: &Sample, snoops: bool) -> Heads
-        ensures { (h : Trace) → GoesOn self.now sample.now h → clock ≡ length h →
+        ensures { (h : Trace) → ComesNext self.now sample.now h → clock ≡ length h →
             snoops ≡ ends_snoop_of h (snooped_count h) sample.now →
             HeadsStands result (h ++ sample.now ∷ []) }
     {
@@ -243,11 +243,11 @@ impl Table {
     }
 
     /// The request that begins with the sample, if one does.
-    fn begins_with(&self, sample: &Sample) -> Option<Begins>
+    fn begins_with(&self, sample: &Sample) -> Option<FirstClock>
         ensures { (h : Trace) → Stands self.now h → SaysBegins result (h ++ sample.now ∷ []) }
     {
         if sample.has(Lines::ADS) {
-            Some(Begins {
+            Some(FirstClock {
                 who: self.arbiter.winner(),
                 first: *sample,
             })
@@ -260,9 +260,9 @@ impl Table {
     /// nothing any more.
     pub fn feed(&mut self, sample: &Sample) -> Result<Happened, Memory>
         requires { fed self.old < 2 ^ 32 }
-        ensures happened { IfOk result (λ happened. (h : Trace) → GoesOn self.old sample.now h →
+        ensures happened { IfOk result (λ happened. (h : Trace) → ComesNext self.old sample.now h →
             Happens h sample.now (h ++ sample.now ∷ []) happened) }
-        ensures stands { OnOk result ((h : Trace) → GoesOn self.old sample.now h →
+        ensures stands { OnOk result ((h : Trace) → ComesNext self.old sample.now h →
             Stands self.new (h ++ sample.now ∷ [])) }
         ensures fed { fed self.new ≤ fed self.old + 1 }
     {

@@ -4,7 +4,7 @@ use Rattle.fsb_trace.specs.Requests.{line_of, seen_at}
 use Rattle.fsb_laws.proofs.Interface.{one_more}
 use Rattle.fsb_owner_table.specs.Rows.{row_at}
 use Rattle.fsb_owner_feed.proofs.Beginning.{line_new}
-use Rattle.fsb_owner_feed.proofs.begins.Begins.row.Goals as goal
+use Rattle.fsb_owner_feed.proofs.begins.FirstClock.row.Goals as goal
 
 pub returns : goal.returns
 returns c = λ h l before after.
