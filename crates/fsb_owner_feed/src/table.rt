@@ -104,7 +104,7 @@ impl Table {
         first_moving(self.rows.as_slice())
     }
 
-    /// Whether the snoop of the request with this row, which is snooped next, ends with the sample of this clock.
+    /// Whether the snoop of the request with this row, which is snooped next, ends with the sample.
     #[tactic(auto, unfolding(fsb_laws::specs::Progress::ends_snoop_of))]
     fn ends_snoop(&self, row: &Row, clock: u32, sample: &Sample) -> bool
         ensures { (h : Trace) → Stands self.now h → IsRowOf h (snooped_count h) row.now →
@@ -153,7 +153,8 @@ impl Table {
 
     /// The request that ends with the sample, with which this one responds.
     fn ended(&self, sample: &Sample, answered: &Option<Row>) -> Option<u32>
-        ensures { (h : Trace) → ComesNext self.now sample.now h → SaysAnswered sample.now h answered.now →
+        ensures { (h : Trace) → ComesNext self.now sample.now h →
+            SaysAnswered sample.now h answered.now →
             IsReached end_of result (h ++ sample.now ∷ []) (length h) }
     {
         if responds(sample) {
@@ -256,8 +257,8 @@ impl Table {
         }
     }
 
-    /// Takes the next sample, and hands out what happens to requests with it. Where memory lacks the table stands for
-    /// nothing any more.
+    /// Takes the next sample, and hands out what happens to requests with it. Where memory lacks the
+    /// table stands for nothing any more.
     pub fn feed(&mut self, sample: &Sample) -> Result<Happened, Memory>
         requires { fed self.old < 2 ^ 32 }
         ensures happened { IfOk result (λ happened. (h : Trace) → ComesNext self.old sample.now h →
