@@ -1,0 +1,4 @@
+pub mod FoundRows
+pub mod NextRows
+pub mod Happening
+pub mod Beginning
