@@ -4,7 +4,8 @@
 Usage: lab/hostile_scope.py [PROGRAM [EDITS [LISTS [SEED [PART ..]]]]]      (crates/p6scope/out/p6scope, 2,000, 10,000, 1)
 
 The parts are
-  prefixes  every prefix of a dump of twelve clocks: the verdict is that of second_judge.py over the clocks that are whole;
+  prefixes  every prefix of a dump of twelve clocks: the verdict is that of second_judge.py over the clocks that are whole; and of two
+            others: no prefix breaks a rule that the whole keeps;
   edits     random edits of three dumps: where only values were changed, verdict and place of the fault are those of the second reader;
   words     command lines out of every option with good and bad values: status 2 exactly where docs/scope.md has no such command line, and
             then a word of the line stands in the error;
@@ -161,6 +162,31 @@ def prefixes(program, folder):
             if wrong:
                 program.wrong(["check", "<(head -c %d small%s.vcd)" % (length, "_early" if early else "")], wrong, answer)
         each(tried, range(len(whole) + 1))
+    late_prefixes(program, folder)
+
+
+def late_prefixes(program, folder):
+    """Two dumps that keep every rule, so no prefix breaks one: the lines change with the edge, and are named by --after; and the code of ADS_n
+    begins with that of BCLK, where the lines change behind the falling edge."""
+    small = small_dump(folder)
+    late = re.sub(rb"(#\d+0\n0!\n)((?:[^#].*\n)*)(#\d+5\n1!\n)", rb"\1\3\2", small)
+    codes = re.sub(rb"#(\d+)0\n0!\n((?:[^#].*\n)+)(#\d+5\n1!\n)", rb"#\g<1>0\n0!\n#\g<1>2\n\2\3", small)
+    codes = codes.replace(b" ) ADS_n", b" !) ADS_n").replace(b"\n1)\n", b"\n1!)\n").replace(b"\n0)\n", b"\n0!)\n")
+    keep_all(program, folder, "late.vcd", late, ["--after", ",".join(re.findall(r"(\w+_n) ", late.decode()))])
+    keep_all(program, folder, "codes.vcd", codes, [])
+
+
+def keep_all(program, folder, which, whole, words):
+    def tried(length):
+        name = "%d%s" % (length, which)
+        write(folder, name, whole[:length])
+        answer = program.say(["check", *words, name], cwd=folder)
+        os.remove(os.path.join(folder, name))
+        program.counts["prefix of %s, status %d" % (which, answer[0])] += 1
+        wrong = fault_of_form(answer, whole[:length]) or ("" if answer[0] in (0, 3) else "a rule that the whole dump keeps")
+        if wrong:
+            program.wrong(["check", *words, "<(head -c %d %s)" % (length, which)], wrong, answer)
+    each(tried, range(len(whole) + 1))
 
 
 def differs(text, answer, is_header_cut):
@@ -604,13 +630,18 @@ def spaces(program, folder):
             limit = size * 1 << 20
             answer = program.say(words, cwd=folder, preexec_fn=lambda: resource.setrlimit(resource.RLIMIT_AS, (limit, limit)))
             statuses[answer[0]] += 1
-            is_started = answer[0] not in (127, -11, -9, -6) or b"p6scope" in answer[2]
+            is_started = answer[0] != 127 or b"error while loading" not in answer[2]
             program.expect(["(ulimit -v %d)" % (limit >> 10)] + words, "status 0, or 5 and `out of memory`", answer,
-                           not is_started or answer[0] == 0 and bool(answer[1]) or answer == (5, b"", b"p6scope: out of memory\n"))
+                           not is_started or answer[0] == 0 and bool(answer[1]) or answer[:2] == (5, b"") and answer[2] in LACKING)
     print("ulimit -v: by status %s" % dict(statuses), flush=True)
 
 
 # Large texts.
+
+def processor_seconds():
+    used = resource.getrusage(resource.RUSAGE_CHILDREN)
+    return used.ru_utime + used.ru_stime
+
 
 def large(program, folder):
     head, rest = small_dump(folder).split(b"$scope module fsb $end\n")
@@ -636,11 +667,11 @@ def large(program, folder):
     for name, text in rows.items():
         write(folder, "large.vcd", text)
         for verb in ("check", "lines"):
-            start = time.monotonic()
+            start = processor_seconds()
             answer = limited(program, [verb, os.path.join(folder, "large.vcd")], 20)
-            took = time.monotonic() - start
+            took = processor_seconds() - start
             print("large: %s, %s of %.1f MB: %.2f s, status %d, %d bytes told" % (name, verb, len(text) / 1e6, took, answer[0], len(answer[1] + answer[2])), flush=True)
-            program.expect([verb, "(%s)" % name], "an answer within 10 seconds", answer, took < 10 and answer[0] in (0, 3))
+            program.expect([verb, "(%s)" % name], "an answer within 10 seconds of a processor", answer, took < 10 and answer[0] in (0, 3))
             program.expect([verb, "(%s)" % name], "no more than 1 MB told", answer, len(answer[1] + answer[2]) < 1_000_000)
 
 
@@ -678,7 +709,7 @@ def main():
             works[part](folder)
         print("%s: %d faults, %.0f s" % (part, len(program.faults) - before, time.monotonic() - start), flush=True)
     for what, number in sorted(program.counts.items()):
-        print("%-24s %6d" % (what, number))
+        print("%-34s %6d" % (what, number))
     print("%d faults" % len(program.faults))
     return 1 if program.faults else 0
 
