@@ -509,9 +509,9 @@ def pipes(program, folder):
         program.expect(["check", name], "a refusal within 10 seconds", answer, answer[0] == 3 and bool(answer[2]) and not answer[1])
 
 
-def limited(program, words, seconds):
+def limited(program, words, seconds, **more):
     try:
-        done = subprocess.run([program.name, *words], capture_output=True, timeout=seconds, stdin=subprocess.DEVNULL)
+        done = subprocess.run([program.name, *words], capture_output=True, timeout=seconds, stdin=subprocess.DEVNULL, **more)
         return done.returncode, done.stdout, done.stderr
     except subprocess.TimeoutExpired:
         return -1, b"", b"(more than %d seconds)" % seconds
@@ -668,7 +668,7 @@ def large(program, folder):
         write(folder, "large.vcd", text)
         for verb in ("check", "lines"):
             start = processor_seconds()
-            answer = limited(program, [verb, os.path.join(folder, "large.vcd")], 20)
+            answer = limited(program, [verb, os.path.join(folder, "large.vcd")], 120, preexec_fn=lambda: resource.setrlimit(resource.RLIMIT_CPU, (12, 12)))
             took = processor_seconds() - start
             print("large: %s, %s of %.1f MB: %.2f s, status %d, %d bytes told" % (name, verb, len(text) / 1e6, took, answer[0], len(answer[1] + answer[2])), flush=True)
             program.expect([verb, "(%s)" % name], "an answer within 10 seconds of a processor", answer, took < 10 and answer[0] in (0, 3))
