@@ -259,7 +259,8 @@ pub(crate) fn in_full(alloc: Global, row: &str) -> Result<String, AllocError> {
     let row = row.replace(alloc, "WHOLE", "at - from - to - quiet 32")?;
     let row = row.replace(alloc, "LINES", crate::texts::LINES)?;
     let row = row.replace(alloc, "CLOCK", crate::texts::CLOCK)?;
-    row.replace(alloc, "JUDGED", crate::texts::JUDGED)
+    let row = row.replace(alloc, "JUDGED", crate::texts::JUDGED)?;
+    row.replace(alloc, "PICKED", crate::texts::PICKED)
 }
 
 #[test]

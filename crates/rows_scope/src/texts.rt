@@ -8,9 +8,13 @@ use std::test::Fail;
 pub(crate) const LINES: &str =
     "the lines: BCLK, BREQ0_n to BREQ3_n, BPRI_n, LOCK_n, BNR_n, ADS_n, REQ_n, A_n, AERR_n, HIT_n, HITM_n, DEFER_n, RS_n, TRDY_n, DBSY_n, DRDY_n, D_n, AP_n, RP_n";
 
-/// What may stand behind `check` and `pick`.
+/// What may stand behind `check`.
 pub(crate) const JUDGED: &str =
-    "wanted: one DUMP, and of --scope --line --lines --without --edge --first --after";
+    "wanted: one DUMP, and of --scope --line --lines --without --edge --first --after --at --from --to --quiet --resume --max";
+
+/// What may stand behind `pick`.
+pub(crate) const PICKED: &str =
+    "wanted: one DUMP, and of --scope --line --lines --without --edge --first --after --at --from --to --quiet";
 
 /// What may stand behind `--at`, `--from` and `--to`.
 pub(crate) const CLOCK: &str =
@@ -20,39 +24,39 @@ pub(crate) const CLOCK: &str =
 const REFUSED: [(&str, &str); 80] = [
     (
         "foo|a.vcd",
-        "2 error: unrecognized subcommand 'foo'\nthe commands: lines, check, rule; each has --help\n",
+        "2 error: unrecognized subcommand 'foo'\nthe commands: lines, check, pick, rule; each has --help\n",
     ),
     (
         "table|a.vcd",
-        "2 error: unrecognized subcommand 'table'\nthe commands: lines, check, rule; each has --help\n",
+        "2 error: unrecognized subcommand 'table'\nthe commands: lines, check, pick, rule; each has --help\n",
     ),
     (
         "stats|a.vcd",
-        "2 error: unrecognized subcommand 'stats'\nthe commands: lines, check, rule; each has --help\n",
+        "2 error: unrecognized subcommand 'stats'\nthe commands: lines, check, pick, rule; each has --help\n",
     ),
     (
         "draw|a.vcd",
-        "2 error: unrecognized subcommand 'draw'\nthe commands: lines, check, rule; each has --help\n",
+        "2 error: unrecognized subcommand 'draw'\nthe commands: lines, check, pick, rule; each has --help\n",
     ),
     (
         "vectors|a.vcd",
-        "2 error: unrecognized subcommand 'vectors'\nthe commands: lines, check, rule; each has --help\n",
+        "2 error: unrecognized subcommand 'vectors'\nthe commands: lines, check, pick, rule; each has --help\n",
     ),
     (
         "plan|a.vcd",
-        "2 error: unrecognized subcommand 'plan'\nthe commands: lines, check, rule; each has --help\n",
+        "2 error: unrecognized subcommand 'plan'\nthe commands: lines, check, pick, rule; each has --help\n",
     ),
     (
         "help",
-        "2 error: unrecognized subcommand 'help'\nthe commands: lines, check, rule; each has --help\n",
+        "2 error: unrecognized subcommand 'help'\nthe commands: lines, check, pick, rule; each has --help\n",
     ),
     (
         "Check|a.vcd",
-        "2 error: unrecognized subcommand 'Check'\nthe commands: lines, check, rule; each has --help\n",
+        "2 error: unrecognized subcommand 'Check'\nthe commands: lines, check, pick, rule; each has --help\n",
     ),
     (
         "chekc|a.vcd",
-        "2 error: unrecognized subcommand 'chekc'\nthe commands: lines, check, rule; each has --help\n",
+        "2 error: unrecognized subcommand 'chekc'\nthe commands: lines, check, pick, rule; each has --help\n",
     ),
     (
         "lines",
@@ -80,7 +84,7 @@ const REFUSED: [(&str, &str); 80] = [
     ),
     (
         "pick|--form|5|a.vcd",
-        "2 error: unexpected argument '--form' found\nJUDGED\n",
+        "2 error: unexpected argument '--form' found\nPICKED\n",
     ),
     (
         "check|--at|-5|a.vcd",
@@ -312,7 +316,7 @@ const REFUSED: [(&str, &str); 80] = [
     ),
     (
         "pick|--resume|a.vcd",
-        "2 error: unexpected argument '--resume' found\nJUDGED\n",
+        "2 error: unexpected argument '--resume' found\nPICKED\n",
     ),
     (
         "check|--quiet|10ns|a.vcd",
@@ -445,9 +449,11 @@ fn help_lists_what_check_alone_offers(rt: HostRuntime) {
 }
 
 #[test]
-fn help_offers_nothing_that_is_not_done(rt: HostRuntime) {
+fn help_offers_each_command(rt: HostRuntime) {
     let told = told(rt.alloc(), "--help").expect(&rt, "memory");
-    assert!(rt; !told.as_str().contains("pick"), "{told}");
+    for verb in ["lines", "check", "pick", "rule"].iter() {
+        assert!(rt; told.as_str().contains(verb), "{told}");
+    }
 }
 
 #[test]

@@ -49,7 +49,7 @@ fn no_verb(alloc: Global) -> Stop
     wrong(
         alloc,
         "no command is there",
-        "the commands: lines, check, rule; each has --help",
+        "the commands: lines, check, pick, rule; each has --help",
     )
 }
 

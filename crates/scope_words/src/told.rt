@@ -151,11 +151,14 @@ fn may_stand(verb: Option<&str>) -> &'static str {
     match verb {
         Some("lines") => "wanted: p6scope lines DUMP",
         Some("check") => JUDGED,
-        Some("pick") => JUDGED,
+        Some("pick") => PICKED,
         Some("rule") => "wanted: p6scope rule, or p6scope rule N with N from 1 to 31",
-        _ => "the commands: lines, check, rule; each has --help",
+        _ => "the commands: lines, check, pick, rule; each has --help",
     }
 }
 
-const JUDGED: &str =
-    "wanted: one DUMP, and of --scope --line --lines --without --edge --first --after";
+const PICKED: &str = "wanted: one DUMP, and of --scope --line --lines --without \
+    --edge --first --after --at --from --to --quiet";
+
+const JUDGED: &str = "wanted: one DUMP, and of --scope --line --lines --without \
+    --edge --first --after --at --from --to --quiet --resume --max";

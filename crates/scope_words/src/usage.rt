@@ -10,7 +10,7 @@ const VERSION: &str = "0.1.0";
 
 const WIRES: &str = "Which wires are the bus";
 
-const PART: &str = "Which clocks are judged";
+const PART: &str = "Which clocks are judged, or written";
 
 /// The program with its verbs.
 pub(crate) fn usage<'a>(alloc: Global) -> Result<Command<'a>, AllocError> {
@@ -43,11 +43,9 @@ fn check<'a>(alloc: Global) -> Result<Command<'a>, AllocError> {
     with_resumed(alloc, with_judged(alloc, verb(alloc, "check", about)))
 }
 
-// It is read, and not offered yet.
 fn pick<'a>(alloc: Global) -> Result<Command<'a>, AllocError> {
     let about = "Writes the lines of the bus as a dump of its own, for p6bench and any viewer";
-    let pick = command(alloc, "pick").about(about).hide(true);
-    with_judged(alloc, pick.display_name("p6scope"))
+    with_judged(alloc, verb(alloc, "pick", about))
 }
 
 fn rule<'a>(alloc: Global) -> Result<Command<'a>, AllocError> {
@@ -103,14 +101,11 @@ fn with_part<'a>(
     alloc: Global,
     verb: Result<Command<'a>, AllocError>,
 ) -> Result<Command<'a>, AllocError> {
-    let help = "Judges exactly from this clock on, where nothing is under way";
+    let help = "Exactly from this clock on, where nothing is under way: 1200, or 285ns";
     let verb = with(verb, part(alloc, "at", "C", help));
-    let help = "Judges from the first quiet clock at or above this one on";
+    let help = "From the first quiet clock at or above this one on: 1200, or 285ns";
     let verb = with(verb, part(alloc, "from", "C", help));
-    let verb = with(
-        verb,
-        part(alloc, "to", "C", "The last clock that is judged"),
-    );
+    let verb = with(verb, part(alloc, "to", "C", "Up to this clock"));
     let help = "How many clocks without an asserted line a part begins behind [default: 32]";
     with(verb, part(alloc, "quiet", "N", help))
 }
