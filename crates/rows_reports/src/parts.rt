@@ -5,7 +5,13 @@ use fsb_io::Memory;
 use std::alloc::{AllocError, Global};
 
 /// Words, values before clocks 3, 4 and 8, the status, the second line of the answer, and its end.
-type Parted = (&'static str, [&'static str; 3], u8, &'static str, &'static str);
+type Parted = (
+    &'static str,
+    [&'static str; 3],
+    u8,
+    &'static str,
+    &'static str,
+);
 
 const PARTED: [Parted; 3] = [
     (

@@ -1,4 +1,4 @@
-//! What is said of a dump that is not read, and of words that are not done.
+//! What is said of a dump that is not read.
 
 use crate::dumps::{BUS, END, IDLE, done, done_failing, ends};
 use fsb_io::Memory;
@@ -96,43 +96,5 @@ fn is_told(alloc: Global, words: &str) -> Result<bool, Memory> {
 fn each_failing_call_is_told_with_status_4(rt: HostRuntime) {
     for row in BOTH.iter() {
         assert!(rt; matches!(is_told(rt.alloc(), row), Ok(true)), "{row}");
-    }
-}
-
-/// Words for what is not done yet, and the text.
-type Unoffered = (&'static str, &'static str);
-
-const UNOFFERED: [Unoffered; 5] = [
-    ("pick|x.vcd", "pick: this is not done yet\n"),
-    (
-        "check|--at|5ns|x.vcd",
-        "--at with a time: this is not done yet\n",
-    ),
-    (
-        "check|--from|5ns|x.vcd",
-        "--from with a time: this is not done yet\n",
-    ),
-    (
-        "check|--to|5ns|x.vcd",
-        "--to with a time: this is not done yet\n",
-    ),
-    (
-        "--quiet without --from: this is not done yet\n",
-    ),
-];
-
-/// Whether the words are refused so.
-fn is_unoffered(alloc: Global, row: &Unoffered) -> Result<bool, Memory> {
-    let &(words, wanted) = row;
-    ends(alloc, words, "", (2, "", wanted))
-}
-
-#[test]
-fn what_is_not_done_is_refused(rt: HostRuntime) {
-    for (at, row) in UNOFFERED.iter().enumerate() {
-        assert!(rt;
-            matches!(is_unoffered(rt.alloc(), row), Ok(true)),
-            "row {at}"
-        );
     }
 }
