@@ -5,7 +5,8 @@ use fsb_io::Memory;
 use std::alloc::{AllocError, Global};
 
 /// The begin of a dump that is written.
-const BEGIN: &str = "$timescale 1 ns $end\n$scope module fsb $end\n$var wire 1 ! BCLK $end\n";
+const BEGIN: &str =
+    "$version p6scope 1 $end\n$timescale 1 ns $end\n$scope module fsb $end\n$var wire 1 ! BCLK $end\n";
 
 /// Words, and how the text ends that is written: the rise of its last clock.
 type Copied = (&'static str, &'static str);
