@@ -16,7 +16,7 @@ fn dump(alloc: Global, values: &str, first: u32, count: u32) -> Result<String, A
 /// Words, the values before five clocks, and the status and the text behind the first line.
 type Verdict = (&'static str, &'static str, u8, &'static str);
 
-const VERDICTS: [Verdict; 9] = [
+const VERDICTS: [Verdict; 10] = [
     ("check|x.vcd", IDLE, 0, "accepted: 5 of 5 clocks judged\n"),
     (
         "check|--without|D_n|x.vcd",
@@ -35,6 +35,12 @@ const VERDICTS: [Verdict; 9] = [
         "#0\n0! 1a xb bx c bx d\n1e 1f b111 g 1h 1i 1j bx k\n",
         3,
         UNKNOWN,
+    ),
+    (
+        "check|--to|1|x.vcd",
+        "#0\n0! 1a xb bx c bx d\n1e 1f b111 g 1h 1i 1j bx k\n",
+        3,
+        LATE,
     ),
     ("check|--at|2|x.vcd", IDLE, 0, AT),
     ("check|--from|1|--quiet|2|x.vcd", IDLE, 0, FROM),
@@ -93,6 +99,10 @@ const UNKNOWN: &str = "\
 nothing could be judged: at no clock has every control line that is there a level
   without a level at the last clock: ADS_n
   A line that nobody drives is left out by --without LINE, unless it is a needed one.
+";
+
+const LATE: &str = "\
+nothing could be judged: up to the last clock of --to none has a level on every control line that is there
 ";
 
 /// Whether the order came to the verdict, over the wires of tb.dut.

@@ -136,7 +136,8 @@ fn put_nothing(
     found: &PartsFound,
     last: &Ring,
 ) -> Result<(), AllocError> {
-    if 0 < found.clocks && found.plan.first.begin == Begin::Known {
+    let is_whole = found.plan.first.begin == Begin::Known && found.plan.first.to.is_none();
+    if 0 < found.clocks && is_whole {
         put_plain(text, found, NEVER_KNOWN)?;
         put_lost_levels(text, alloc, last)?;
         put(text, LEFT_OUT)
@@ -185,7 +186,7 @@ fn unjudged_cause(found: &PartsFound) -> &'static str {
         return NO_EDGE;
     }
     match found.plan.first.begin {
-        Begin::Known => NEVER_KNOWN,
+        Begin::Known => KNOWN_LATE,
         Begin::At(bound) => no_clock(bound, found.clocks),
         Begin::Quiet(_, _) => NEVER_QUIET,
     }
@@ -212,6 +213,9 @@ const NO_EDGE: &str = "\
 ";
 
 const NEVER_KNOWN: &str = ": at no clock has every control line that is there a level\n";
+
+const KNOWN_LATE: &str =
+    ": up to the last clock of --to none has a level on every control line that is there\n";
 
 const LEFT_OUT: &str =
     "  A line that nobody drives is left out by --without LINE, unless it is a needed one.
