@@ -15,7 +15,7 @@ enum Answer {
 }
 
 /// Headers, options, and what is found.
-static HEADERS: [(&'static str, &'static str, Answer); 62] = [
+static HEADERS: [(&'static str, &'static str, Answer); 63] = [
     // Names: the table's, other spellings, escaped ones
     ("tb.dut bus a", "", Answer::At(0)),
     (LOOSE, "", Answer::At(0)),
@@ -228,6 +228,11 @@ static HEADERS: [(&'static str, &'static str, Answer); 62] = [
         LOOSE_ENDS,
         "BCLK=k BREQ0_n=tb.k ADS_n=tb.k REQ_n=tb.five A_n=tb.addr HIT_n=tb.k HITM_n=tb.k RS_n=tb.three TRDY_n=tb.k DBSY_n=tb.k DRDY_n=tb.k -D_n",
         Answer::Refused(Cause::NoVariable(0), &[0]),
+    ),
+    (
+        "tb.dut bus a\ntb.pll wire 1 z lock_n",
+        "BCLK=tb.dut.BCLK BREQ0_n=tb.dut.BREQ0_n ADS_n=tb.dut.ADS_n REQ_n=tb.dut.REQ_n A_n=tb.dut.A_n HIT_n=tb.dut.HIT_n HITM_n=tb.dut.HITM_n RS_n=tb.dut.RS_n TRDY_n=tb.dut.TRDY_n DBSY_n=tb.dut.DBSY_n DRDY_n=tb.dut.DRDY_n D_n=tb.dut.D_n",
+        Answer::Nowhere,
     ),
     // Words bit by bit
     (
