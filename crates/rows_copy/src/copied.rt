@@ -8,6 +8,7 @@ use fsb_io::MemSource;
 use fsb_rules::Broken;
 use scope_check::{Begin, Bound, Part, Verdict};
 use scope_copy::{Copied, CopyFinding};
+use scope_parts::{PartFound, Plan};
 use scope_watch::{Finding, ScopeStop};
 use scope_wiring::Cause;
 use std::alloc::Global;
@@ -126,26 +127,39 @@ fn found_widely(alloc: Global, text: &[u8], part: Part) -> Option<Found> {
         return None;
     };
     let mut room = [0; 64];
+    let plan = Plan {
+        first: part,
+        quiet: 32,
+        most: 1,
+    };
     let answer = scope_watch::check_dump(
         alloc,
         "a.vcd",
         &mut source,
         &mut room,
         &plain(alloc),
-        part,
+        plan,
         rising(alloc),
     );
     match answer {
         Ok(checked) => match &checked.finding {
-            Finding::Judged(_, told) => match told.judged.verdict {
-                Verdict::Broken { clock, rule, .. } => {
-                    Some(Err((clock.saturating_sub(u64::from(told.judged.start)), rule)))
-                }
-                _ => Some(Ok(u64::from(told.judged.judged))),
-            },
+            Finding::Judged(_, told) => found_first(told.judged.first.as_slice()),
             Finding::Refused(_) => None,
         },
         Err(_) => None,
+    }
+}
+
+/// What is found of the first part, in its clocks.
+fn found_first(parts: &[PartFound]) -> Option<Found> {
+    match parts.first() {
+        None => None,
+        Some(part) => match part.verdict {
+            Verdict::Broken { clock, rule, .. } => {
+                Some(Err((clock.saturating_sub(part.start), rule)))
+            }
+            _ => Some(Ok(part.judged)),
+        },
     }
 }
 

@@ -1,1 +1,2 @@
-pub mod ReadLines
+mod ReadLines
+mod Settling

@@ -4,7 +4,7 @@ ghost use Rattle.std.specs.Prelude.{◌≡◌, ◌≢◌, ◌≤◌, Err, IsTrue
 ghost use Rattle.fsb_io.specs.Faults.{Rose};
 ghost use Rattle.scope_words.specs.Orders.{KeepsWires};
 ghost use Rattle.scope_top.specs.Ends.{ending_copied};
-ghost use Rattle.scope_top.specs.Performing.{EndsCopied, EndsPick, EndsPut};
+ghost use Rattle.scope_top.specs.Performing.{EndsCopied, EndsCopiedAs, EndsPick, EndsPut};
 
 use crate::answer::{Answer, Stream};
 use crate::check::edge_of;
@@ -98,10 +98,26 @@ fn copied_answer<S: Source, O: Sink>(
         Rose (O.faults out.old) (O.faults out.new) }
 {
     let mut room = vec![in alloc; 0; PIECE]?;
-    match copy_dump(alloc, name, dump, &mut room, choice, part, sampling, out) {
+    let end = copy_dump(alloc, name, dump, &mut room, choice, part, sampling, out);
+    end_answer(alloc, name, choice, end)
+}
+
+// Tells how a copy ended.
+fn end_answer(
+    alloc: Global,
+    name: &str,
+    choice: &Choice,
+    end: Result<Copied, ScopeStop>,
+) -> Result<Answer, Stop>
+    ensures ends { IfOk result (λ answer. EndsCopiedAs end answer.ending) }
+    ensures not_lines { result ≢ Err Stop.Lines }
+    ensures dump_fault { result ≡ Err Stop.Dump → end ≡ Err ScopeStop.ReadFault }
+    ensures out_fault { result ≡ Err Stop.Out → end ≡ Err ScopeStop.WriteFault }
+{
+    match end {
+        Ok(copied) => Ok(told_answer(alloc, name, choice, &copied)?),
         Err(ScopeStop::WriteFault) => Err(Stop::Out),
         Err(stop) => stop_answer(alloc, name, stop),
-        Ok(copied) => Ok(told_answer(alloc, name, choice, &copied)?),
     }
 }
 

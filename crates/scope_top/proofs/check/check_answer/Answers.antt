@@ -3,25 +3,23 @@ use Rattle.std.proofs.lemmas.Result.{IfOk-weaker}
 use Rattle.vcd_way.specs.declared.tap.Edge.{Edge}
 use Rattle.scope_watch.specs.declared.values.Sampling.{Sampling}
 use Rattle.scope_top.specs.declared.listed.Listed.{Listed}
-use Rattle.scope_top.specs.Performing.{EndsCheck, EndsJudged, EndsListed, text_named}
+use Rattle.scope_top.specs.Performing.{EndsCheck, EndsListed, EndsPlanned, text_named}
 use Rattle.scope_top.proofs.check.check_answer.Goals as goal
 
 pub returns-in-Chosen-clause-ends : goal.returns-in-Chosen-clause-ends
 returns-in-Chosen-clause-ends g c = λ lines_tell dump_tells.
     let wires = c.args.wires in
+    let words = c.args.words.now in
+    let choice = c.in-Chosen.choice in
     let listed = g.L.Source.holds c.args.named.now in
     let dumped = g.S.Source.holds c.args.dump.now in
     let sampled : Edge → Sampling = λ edge. record { edge = edge; takes_first = wires.is_first; late = wires.after } in
     let Chosen : Listed → Type 0 = λ l. EndsListed wires.choice (text_named wires.file listed) l in
     let says = subst Chosen c.in-Chosen.is (c.in_ok-answer.ensures.listed lines_tell) in
-    IfOk-weaker c.judged_answer.result
-    (λ a. EndsJudged c.in-Chosen.choice c.args.plan (sampled c.edge_of.result) dumped a.ending)
-    (λ a. EndsCheck wires c.args.plan listed dumped a.ending)
-    (λ a judged.
-    let Judged : Edge → Type 0 = λ edge. EndsJudged c.in-Chosen.choice c.args.plan (sampled edge) dumped a.ending in
-    inl (record {
-      choice = c.in-Chosen.choice;
-      says = says;
-      judged = subst Judged c.edge_of.ensures judged;
-    }))
-    (c.judged_answer.ensures.ends dump_tells)
+    IfOk-weaker c.parted_answer.result
+    (λ a. EndsPlanned words (sampled c.edge_of.result) dumped choice a.ending)
+    (λ a. EndsCheck wires words listed dumped a.ending)
+    (λ a does.
+    let Does : Edge → Type 0 = λ edge. EndsPlanned words (sampled edge) dumped choice a.ending in
+    inl (record { choice = choice; says = says; does = subst Does c.edge_of.ensures does }))
+    (c.parted_answer.ensures.ends dump_tells)
