@@ -9,7 +9,7 @@ use Rattle.vcd_grammar.specs.Tokens.{tokens_of, tokens_so_far}
 use Rattle.vcd_grammar.specs.Judging.{is_declared}
 use Rattle.vcd_way.specs.Ways.{ValueRules}
 use Rattle.vcd_way.specs.Pieces.{Stamp, TapChange, DumpSwitch, Off, On, Happening, Comes, Gets, Switches, Piece, Changes, Switched, pieces_from, over}
-use Rattle.vcd_way.specs.Events.{DumpEvent, Sampled, Hole, Resumed, Course, course_at_first, course_after, sampled, settled, values_after, unknown_in, is_edge, digit_after, sample_in_block, switch_event, events_from, samples_among}
+use Rattle.vcd_way.specs.Events.{DumpEvent, Sampled, Hole, Resumed, Course, course_at_first, course_after, sampled, at_first_edge, values_after, unknown_in, is_edge, digit_after, sample_in_block, switch_event, events_from, samples_among}
 use Rattle.vcd_way.specs.Steps.{first_state, happenings_in}
 use Rattle.vcd_way.specs.Answers.{is_early, events_so_far_by, events_by, pieces_in}
 use Rattle.scope_wiring.specs.declared.wire.Wire.{Wire}
@@ -17,7 +17,7 @@ use Rattle.scope_way.specs.Wired.{wired_lines, wired_way, AreLawfulWires}
 use Rattle.scope_write.specs.Samples.{IsSilent}
 use Rattle.scope_silent.specs.Lines.{there_in}
 use Rattle.scope_silent.proofs.Sample.{Idle, silent}
-use Rattle.scope_silent.proofs.Taps.{changes_of, after-idle, unknown-idle, sampled-idle, settled-idle}
+use Rattle.scope_silent.proofs.Taps.{changes_of, after-idle, unknown-idle, sampled-idle, first-idle}
 use Rattle.scope_silent.proofs.Steps.{stays_in, wires-stay}
 
 -- ---- pieces
@@ -82,13 +82,13 @@ in-block ls m c stamp after h k =
     each-if ls (c.is_seen && is_edge m.edge (clock_of c.values) (clock_of after))
     (Sampled (sample_of (sampled m.late c.values after)) stamp ∷ [])
     (if m.takes_first && not c.is_seen && (clock_of after == digit_after m.edge) then
-    Sampled (sample_of (sampled m.late (settled c.values after) after)) stamp ∷ []
+    Sampled (sample_of (sampled m.late (at_first_edge stamp c.values after) after)) stamp ∷ []
     else [])
     (silent ls (sampled m.late c.values after) (sampled-idle ls m.late c.values after h k), tt)
     (each-if ls (m.takes_first && not c.is_seen && (clock_of after == digit_after m.edge))
-    (Sampled (sample_of (sampled m.late (settled c.values after) after)) stamp ∷ []) [] (
-      silent ls (sampled m.late (settled c.values after) after)
-          (sampled-idle ls m.late (settled c.values after) after (settled-idle ls c.values after h k) k),
+    (Sampled (sample_of (sampled m.late (at_first_edge stamp c.values after) after)) stamp ∷ []) [] (
+      silent ls (sampled m.late (at_first_edge stamp c.values after) after)
+          (sampled-idle ls m.late (at_first_edge stamp c.values after) after (first-idle ls stamp c.values after h k) k),
       tt,
     ) tt)
 

@@ -1,5 +1,5 @@
 -- Changes of some lines leave the others as they are.
-use Rattle.std.proofs.Common.{◌≡◌, ℕ, zero, suc, Bool, true, false, List, [], ◌∷◌, map, slice_set, ap, refl, sym, ◌∙◌}
+use Rattle.std.proofs.Common.{◌≡◌, ℕ, zero, suc, Bool, true, false, List, [], ◌∷◌, Option, Some, None, map, slice_set, ap, refl, sym, ◌∙◌}
 use Rattle.std.specs.Prelude.{if◌then◌else◌}
 use Rattle.std.specs.List.{list_all}
 use Rattle.std.proofs.lemmas.Bool.{and_parts}
@@ -7,8 +7,8 @@ use Rattle.vcd_grammar.specs.Digits.{is_unknown}
 use Rattle.vcd_grammar.specs.Values.{Values, at_first}
 use Rattle.vcd_grammar.specs.Judging.{is_declared}
 use Rattle.vcd_way.specs.declared.tap.Tap.{Tap}
-use Rattle.vcd_way.specs.Pieces.{TapChange}
-use Rattle.vcd_way.specs.Events.{whole, digits_at, set_tap, set_taps, values_after, unknown_in, sampled, settled, settled_digits}
+use Rattle.vcd_way.specs.Pieces.{Stamp, TapChange}
+use Rattle.vcd_way.specs.Events.{whole, digits_at, set_tap, set_taps, values_after, unknown_in, sampled, settled, settled_digits, at_first_edge}
 use Rattle.scope_silent.proofs.Sample.{Idle}
 
 -- the tap is one of a line among these
@@ -92,5 +92,10 @@ settled-at (b ∷ before) [] n ds h k = h
 settled-at (b ∷ before) (a ∷ after) zero ds h k = rw h (rw k (settled-itself ds))
 settled-at (b ∷ before) (a ∷ after) (suc n) ds h k = settled-at before after n ds h k
 
-pub settled-idle : (ls : List ℕ) (before after : Values) → Idle ls before → Idle ls after → Idle ls (settled before after)
+settled-idle : (ls : List ℕ) (before after : Values) → Idle ls before → Idle ls after → Idle ls (settled before after)
 settled-idle ls before after h k = λ n out. settled-at before after n (digits_at at_first n) (h n out) (k n out)
+
+pub first-idle : (ls : List ℕ) (stamp : Option Stamp) (before after : Values) → Idle ls before → Idle ls after
+    → Idle ls (at_first_edge stamp before after)
+first-idle ls None before after h k = k
+first-idle ls (Some stamp) before after h k = settled-idle ls before after h k

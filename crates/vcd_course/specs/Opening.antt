@@ -5,7 +5,7 @@ use Rattle.vcd_way.specs.declared.tap.Edge.{Edge}
 use Rattle.vcd_way.specs.Ways.{ValueRules}
 use Rattle.vcd_way.specs.Pieces.{Stamp, Happening, Comes, Gets, Switches}
 use Rattle.vcd_way.specs.Events.{Course, course_at_first, course_after, set_taps, unknown_in, is_edge, digit_after}
-use Rattle.vcd_way.specs.Events.{sampled, settled, DumpEvent, Sampled, switch_event, sample_in_block}
+use Rattle.vcd_way.specs.Events.{sampled, at_first_edge, DumpEvent, Sampled, switch_event, sample_in_block}
 
 -- the lines before the open block, its stamp, and the values in it
 pub record OpenPiece : Type 0 where
@@ -58,5 +58,5 @@ sample_by edge takes_first late o =
     if o.course.is_seen && is_edge edge (clock_of o.course.values) (clock_of o.now) then
     Sampled (sample_of (sampled late o.course.values o.now)) o.stamp ∷ []
     else (if takes_first && not o.course.is_seen && (clock_of o.now == digit_after edge) then
-    Sampled (sample_of (sampled late (settled o.course.values o.now) o.now)) o.stamp ∷ []
+    Sampled (sample_of (sampled late (at_first_edge o.stamp o.course.values o.now) o.now)) o.stamp ∷ []
     else [])

@@ -4,7 +4,7 @@ ghost use Rattle.vcd_way.specs.Ways.{ValueRules};
 ghost use Rattle.vcd_way.specs.Pieces.{Happening, Comes, Gets, Switches};
 ghost use Rattle.vcd_way.specs.Lawful.{is_line, is_lawful_tap};
 ghost use Rattle.vcd_way.specs.Steps.{is_too_wide_for, unknown_from_here};
-ghost use Rattle.vcd_way.specs.Events.{Sampled, sampled, is_edge, digit_after, is_known_digit};
+ghost use Rattle.vcd_way.specs.Events.{Sampled, sampled, at_first_edge, is_edge, digit_after, is_known_digit};
 ghost use Rattle.vcd_grammar.specs.Values.{sample_of};
 ghost use Rattle.vcd_course.specs.Told.{event_list, event_told, stamp_told, last_told, switch_told, rows_told, open_told, rules_of, late_of, FitsCourse};
 ghost use Rattle.vcd_course.specs.Opening.{first_open, next_open, after_happening, after_happenings, ended_in, told_at, sample_by};
@@ -131,9 +131,21 @@ impl Course {
             return self.sample(&self.block.before);
         }
         if self.rules.takes_first && !self.is_seen && clock == digit_after(self.rules.edge) {
-            return self.sample(&self.block.before.settled(&self.block.inside));
+            return self.first_sample();
         }
         None
+    }
+
+    /// The sample of a first edge: before the first stamp nothing comes before the values of the block.
+    fn first_sample(&self) -> Option<CourseEvent>
+        ensures { event_list result ≡ Sampled (sample_of (sampled self.now.late.items
+            (at_first_edge (last_told self.now.stamp) (rows_told self.now.block.before) (rows_told self.now.block.inside))
+            (rows_told self.now.block.inside))) (last_told self.now.stamp) ∷ [] }
+    {
+        match self.stamp {
+            None => self.sample(&self.block.inside),
+            Some(_) => self.sample(&self.block.before.settled(&self.block.inside)),
+        }
     }
 
     /// The sample of these digits before the block.

@@ -1,5 +1,5 @@
 -- The values of the lines, and the samples and holes of a dump.
-use Rattle.std.specs.Prelude.{ℕ, ◌+◌, ◌-◌, Bool, false, not, ◌&&◌, ◌||◌, ◌==◌, if◌then◌else◌, List, [], ◌∷◌, ◌++◌, length, take, drop, map, reverse, slice_get, slice_set, Option}
+use Rattle.std.specs.Prelude.{ℕ, ◌+◌, ◌-◌, Bool, false, not, ◌&&◌, ◌||◌, ◌==◌, if◌then◌else◌, List, [], ◌∷◌, ◌++◌, length, take, drop, map, reverse, slice_get, slice_set, Option, Some, None}
 use Rattle.std.specs.Option.{option_map_or}
 use Rattle.fsb_signal.specs.declared.sample.Sample.{Sample}
 use Rattle.fsb_signal.specs.DumpText.{width_of}
@@ -107,6 +107,12 @@ abbrev pub settled : Values → Values → Values
 settled (b ∷ before) (a ∷ after) = settled_digits b a ∷ settled before after
 settled before after = before
 
+-- what is sampled at the first edge of a clock that is high when it is first seen: before the first
+-- stamp of the dump nothing comes, so there it is the values of its block
+abbrev pub at_first_edge : Option Stamp → Values → Values → Values
+at_first_edge None before after = after
+at_first_edge (Some stamp) before after = settled before after
+
 -- what a dump tells, each with the last stamp: a sample; that it stops for a time; or that it
 -- goes on
 pub data DumpEvent : Type 0 where
@@ -131,7 +137,7 @@ sample_in_block m c stamp after =
     if c.is_seen && is_edge m.edge (clock_of c.values) (clock_of after) then
     Sampled (sample_of (sampled m.late c.values after)) stamp ∷ []
     else (if m.takes_first && not c.is_seen && (clock_of after == digit_after m.edge) then
-    Sampled (sample_of (sampled m.late (settled c.values after) after)) stamp ∷ []
+    Sampled (sample_of (sampled m.late (at_first_edge stamp c.values after) after)) stamp ∷ []
     else [])
 
 -- what pieces tell, the first of which begins with these values. Where the dump stops, and where it
