@@ -175,7 +175,8 @@ clocks after its snoop, and for the end of the request before.
 
 Mostly wrong: RS# lasts two clocks: the second is one response too many. Or
 a response comes before the data of the one before have ended, or a
-cancelled request is answered.
+cancelled request is answered. Or HIT# and HITM# together stall the snoop,
+and the response counts from the stall.
 
 Exactly what is refused: docs/phase-rules.md
 ",
