@@ -21,6 +21,7 @@ mod check;
 mod ending;
 mod fault;
 mod lines;
+mod near;
 mod notices;
 mod parts;
 mod refusal;

@@ -81,7 +81,7 @@ pub(crate) fn put_home(
 fn put_scopes(text: &mut Vec<u8>, heading: &Heading<'_>) -> Result<(), AllocError> {
     let scopes = heads(heading.alloc, &heading.names)?;
     if scopes.is_empty() {
-        heading.put_all_near(text)
+        heading.put_all_near(text, &[])
     } else {
         put_each(text, heading, &scopes)
     }

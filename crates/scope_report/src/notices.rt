@@ -1,6 +1,7 @@
 //! What a user may try where nothing could be judged, or where a rule is broken that perhaps is not.
 
-use crate::text::{put, put_bytes, put_count, put_listed};
+use crate::scopes::is_needed;
+use crate::text::{put, put_bytes, put_count, put_listed, put_number};
 use fsb_signal::{Lines, Sample};
 use scope_check::{Begin, Verdict};
 use scope_parts::{PartFound, PartsFound};
@@ -8,18 +9,84 @@ use scope_ring::Ring;
 use std::alloc::{AllocError, Global};
 use vcd_header::Section;
 
-/// Appends that a dump may begin in traffic, where that is so of one that is judged from its first clock with levels on.
+/// Appends that every line is asserted at first, or else that a dump may begin in traffic, where that is so of one that
+/// is judged from its first clock with levels on.
 pub(crate) fn put_traffic(
     text: &mut Vec<u8>,
     found: &PartsFound,
     last: &Ring,
 ) -> Result<(), AllocError> {
-    if found.plan.first.begin == Begin::Known && is_first_in_traffic(found, last) {
+    match found.first.as_slice().first() {
+        Some(part) if found.plan.first.begin == Begin::Known => put_first(
+            text,
+            part,
+            found.plan.quiet,
+            last,
+        ),
+        _ => Ok(()),
+    }
+}
+
+fn put_first(
+    text: &mut Vec<u8>,
+    part: &PartFound,
+    quiet: u32,
+    last: &Ring,
+) -> Result<(), AllocError> {
+    if has_all_lines(last.sample_at(part.start)) {
+        return put_all_asserted(text, part.start, last);
+    }
+    if is_in_traffic(part, last) {
         put(text, IN_TRAFFIC)?;
-        put_count(text, u64::from(found.plan.quiet), "clock")?;
+        put_count(text, u64::from(quiet), "clock")?;
         put(text, " without an asserted line.\n")
     } else {
         Ok(())
+    }
+}
+
+fn put_all_asserted(text: &mut Vec<u8>, start: u64, last: &Ring) -> Result<(), AllocError> {
+    put(text, "  Every needed line is asserted at clock ")?;
+    put_number(text, start)?;
+    put(text, ALL_ASSERTED)?;
+    match idle_clock(start, last) {
+        None => Ok(()),
+        Some(clock) => {
+            put(text, "  If it begins so before its reset: --at ")?;
+            put_number(text, clock)?;
+            put(text, " begins where no line is asserted.\n")
+        }
+    }
+}
+
+const ALL_ASSERTED: &str =
+    ". Are the levels turned? A wire that is high when asserted has ! before its
+  path, as in --line ADS_n=!tb.ads, and one that is low when asserted has none.
+";
+
+// The first clock that is kept, from this one on, at which no line is asserted.
+fn idle_clock(start: u64, last: &Ring) -> Option<u64> {
+    for clock in start..start.saturating_add(16) {
+        if is_idle(last.sample_at(clock)) {
+            return Some(clock);
+        }
+    }
+    None
+}
+
+fn is_idle(sample: Option<&Sample>) -> bool {
+    match sample {
+        None => false,
+        Some(sample) => CONTROL.iter().all(|(_, bits)| sample.lines.0 & bits == 0),
+    }
+}
+
+// Whether each needed control line is asserted.
+fn has_all_lines(sample: Option<&Sample>) -> bool {
+    match sample {
+        None => false,
+        Some(sample) => CONTROL.iter().all(|(line, bits)| !is_needed(*line)
+            || sample.lines.0 & bits != 0),
     }
 }
 
@@ -27,14 +94,7 @@ const IN_TRAFFIC: &str =
     "  The dump may begin in traffic: no request that is judged comes before that clock.
   --from 0 judges from the first clock on that ends ";
 
-// Whether the first part is broken by what may belong to a request of before it.
-fn is_first_in_traffic(found: &PartsFound, last: &Ring) -> bool {
-    match found.first.as_slice().first() {
-        None => false,
-        Some(part) => is_in_traffic(part, last),
-    }
-}
-
+// Whether the part is broken by what may belong to a request of before it.
 fn is_in_traffic(part: &PartFound, last: &Ring) -> bool {
     match part.verdict {
         Verdict::Broken { clock, rule, .. } => match rule {

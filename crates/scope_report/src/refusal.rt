@@ -165,7 +165,7 @@ fn put_best(
     scopes: &[usize],
 ) -> Result<(), AllocError> {
     if scopes.is_empty() {
-        return heading.put_all_near(text);
+        return heading.put_all_near(text, settled);
     }
     for scope in scopes {
         heading.put_counts(text, *scope)?;

@@ -1,5 +1,6 @@
 //! What a scope has of the bus, and what lacks.
 
+use crate::near::{Near, best_of, near_lines, put_hint};
 use crate::text::{put, put_line, put_listed, put_number, put_path, put_scope, put_shape};
 use scope_pick::{
     Named, Variable, ambiguous_lines, found_in, is_line_needed, is_listed, line_named, named_lines,
@@ -12,13 +13,6 @@ use std::alloc::{AllocError, Global};
 const LINES: [u8; 22] = [
     0, 1, 2, 3, 4, 5, 6, 7, 8, 9, 10, 11, 12, 13, 14, 15, 16, 17, 18, 19, 20, 21,
 ];
-
-/// A variable that is not named like a line, but nearly so.
-#[derive(Clone, Copy, Debug)]
-struct Near {
-    index: usize,
-    line: u8,
-}
 
 /// The variables of a header, and how they are named.
 #[derive(Drop)]
@@ -103,12 +97,23 @@ impl<'a> Heading<'a> {
         put_listed(text, "  missing:", &lacking, "\n")?;
         self.put_ambiguous(text, settled, scope)?;
         self.put_unfit(text, settled, scope)?;
-        self.put_near_of(text, Some(scope), &lacking)
+        self.put_near_of(text, scope, &lacking)
     }
 
-    /// Appends the variables that look like lines, wherever they stand.
-    pub(crate) fn put_all_near(&self, text: &mut Vec<u8>) -> Result<(), AllocError> {
-        self.put_near_of(text, None, &LINES)
+    /// Appends the needed lines that are not settled, if some are, and the variables that look like a line that is not
+    /// settled: of each line those of the scope with the most of them.
+    pub(crate) fn put_all_near(
+        &self,
+        text: &mut Vec<u8>,
+        settled: &[u8],
+    ) -> Result<(), AllocError> {
+        if !settled.is_empty() {
+            put_listed(text, "  missing:", &unsettled(self.alloc, settled)?, "\n")?;
+        }
+        for near in &best_of(self.alloc, self.variables, &self.near)? {
+            self.put_near_one(text, *near, !is_listed(settled, near.line))?;
+        }
+        Ok(())
     }
 
     // The lines that are not found in a scope and are not ambiguous: those that are needed, or the others.
@@ -194,11 +199,11 @@ impl<'a> Heading<'a> {
         put(text, ", and cannot be it\n")
     }
 
-    // The variables that look like these lines, of a scope or of all.
+    // The variables of a scope that look like these lines.
     fn put_near_of(
         &self,
         text: &mut Vec<u8>,
-        scope: Option<usize>,
+        scope: usize,
         lines: &[u8],
     ) -> Result<(), AllocError> {
         for line in lines {
@@ -207,12 +212,7 @@ impl<'a> Heading<'a> {
         Ok(())
     }
 
-    fn put_near(
-        &self,
-        text: &mut Vec<u8>,
-        scope: Option<usize>,
-        line: u8,
-    ) -> Result<(), AllocError> {
+    fn put_near(&self, text: &mut Vec<u8>, scope: usize, line: u8) -> Result<(), AllocError> {
         for near in &self.near {
             self.put_near_one(
                 text,
@@ -225,16 +225,13 @@ impl<'a> Heading<'a> {
 
     fn put_near_one(&self, text: &mut Vec<u8>, near: Near, is_one: bool) -> Result<(), AllocError> {
         match self.variables.get(near.index) {
-            Some(variable) if is_one => put_hint(text, near.line, variable),
+            Some(variable) if is_one => put_hint(text, near, variable),
             _ => Ok(()),
         }
     }
 
-    fn is_within(&self, scope: Option<usize>, index: usize) -> bool {
-        match scope {
-            None => true,
-            Some(scope) => self.scope_path(scope) == self.scope_path(index),
-        }
+    fn is_within(&self, scope: usize, index: usize) -> bool {
+        self.scope_path(scope) == self.scope_path(index)
     }
 
     fn scope_path(&self, index: usize) -> &[u8] {
@@ -326,19 +323,6 @@ fn others(is_split: bool) -> &'static str {
     if is_split { " and its other bits" } else { "" }
 }
 
-fn put_hint(text: &mut Vec<u8>, line: u8, variable: &Variable) -> Result<(), AllocError> {
-    put(text, "  perhaps: --line ")?;
-    put_line(text, line)?;
-    put(text, mark(line))?;
-    put_path(text, variable)?;
-    put(text, "\n")
-}
-
-// A name without `_n` is mostly that of a wire that is high when asserted.
-fn mark(line: u8) -> &'static str {
-    if line == 0 { "=" } else { "=!" }
-}
-
 fn is_of(name: Named, scope: usize, line: u8) -> bool {
     name.scope == scope && name.line == line
 }
@@ -356,59 +340,19 @@ fn lacking_among(
         .collect(alloc)
 }
 
-fn is_needed(line: u8) -> bool {
+pub(crate) fn is_needed(line: u8) -> bool {
     line < 22 && is_line_needed(line)
+}
+
+// The needed lines that are not settled.
+fn unsettled(alloc: Global, settled: &[u8]) -> Result<Vec<u8>, AllocError> {
+    LINES
+        .iter()
+        .copied()
+        .filter(|line| is_needed(*line) && !is_listed(settled, *line))
+        .collect(alloc)
 }
 
 fn needed_count() -> usize {
     LINES.iter().filter(|line| is_needed(**line)).count()
-}
-
-fn near_lines(alloc: Global, variables: &[Variable]) -> Result<Vec<Near>, AllocError> {
-    let mut near = Vec::new(alloc);
-    for (index, variable) in variables.iter().enumerate() {
-        add_near(&mut near, index, near_line(alloc, &variable.name)?)?;
-    }
-    Ok(near)
-}
-
-fn add_near(near: &mut Vec<Near>, index: usize, line: Option<u8>) -> Result<(), AllocError> {
-    match line {
-        None => {}
-        Some(line) => near.push(Near { index, line })?,
-    }
-    Ok(())
-}
-
-/// Other names that lines often have.
-const OTHERS: [(&str, u8); 5] = [
-    ("clk", 0),
-    ("clock", 0),
-    ("addr", 10),
-    ("address", 10),
-    ("data", 19),
-];
-
-// The line that a name without its `_n` may stand for.
-fn near_line(alloc: Global, name: &[u8]) -> Result<Option<u8>, AllocError> {
-    if line_named(name).is_some() {
-        return Ok(None);
-    }
-    match other_line(without_escape(name)) {
-        Some(line) => Ok(Some(line)),
-        None => longer_line(alloc, without_escape(name)),
-    }
-}
-
-fn other_line(plain: &[u8]) -> Option<u8> {
-    let place = OTHERS
-        .iter()
-        .position(|other| plain.eq_ignore_ascii_case(other.0.as_bytes()))?;
-    Some(OTHERS[place].1)
-}
-
-fn longer_line(alloc: Global, plain: &[u8]) -> Result<Option<u8>, AllocError> {
-    let mut longer = Vec::from_slice(alloc, plain)?;
-    longer.extend_from_slice(b"_n")?;
-    Ok(line_named(&longer))
 }
