@@ -178,6 +178,30 @@ const EARLIEST: [Early; 3] = [
     ),
 ];
 
+/// Values of a bus on which every line is asserted, and then of an idle one; and what of the report says it.
+const TURNED: (&str, &str, &str) = (
+    "#0\n0! 0a 0b b0 c b0 d\n0e 0f b000 g 0h 0i 0j bx k\n",
+    "1a 1b 1e 1f b111 g 1h 1i 1j\n",
+    "\n  Every needed line is asserted at clock 0. Are the levels turned? A wire that is high when asserted has ! before its
+  path, as in --line ADS_n=!tb.ads, and one that is low when asserted has none.
+  If it begins so before its reset: --at 2 begins where no line is asserted.\n",
+);
+
+/// Whether a check says so of two such clocks and two idle ones.
+fn is_turned_told(alloc: Global) -> Result<bool, Memory> {
+    let (all, idle, wanted) = TURNED;
+    let before = clocks(alloc, 0, 2)?;
+    let behind = clocks(alloc, 2, 2)?;
+    let text = format!(in alloc; "{BUS}{END}{all}{before}{idle}{behind}")?;
+    let came = done(alloc, "check|x.vcd", text.as_str(), "")?;
+    Ok(came.status == 1 && came.out.contains(wanted))
+}
+
+#[test]
+fn lines_that_are_all_asserted_at_first_are_told(rt: HostRuntime) {
+    assert!(rt; matches!(is_turned_told(rt.alloc()), Ok(true)));
+}
+
 /// Three clocks of an idle bus, these values, and three clocks.
 fn early_dump(alloc: Global, values: &str) -> Result<String, AllocError> {
     let before = clocks(alloc, 0, 3)?;
@@ -293,7 +317,7 @@ nothing could be judged: BCLK has no edge that samples
 /// Words, a dump behind its header, and the verdict.
 type Sampled = (&'static str, &'static str, &'static str);
 
-const SAMPLED: [Sampled; 6] = [
+const SAMPLED: [Sampled; 8] = [
     (
         "check|x.vcd",
         "IDLE#5\n1!\n#10\n0!\n#15\n1!\n",
@@ -323,6 +347,16 @@ const SAMPLED: [Sampled; 6] = [
         "check|--after|ADS_n|x.vcd",
         "IDLE#5\n1!\n#10\n0!\n#15\n1! 0b\n#20\n0! 1b\n#25\n1!\n",
         "rejected at clock 1, 15 ns (line 26 of the file): rule 2, request spacing",
+    ),
+    (
+        "check|--first|x.vcd",
+        "#0\n1! 1a 0b bx c bx d\n1e 1f b111 g 1h 1i 1j bx k\n#5\n0!\n#10\n1!\n",
+        "rejected at clock 0, 0 ns (line 19 of the file): rule 2, request spacing",
+    ),
+    (
+        "check|--first|x.vcd",
+        "1! 1a 0b bx c bx d\n1e 1f b111 g 1h 1i 1j bx k\n#5\n0!\n#10\n1!\n",
+        "rejected at clock 0: rule 2, request spacing",
     ),
 ];
 

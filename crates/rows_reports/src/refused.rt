@@ -109,7 +109,7 @@ fn each_cause_has_its_text(rt: HostRuntime) {
 /// Declarations of a dump without a whole bus, and the text.
 type NoneWhole = (&'static str, &'static str);
 
-const NONE_WHOLE: [NoneWhole; 3] = [
+const NONE_WHOLE: [NoneWhole; 4] = [
     (
         "$var wire 8 a x $end\n",
         "x.vcd: no variable is named like a line of the bus\nNAME_ALL\n",
@@ -117,6 +117,10 @@ const NONE_WHOLE: [NoneWhole; 3] = [
     (
         "$var wire 1 a clk $end\n$var wire 1 b ads $end\n$var wire 36 c addr [35:0] $end\n",
         "x.vcd: no variable is named like a line of the bus\n  perhaps: --line BCLK=tb.dut.clk\n  perhaps: --line ADS_n=!tb.dut.ads\n  perhaps: --line A_n=!tb.dut.addr\nNAME_ALL\n",
+    ),
+    (
+        "$var wire 1 a clk $end\n$var wire 2 b breq [1:0] $end\n$scope module bus $end\n$var wire 1 a clk $end\n$upscope $end\n",
+        "x.vcd: no variable is named like a line of the bus\n  perhaps: --line BCLK=tb.dut.clk\n  perhaps: --line BREQ0_n=!tb.dut.breq[0]\n  perhaps: --line BREQ1_n=!tb.dut.breq[1]\nNAME_ALL\n",
     ),
     (
         "$var wire 1 a bclk $end\n$var wire 1 b ads_n $end\n",
