@@ -1,18 +1,14 @@
-ghost use Rattle.std.specs.Prelude.{◌≡◌, ◌≤◌, ℕ, length, true, false};
+ghost use Rattle.std.specs.Prelude.{◌≡◌, ◌≤◌, length, true, false};
 ghost use Rattle.std.specs.List.{list_all};
 ghost use Rattle.vcd_grammar.specs.Values.{at_first};
 ghost use Rattle.vcd_way.specs.Lawful.{is_line, is_lawful_tap};
 ghost use Rattle.vcd_way.specs.Steps.{is_too_wide_for};
 ghost use Rattle.vcd_way.specs.Events.{set_tap, set_taps, unknown_in};
 ghost use Rattle.vcd_course.specs.Told.{rows_told};
-ghost use Rattle.vcd_course.specs.Lines.{row_at, is_listed};
 
 use crate::lines::{Block, Rows};
 use crate::rows::width_at;
 use vcd_way::{Part, Tap};
-
-/// How many changed lines are listed.
-const LISTED: usize = 32;
 
 impl Block {
     /// No line is asserted.
@@ -24,8 +20,7 @@ impl Block {
         Block {
             before: rows,
             inside: rows,
-            changed: [0; 32],
-            count: 0,
+            marks: [false; 22],
         }
     }
 
@@ -39,12 +34,7 @@ impl Block {
         ensures before { self.new.before ≡ self.old.before }
     {
         self.inside.set_tap(tap, digits);
-        if self.count < LISTED {
-            self.changed[self.count] = tap.line;
-            self.count += 1;
-        } else {
-            self.count = LISTED + 1;
-        }
+        self.marks[tap.line as usize] = true;
     }
 
     /// Some taps get a value.
@@ -85,25 +75,11 @@ impl Block {
         ensures inside { self.new.inside ≡ self.old.inside }
         ensures before { rows_told self.new.before ≡ rows_told self.old.inside }
     {
-        if self.count <= LISTED {
-            copy_listed(&mut self.before, &self.inside, &self.changed[..self.count]);
-        } else {
-            self.before = self.inside;
-        }
-        self.count = 0;
-    }
-}
-
-/// Copies the rows of these lines; some may be listed twice.
-fn copy_listed(before: &mut Rows, inside: &Rows, lines: &[u8])
-    ensures copied { (line : ℕ) → is_listed lines.now line ≡ true →
-        row_at before.new.rows line ≡ row_at inside.now.rows line }
-    ensures kept { (line : ℕ) → row_at before.old.rows line ≡ row_at inside.now.rows line →
-        row_at before.new.rows line ≡ row_at inside.now.rows line }
-{
-    for line in lines {
-        if *line < 22 {
-            before.copy_line(*line as usize, inside);
+        for line in 0..22 {
+            if self.marks[line] {
+                self.before.copy_line(line, &self.inside);
+                self.marks[line] = false;
+            }
         }
     }
 }

@@ -41,7 +41,6 @@ impl Cutter {
 
     /// Reads the bytes up to the first white space and that byte too, or all bytes where there is
     /// none. A token counts at the white space after it, or at its byte 70,001.
-    #[inline(always)]
     pub fn next(&mut self, bytes: &[u8]) -> Cut
         requires some { 0 < length bytes.now }
         requires room { (fed : List ℕ) × Stands self.old fed ×
@@ -84,7 +83,6 @@ impl Cutter {
     }
 
     /// The word of a token that was just cut off these bytes.
-    #[inline(always)]
     pub fn word<'a>(&'a self, token: CutToken, bytes: &'a [u8]) -> &'a [u8]
         ensures { result.now ≡ word_of self.now token.source bytes.now }
     {
@@ -103,7 +101,6 @@ impl Cutter {
     }
 
     /// Bytes without white space, and a byte of white space after them.
-    #[inline(always)]
     fn closed(&mut self, bytes: &[u8], gap: u8) -> Option<CutToken>
         requires dark { list_all is_dark bytes.now ≡ true }
         requires gap { is_white gap ≡ true }
@@ -122,7 +119,6 @@ impl Cutter {
     }
 
     /// Bytes without white space that end the run, if there is one.
-    #[inline(always)]
     fn last_of(&mut self, bytes: &[u8]) -> Option<CutToken>
         requires dark { list_all is_dark bytes.now ≡ true }
         requires room { self.old.at + 1 < 2 ^ 64 }
@@ -143,7 +139,6 @@ impl Cutter {
     }
 
     /// The token that bytes are which stand whole.
-    #[inline(always)]
     fn whole(&self, bytes: &[u8]) -> Option<CutToken>
         requires empty { length self.now.run.bytes.items ≡ 0 }
         requires short { length bytes.now ≤ 70000 }

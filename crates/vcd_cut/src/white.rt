@@ -15,7 +15,6 @@ pub(crate) fn is_white(byte: u8) -> bool
 }
 
 /// How many bytes stand before the first white space.
-#[inline(always)]
 pub(crate) fn span_len(bytes: &[u8]) -> usize
     ensures within { result ≤ length bytes.now }
     ensures dark { list_all is_dark (take result bytes.now) ≡ true }
