@@ -1,11 +1,16 @@
 -- A row of which some digits are written, one after another.
 use Rattle.std.proofs.Common.{◌≡◌, ℕ, ◌+◌, ◌-◌, ◌<◌, ◌≤◌, List, [], ◌∷◌, ◌++◌, length, take, drop, set, get_or, replicate, slice_index, sym}
-use Rattle.std.proofs.Common.{ap, ◌∙◌, arith, length-append, append_assoc}
+use Rattle.std.proofs.Common.{ap, ◌∙◌, arith, length-append, append_assoc, refl, true, ◌==◌, subst, inl, inr}
+use Rattle.std.proofs.lemmas.Bool.{true≢false, and_parts}
+use Rattle.std.proofs.lemmas.Bool.Decides.{eqb_tells}
 use Rattle.std.proofs.lemmas.List.{take_more, take_more_set, drop_more, set_at, length-take, take-take, take-replicate, length-replicate}
 use Rattle.std.proofs.lemmas.List.{drop-take, take_all, take-append-drop, append-nil}
 use Rattle.std.proofs.Math.Seq.{take-append-add}
 use Rattle.vcd_grammar.specs.Digits.{extended, pad_of}
+use Rattle.fsb_signal.specs.DumpText.{width_of}
 use Rattle.vcd_way.specs.declared.tap.BitRun.{BitRun}
+use Rattle.vcd_way.specs.declared.tap.Tap.{Tap}
+use Rattle.vcd_way.specs.Lawful.{is_lawful_tap, is_part_within}
 use Rattle.vcd_way.specs.declared.tap.Part.TheVariants as parts
 use Rattle.vcd_way.specs.Events.{with_part, run_of}
 use Rattle.vcd_course.proofs.DigitFacts.{length_run}
@@ -87,3 +92,27 @@ written_extended new digits width i most fits past within e =
     ∙ ap (λ k. take k (replicate top pad ++ digits ++ rest)) split
     ∙ take-append-add (replicate top pad ++ digits) rest 0
     ∙ append-nil (replicate top pad ++ digits)
+
+-- ---- a line of one bit
+
+-- the first digit of a row is written
+pub first_digit : (row : List ℕ) (d : ℕ) → 0 < length row → take 1 (set row 0 d) ≡ d ∷ []
+first_digit [] d h = absurd (omega (arith, h))
+first_digit (r ∷ row) d h = refl
+
+-- a digit is all of a value
+pub only_digit : (xs : List ℕ) (d : ℕ) → length xs ≡ 1 → d ≡ slice_index xs 0 → d ∷ [] ≡ xs
+only_digit [] d long e = absurd (omega (arith, long))
+only_digit (x ∷ []) d long e = ap (λ y. y ∷ []) e
+only_digit (x ∷ y ∷ ys) d long e = absurd (omega (arith, long))
+
+-- a tap that is a line is as wide as the line
+pub whole_width : (tap : Tap) → is_lawful_tap tap ≡ true → tap.part ≡ parts.Whole → tap.width ≡ width_of tap.line
+whole_width tap lawful whole =
+    let part = (and_parts _ _ (and_parts _ _ lawful).1).1 in
+    let same : (tap.width == width_of tap.line) ≡ true =
+    subst (λ p. is_part_within p tap.width (width_of tap.line) ≡ true) whole part in
+    elim (eqb_tells tap.width (width_of tap.line)) [
+      | inl here ↦ here.1
+      | inr other ↦ absurd (true≢false (sym same ∙ other.0))
+    ]

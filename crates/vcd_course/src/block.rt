@@ -25,6 +25,7 @@ impl Block {
     }
 
     /// A tap gets a value.
+    #[inline(always)]
     fn set_tap(&mut self, tap: &Tap, digits: &[u8])
         requires lawful { is_lawful_tap tap.now ≡ true }
         requires fits { length digits.now ≤ tap.now.width }
@@ -37,6 +38,7 @@ impl Block {
     }
 
     /// Some taps get a value.
+    #[inline(always)]
     pub(crate) fn set_taps(&mut self, taps: &[Tap], digits: &[u8])
         requires lawful { list_all is_lawful_tap taps.now ≡ true }
         requires fits { is_too_wide_for taps.now digits.now ≡ false }
@@ -68,6 +70,7 @@ impl Block {
     }
 
     /// Ends the block.
+    #[inline(always)]
     pub(crate) fn close(&mut self)
         ensures inside { self.new.inside ≡ self.old.inside }
         ensures before { rows_told self.new.before ≡ rows_told self.old.inside }

@@ -51,6 +51,7 @@ impl Course {
     }
 
     /// Some taps get a value.
+    #[inline(always)]
     pub fn gets(&mut self, taps: &[Tap], digits: &[u8])
         requires lawful { list_all is_lawful_tap taps.now ≡ true }
         requires fits { is_too_wide_for taps.now digits.now ≡ false }
@@ -74,6 +75,7 @@ impl Course {
     }
 
     /// A greater time comes. Tells the sample of the block that it ends, if there is one.
+    #[inline(always)]
     pub fn comes(&mut self, stamp: Stamp) -> Option<CourseEvent>
         ensures open { open_told self.new ≡ after_happening (open_told self.old) (Comes (stamp_told stamp)) }
         ensures told { (m : ValueRules) → FitsCourse m self.old →
@@ -162,6 +164,7 @@ impl Course {
     }
 
     /// Ends the block.
+    #[inline(always)]
     fn close(&mut self)
         ensures open { open_told self.new ≡ next_open (open_told self.old) }
         ensures rules { self.new.rules ≡ self.old.rules }
@@ -173,6 +176,7 @@ impl Course {
 }
 
 /// Whether the digit is known.
+#[inline(always)]
 fn is_known_digit(digit: u8) -> bool
     ensures { result ≡ is_known_digit digit }
 {
@@ -180,6 +184,7 @@ fn is_known_digit(digit: u8) -> bool
 }
 
 /// Whether the clock's edge lies between these digits.
+#[inline(always)]
 fn is_edge(edge: Edge, before: u8, after: u8) -> bool
     ensures { result ≡ is_edge edge before after }
 {

@@ -54,6 +54,7 @@ fn inverted(digit: u8) -> u8
 }
 
 /// A digit of a value that is extended to a width, from the left.
+#[inline(always)]
 fn extended_at(width: usize, digits: &[u8], at: usize) -> u8
     requires fits { length digits.now ≤ width }
     requires within { at < width }
@@ -68,6 +69,7 @@ fn extended_at(width: usize, digits: &[u8], at: usize) -> u8
 }
 
 /// A digit of a tap that gets a value, from the left.
+#[inline(always)]
 pub(crate) fn tap_digit(tap: &Tap, digits: &[u8], at: usize) -> u8
     requires fits { length digits.now ≤ tap.now.width }
     requires within { at < tap.now.width }

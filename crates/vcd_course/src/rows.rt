@@ -1,22 +1,25 @@
-ghost use Rattle.std.specs.Prelude.{◌≡◌, ◌<◌, ◌≤◌, ℕ, length, take, map, slice_set, ◌≢◌, true};
+ghost use Rattle.std.specs.Prelude.{◌≡◌, ◌<◌, ◌≤◌, ℕ, [], ◌∷◌, length, take, map, slice_set, ◌≢◌, true};
 ghost use Rattle.fsb_signal.specs.DumpText.{width_of};
 ghost use Rattle.vcd_grammar.specs.Levels.{level_of};
 ghost use Rattle.vcd_grammar.specs.Values.{Values, at_first, clock_of, sample_of};
 ghost use Rattle.vcd_way.specs.Lawful.{is_lawful_tap};
 ghost use Rattle.vcd_way.specs.Events.{set_tap, sampled, settled, settled_digits, digits_at};
+ghost use Rattle.vcd_way.specs.declared.tap.Part.TheVariants as parts;
 ghost use Rattle.vcd_course.specs.Told.{rows_told};
 ghost use Rattle.vcd_course.specs.Lines.{row_at};
 
-use crate::level::level_of;
+use crate::digits::tap_digit;
+use crate::level::{level_of_digit, level_of_row};
 use crate::lines::Rows;
 use crate::sample::sample_at;
 use crate::settle::settle_row;
 use crate::tapped::tapped;
 use fsb_signal::{Sample, signal_at};
 use vcd_grammar::Level;
-use vcd_way::Tap;
+use vcd_way::{Part, Tap};
 
 /// How many bits the line has.
+#[inline(always)]
 pub(crate) fn width_at(line: u8) -> usize
     requires { line < 22 }
     ensures width { result ≡ width_of line }
@@ -26,12 +29,25 @@ pub(crate) fn width_at(line: u8) -> usize
     signal_at(line).width as usize
 }
 
-/// What as many first digits of a row say.
-fn level_of_row(row: &[u8; 64], width: usize) -> Level
-    requires { width ≤ 64 }
-    ensures { result ≡ level_of (take width row.now) }
+/// Puts a digit in front of a row, in the place of the first one.
+#[inline(always)]
+#[tactic(auto, using(crate::proofs::TappedFacts::first_digit))]
+fn put_first(row: &mut [u8; 64], digit: u8)
+    ensures { take 1 row.new ≡ digit ∷ [] }
 {
-    level_of(&row[..width])
+    row[0] = digit;
+}
+
+/// Whether the tap has one bit, and is a line.
+#[inline(always)]
+fn is_bit(tap: &Tap) -> bool
+    ensures one { result ≡ true → tap.now.width ≡ 1 }
+    ensures whole { result ≡ true → tap.now.part ≡ parts.Whole }
+{
+    match tap.part {
+        Part::Whole => tap.width == 1,
+        Part::Bits(_) => false,
+    }
 }
 
 impl Rows {
@@ -49,7 +65,40 @@ impl Rows {
     }
 
     /// A tap gets a value.
+    #[inline(always)]
     pub(crate) fn set_tap(&mut self, tap: &Tap, digits: &[u8])
+        requires lawful { is_lawful_tap tap.now ≡ true }
+        requires fits { length digits.now ≤ tap.now.width }
+        ensures told { rows_told self.new ≡ set_tap (rows_told self.old) tap.now digits.now }
+        ensures rest { (line : ℕ) → line ≢ tap.now.line →
+            row_at self.new.rows line ≡ row_at self.old.rows line }
+    {
+        if is_bit(tap) {
+            self.set_bit(tap, digits);
+        } else {
+            self.set_bits(tap, digits);
+        }
+    }
+
+    /// A tap of one bit that is a line gets a value.
+    #[inline(always)]
+    fn set_bit(&mut self, tap: &Tap, digits: &[u8])
+        requires lawful { is_lawful_tap tap.now ≡ true }
+        requires fits { length digits.now ≤ tap.now.width }
+        requires one { tap.now.width ≡ 1 }
+        requires whole { tap.now.part ≡ parts.Whole }
+        ensures told { rows_told self.new ≡ set_tap (rows_told self.old) tap.now digits.now }
+        ensures rest { (line : ℕ) → line ≢ tap.now.line →
+            row_at self.new.rows line ≡ row_at self.old.rows line }
+    {
+        let line = tap.line as usize;
+        let digit = tap_digit(tap, digits, 0);
+        self.levels[line] = level_of_digit(digit);
+        put_first(&mut self.rows[line], digit);
+    }
+
+    /// Any tap gets a value.
+    fn set_bits(&mut self, tap: &Tap, digits: &[u8])
         requires lawful { is_lawful_tap tap.now ≡ true }
         requires fits { length digits.now ≤ tap.now.width }
         ensures told { rows_told self.new ≡ set_tap (rows_told self.old) tap.now digits.now }
@@ -71,6 +120,7 @@ impl Rows {
     }
 
     /// A line gets the digits that it has there.
+    #[inline(always)]
     pub(crate) fn copy_line(&mut self, line: usize, from: &Rows)
         requires { line < 22 }
         ensures { self.new.rows ≡ slice_set self.old.rows line (row_at from.now.rows line) }

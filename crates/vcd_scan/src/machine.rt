@@ -112,6 +112,7 @@ impl Machine {
 
     /// A token between values.
     #[tactic(auto, unfolding(vcd_way::specs::Steps::value_word_by))]
+    #[inline(always)]
     fn value(&mut self, place: u64, line: u64, word: &[u8]) -> Result<(), AllocError>
         requires values { self.old.spot ≡ Place.Values }
         ensures state { OnOk result (Becomes self.old self.new (word_step (way_in self.old)
@@ -137,6 +138,7 @@ impl Machine {
 
     /// A token between values, of which this is the first byte.
     #[tactic(auto, unfolding(vcd_way::specs::Steps::value_word_by))]
+    #[inline(always)]
     fn value_of(
         &mut self,
         place: u64,
@@ -185,6 +187,7 @@ impl Machine {
     }
 
     /// A time stamp, of which `digits` stand after the number sign.
+    #[inline(always)]
     fn stamp(&mut self, place: u64, line: u64, word: &[u8], digits: &[u8]) -> Result<(), AllocError>
         ensures state { OnOk result (Becomes self.old self.new (word_step (way_in self.old)
             (state_told self.old) (token_at place word.now) (stamp_word (time_in digits.now)))) }
@@ -209,6 +212,7 @@ impl Machine {
     }
 
     /// A time stamp of this time.
+    #[inline(always)]
     fn stamped(&mut self, place: u64, line: u64, time: u64) -> Result<(), AllocError>
         ensures state { OnOk result (Becomes self.old self.new (stamp_step (state_told self.old)
             place time self.old.time)) }
@@ -257,6 +261,7 @@ impl Machine {
     }
 
     /// A scalar change.
+    #[inline(always)]
     fn scalar(&mut self, place: u64, word: &[u8], digit: u8, code: &[u8])
         requires values { self.old.spot ≡ Place.Values }
         ensures state { Becomes self.old self.new (word_step (way_in self.old) (state_told
@@ -279,6 +284,7 @@ impl Machine {
     }
 
     /// A digit for what a code stands for.
+    #[inline(always)]
     fn scalar_code(&mut self, place: u64, digit: u8, code: &[u8])
         requires values { self.old.spot ≡ Place.Values }
         ensures state { Becomes self.old self.new (scalar_step (way_in self.old) (state_told
@@ -312,6 +318,7 @@ impl Machine {
     }
 
     /// A vector, of which `digits` stand after the `b`.
+    #[inline(always)]
     fn vector(&mut self, place: u64, word: &[u8], digits: &[u8]) -> Result<(), AllocError>
         ensures state { OnOk result (Becomes self.old self.new (word_step (way_in self.old)
             (state_told self.old) (token_at place word.now) (vector_by (rules_in self.old)
@@ -344,6 +351,7 @@ impl Machine {
     }
 
     /// A vector whose code is next.
+    #[inline(always)]
     fn keep_vector(&mut self, place: u64, digits: &[u8]) -> Result<(), AllocError>
         ensures state { OnOk result (Becomes self.old self.new (moves_to (state_told self.old)
             (AtCode place digits.now))) }

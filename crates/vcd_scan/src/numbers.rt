@@ -7,6 +7,7 @@ ghost use Rattle.vcd_scan.specs.CodeNumbers.{number_of};
 const LONGEST: usize = 9;
 
 /// The number of a code of printable characters, the first one counting least.
+#[inline(always)]
 pub(crate) fn number_of(code: &[u8]) -> Option<u64>
     ensures { result ≡ number_of code.now }
 {

@@ -38,6 +38,7 @@ impl CodePlaces {
     }
 
     /// The place of the code, if it has one.
+    #[inline(always)]
     pub(crate) fn place(&self, code: &[u8]) -> Option<usize>
         ensures { result ≡ place_by self.now code.now }
     {
@@ -89,6 +90,7 @@ impl CodePlaces {
 }
 
 /// The place of a small number.
+#[inline(always)]
 fn low_place(low: &[Option<usize>], number: usize) -> Option<usize>
     ensures { result ≡ low_place low.now number }
 {

@@ -111,6 +111,7 @@ impl ValueReader {
 
     /// The bytes up to the first white space and that byte too, or all bytes where there is none.
     /// Tells how many.
+    #[inline(always)]
     fn step(&mut self, bytes: &[u8]) -> Result<usize, AllocError>
         requires some { 0 < length bytes.now }
         requires room { (head fed : List ℕ) × Works self.old head fed × (length (head ++ fed) +

@@ -38,6 +38,7 @@ impl Wires {
     }
 
     /// The taps of a code, where it was declared.
+    #[inline(always)]
     pub(crate) fn taps(&self, code: &[u8]) -> Option<&[Tap]>
         ensures taps { option_map (λ taps. taps.now) result
             ≡ taps_in (codes_told self.now.wires.items) code.now }

@@ -6,7 +6,7 @@ use Rattle.vcd_grammar.specs.Levels.{level_of}
 use Rattle.vcd_way.specs.Events.{inverted_if, with_part}
 use Rattle.vcd_course.specs.Told.{rows_told}
 use Rattle.vcd_course.proofs.RowFacts.{set_values, set_says, values_at, width_in}
-use Rattle.vcd_course.proofs.lines.Rows.set_tap.Goals as goal
+use Rattle.vcd_course.proofs.lines.Rows.set_bits.Goals as goal
 
 pub returns-clause-told : goal.returns-clause-told
 returns-clause-told c =
