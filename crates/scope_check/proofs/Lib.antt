@@ -1,4 +1,7 @@
+mod Counting
+mod Replying
 mod Samples
+mod Stamping
 mod Growing
 mod Turns
 mod PartTurns

@@ -16,14 +16,14 @@ pub judge-requires : goal.judge-requires
 judge-requires c =
     (c.begins_later-is_later.result, c.args.self.now.marks, [], record { stands = c.new-self.ensures; count = refl })
 
-pub returns-in_ok-judge : goal.returns-in_ok-judge
-returns-in_ok-judge c p m es s phase =
+pub returns-in_ok-judge-clause-stands : goal.returns-in_ok-judge-clause-stands
+returns-in_ok-judge-clause-stands c p m es s phase =
     let j = c.args.self.now in
     let k = c.judge.new.self in
     let e = Sampled c.args.sample.now (last_told c.args.stamp) in
     let same = c.judge.ensures.rest in
     let is_later = c.begins_later-is_later.result in
-    let later = begins_later p.begin (clocks_of s.before) in
+    let later = later_at p s.before in
     let w : IsStage phases.Before j later m s.before s.part s.behind =
     subst (λ (ph : Phase). IsStage ph j later m s.before s.part s.behind) phase s.stage in
     let run : c.in_ok-quiet.quiet ≡ quiet_run (s.before ++ e ∷ []) =
@@ -42,12 +42,12 @@ returns-in_ok-judge c p m es s phase =
     (subst (λ (l : Bool). HasJudged k.checker k.judged k.broken l m (e ∷ [])) same_later
     (subst (λ (n : Marks). HasJudged k.checker k.judged k.broken is_later n (e ∷ [])) s.marked has))
 
-pub returns-in_ok-self : goal.returns-in_ok-self
-returns-in_ok-self c p m es s phase =
+pub returns-in_ok-self-clause-stands : goal.returns-in_ok-self-clause-stands
+returns-in_ok-self-clause-stands c p m es s phase =
     let j = c.args.self.now in
     let t = last_told c.args.stamp in
     let e = Sampled c.args.sample.now t in
-    let later = begins_later p.begin (clocks_of s.before) in
+    let later = later_at p s.before in
     let w : IsStage phases.Before j later m s.before s.part s.behind =
     subst (λ (ph : Phase). IsStage ph j later m s.before s.part s.behind) phase s.stage in
     let run : c.in_ok-quiet.quiet ≡ quiet_run (s.before ++ e ∷ []) =
