@@ -2,6 +2,7 @@ mod Counting
 mod Replying
 mod Samples
 mod Stamping
+mod Told
 mod Growing
 mod Turns
 mod PartTurns

@@ -1,8 +1,8 @@
 -- The requests of a part with one more clock.
-use Rattle.std.proofs.Common.{◌≡◌, ◌∙◌, ℕ, ◌<◌, ◌++◌, ◌∷◌, ◌||◌, ◌==◌, not, [], List, Option, Some, None, Bool, true, false, length, refl, sym, ap, subst, arith, get_or, rules}
+use Rattle.std.proofs.Common.{◌≡◌, ◌∙◌, ℕ, zero, suc, ◌<◌, ◌++◌, ◌∷◌, ◌||◌, ◌==◌, not, [], List, Option, Some, None, IfSome, Bool, true, false, length, refl, sym, ap, subst, arith, get_or, rules}
 use Rattle.std.proofs.lemmas.Bool.{eqb-true}
-use Rattle.std.proofs.Math.ListN.{set, length-set}
-use Rattle.std.proofs.lemmas.List.{get_or-set_same, get_or-set_other}
+use Rattle.std.proofs.Math.ListN.{set, length-set, replicate}
+use Rattle.std.proofs.lemmas.List.{get_or-set_same, get_or-set_other, length-replicate}
 use Rattle.fsb_signal.specs.declared.sample.Sample.{Sample}
 use Rattle.fsb_trace.specs.At.{Trace}
 use Rattle.scope_check.specs.declared.replies.Replies.{Replies}
@@ -67,6 +67,24 @@ unmarked-is asked part (Some n) low same = ap not (same n (low n refl))
 size-more : (asked : List Bool) (one : Option ℕ) → length (marked asked one) ≡ length asked
 size-more asked None = refl
 size-more asked (Some n) = length-set asked n true
+
+-- before the first clock
+pub none-marked : (id n : ℕ) → is_marked (replicate n false) id ≡ false
+none-marked zero zero = refl
+none-marked (suc id) zero = refl
+none-marked zero (suc n) = refl
+none-marked (suc id) (suc n) = none-marked id n
+
+pub size-none : (n : ℕ) → length (replicate n false) ≡ n
+size-none n = length-replicate n false
+
+-- an ID that is told by a call
+pub low-of : (o q : Option ℕ) → o ≡ q → IfSome o (λ id. id < 256) → (n : ℕ) → q ≡ Some n → n < 256
+low-of None q e h n f = absurd (let wrong : None ≡ Some n = e ∙ f in let no : ⊥ = cc in no)
+low-of (Some m) q e h n f =
+    let there : Some m ≡ Some n = e ∙ f in
+    let same : m ≡ n = cc there in
+    omega (arith, same, h)
 
 pub follows-more : (r k : Replies) (part : Trace) (x : Sample) → Follows r part
     → ((n : ℕ) → asked_id (begun_on r.last x) ≡ Some n → n < 256)

@@ -1,5 +1,5 @@
 -- The stamp of a broken clock.
-use Rattle.std.proofs.Common.{◌≡◌, ◌∙◌, ℕ, ◌+◌, ◌<◌, ◌≤◌, ◌++◌, ◌∷◌, [], Bool, true, false, if◌then◌else◌, List, Option, Some, None, is_some, length, slice_get, refl, sym, ap, subst, arith}
+use Rattle.std.proofs.Common.{◌≡◌, ◌∙◌, ℕ, zero, suc, ◌+◌, ◌<◌, ◌≤◌, ◌++◌, ◌∷◌, [], Bool, true, false, if◌then◌else◌, List, Option, Some, None, is_some, length, slice_get, refl, sym, ap, subst, arith}
 use Rattle.fsb_signal.specs.declared.marks.Marks.{Marks}
 use Rattle.fsb_signal.specs.declared.sample.Sample.{Sample}
 use Rattle.fsb_rules.specs.declared.broken.Broken.{Broken}
@@ -18,7 +18,7 @@ use Rattle.scope_check.proofs.Samples.{samples_snoc}
 stamp-old : (es : List DumpEvent) (e : DumpEvent) (n : ℕ) (t : Option TimeStamp)
     → slice_get (stamps_among es) n ≡ Some t → slice_get (stamps_among (es ++ e ∷ [])) n ≡ Some t
 stamp-old [] e n t h = absurd (let no : ⊥ = cc in no)
-stamp-old (Sampled x u ∷ es) e 0 t h = h
+stamp-old (Sampled x u ∷ es) e zero t h = h
 stamp-old (Sampled x u ∷ es) e (suc n) t h = stamp-old es e n t h
 stamp-old (Hole u ∷ es) e n t h = stamp-old es e n t h
 stamp-old (Resumed u ∷ es) e n t h = stamp-old es e n t h

@@ -1,5 +1,5 @@
 -- What a judge stands for after one more event.
-use Rattle.std.proofs.Common.{◌≡◌, ◌∙◌, ◌+◌, ◌++◌, ◌∷◌, ◌&&◌, ◌||◌, not, [], ℕ, List, Option, Bool, true, false, if◌then◌else◌, length, ap, sym, subst, refl}
+use Rattle.std.proofs.Common.{◌≡◌, ◌∙◌, ◌+◌, ◌++◌, ◌∷◌, ◌&&◌, ◌||◌, not, [], ℕ, List, Option, Bool, true, false, if◌then◌else◌, length, Result, Ok, Err, IfOk, ap, sym, subst, refl, arith}
 use Rattle.std.specs.List.{prefix_len}
 use Rattle.std.proofs.lemmas.List.{length-append, reverse-append}
 use Rattle.fsb_signal.specs.declared.sample.Sample.{Sample}
@@ -24,6 +24,16 @@ count_snoc es s t = ap length (samples_snoc es s t) ∙ length-append (samples_a
 -- how many of the last events are quiet with one more
 pub quiet_snoc : (es : List DumpEvent) (e : DumpEvent) → quiet_run (es ++ e ∷ []) ≡ quiet_more (quiet_run es) e
 quiet_snoc es e = ap (prefix_len is_quiet) (reverse-append es (e ∷ []))
+
+-- one more quiet clock, and another one
+pub quiet-counted : {E : Type 0} (run : ℕ) (e : DumpEvent) (r : Result ℕ E) → is_quiet e ≡ true
+    → IfOk r (λ more. more ≡ run + 1) → IfOk r (λ more. more ≡ quiet_more run e)
+quiet-counted run e (Ok n) q h =
+    h ∙ (let same : run + 1 ≡ 1 + run = omega arith in same) ∙ ap (λ b. if b then 1 + run else 0) (sym q)
+quiet-counted run e (Err x) q h = tt
+
+pub quiet-none : (run : ℕ) (e : DumpEvent) → is_quiet e ≡ false → 0 ≡ quiet_more run e
+quiet-none run e q = ap (λ b. if b then 1 + run else 0) (sym q)
 
 -- what is no sample leaves the number of clocks as it is
 abbrev pub IsNoSample : DumpEvent → Type 0

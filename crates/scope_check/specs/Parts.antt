@@ -1,7 +1,7 @@
 -- The part of a dump that is judged.
-use Rattle.std.specs.Prelude.{◌≡◌, ℕ, ◌+◌, Bool, true, false, not, ◌&&◌, ◌||◌, ◌==◌, nat_le, if◌then◌else◌, List, [], ◌∷◌, ◌++◌, length}
-use Rattle.std.specs.List.{suffix_len, list_any}
-use Rattle.fsb_signal.specs.declared.lines.TheConstants.Lines.{AP0, AP1, RP}
+use Rattle.std.specs.Prelude.{◌≡◌, ℕ, ◌+◌, ◌%◌, Bool, true, false, not, ◌&&◌, ◌||◌, ◌==◌, nat_le, if◌then◌else◌, List, [], ◌∷◌, ◌++◌, length}
+use Rattle.std.specs.List.{suffix_len}
+use Rattle.fsb_signal.specs.declared.lines.TheConstants.Lines.{AP0}
 use Rattle.fsb_signal.specs.Samples.{has_known_lines}
 use Rattle.vcd_way.specs.Events.{DumpEvent, Sampled, Hole, Resumed, samples_among, time_of}
 use Rattle.scope_check.specs.declared.part.Begin.{Begin}
@@ -15,15 +15,10 @@ is_ready (Sampled sample stamp) = has_known_lines sample
 is_ready (Hole stamp) = false
 is_ready (Resumed stamp) = false
 
--- no control line but those of parity is among these: they carry the parity of idle words too
-abbrev pub is_parity : ℕ → Bool
-is_parity lines =
-    list_any (λ (n : ℕ). lines == n)
-    (0 ∷ AP0.0 ∷ AP1.0 ∷ AP0.0 + AP1.0 ∷ RP.0 ∷ RP.0 + AP0.0 ∷ RP.0 + AP1.0 ∷ RP.0 + AP0.0 + AP1.0 ∷ [])
-
--- a sample in which all control lines are known, and none but those of parity is asserted
+-- a sample in which all control lines are known, and none but those of parity is asserted. AP# and RP# are the last of
+-- the control lines, from AP0 up
 abbrev pub is_quiet : DumpEvent → Bool
-is_quiet (Sampled sample stamp) = has_known_lines sample && is_parity sample.lines.0
+is_quiet (Sampled sample stamp) = has_known_lines sample && (sample.lines.0 % AP0.0 == 0)
 is_quiet (Hole stamp) = false
 is_quiet (Resumed stamp) = false
 

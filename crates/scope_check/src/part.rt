@@ -5,7 +5,7 @@ ghost use Rattle.vcd_way.specs.Pieces.{Stamp as TimeStamp, time_at};
 ghost use Rattle.vcd_way.specs.Events.{Sampled};
 ghost use Rattle.vcd_course.specs.Told.{last_told};
 ghost use Rattle.scope_check.specs.Bounds.{passes, reaches, begins_later};
-ghost use Rattle.scope_check.specs.Parts.{is_parity, is_quiet};
+ghost use Rattle.scope_check.specs.Parts.{is_quiet};
 
 use fsb_signal::{Lines, Sample};
 use vcd_course::Stamp;
@@ -94,22 +94,5 @@ pub(crate) fn begins_later(begin: Begin, clock: u32, has_stopped: bool) -> bool
 pub(crate) fn is_quiet(sample: &Sample) -> bool
     ensures { (t : Option TimeStamp) → result ≡ is_quiet (Sampled sample.now t) }
 {
-    sample.has_known_lines() && is_parity(sample.lines.0)
-}
-
-// Whether no line but those of parity is among these.
-fn is_parity(lines: u32) -> bool
-    ensures { result ≡ is_parity lines }
-{
-    let low = Lines::AP0.0;
-    let high = Lines::AP1.0;
-    let request = Lines::RP.0;
-    lines == 0
-        || lines == low
-        || lines == high
-        || lines == low + high
-        || lines == request
-        || lines == request + low
-        || lines == request + high
-        || lines == request + low + high
+    sample.has_known_lines() && sample.lines.0 % Lines::AP0.0 == 0
 }

@@ -1,6 +1,6 @@
 //! The replies in a part whose requests are not of the part.
 
-ghost use Rattle.std.specs.Prelude.{◌≡◌, ◌++◌, ◌∷◌, []};
+ghost use Rattle.std.specs.Prelude.{◌≡◌, ◌<◌, ◌++◌, ◌∷◌, [], IfSome};
 ghost use Rattle.fsb_trace.specs.At.{Trace};
 ghost use Rattle.scope_check.specs.Replies.{request_on, begun_on, asked_id, reply_id};
 ghost use Rattle.scope_check.specs.Following.{Follows, marked, is_unmarked};
@@ -51,8 +51,9 @@ fn begun_on(last: &Option<Sample>, sample: &Sample) -> Option<Request>
 
 // The ID of a request that is no reply.
 #[tactic(auto, unfolding(fsb_trace::specs::Requests::is_reply_kind))]
-fn asked_id(request: &Option<Request>) -> Option<u8>
-    ensures { result ≡ asked_id request.now }
+fn asked_id(request: Option<Request>) -> Option<u8>
+    ensures id { result ≡ asked_id request }
+    ensures low { IfSome result (λ id. id < 256) }
 {
     match request {
         Some(request) => match request.kind {
@@ -65,8 +66,9 @@ fn asked_id(request: &Option<Request>) -> Option<u8>
 
 // The ID that a reply answers.
 #[tactic(auto, unfolding(fsb_trace::specs::Requests::is_reply_kind))]
-fn reply_id(request: &Option<Request>) -> Option<u8>
-    ensures { result ≡ reply_id request.now }
+fn reply_id(request: Option<Request>) -> Option<u8>
+    ensures id { result ≡ reply_id request }
+    ensures low { IfSome result (λ id. id < 256) }
 {
     match request {
         Some(request) => match request.kind {
@@ -113,8 +115,8 @@ impl Replies {
         ensures { (part : Trace) → Follows self.old part → Follows self.new (part ++ sample.now ∷ []) }
     {
         let request = begun_on(&self.last, sample);
-        mark(&mut self.asked, asked_id(&request));
-        self.answers_before = is_unmarked(&self.asked, reply_id(&request));
+        mark(&mut self.asked, asked_id(request));
+        self.answers_before = is_unmarked(&self.asked, reply_id(request));
         self.last = Some(*sample);
     }
 }

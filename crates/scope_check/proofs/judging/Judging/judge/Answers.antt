@@ -1,4 +1,4 @@
-use Rattle.std.proofs.Common.{◌∙◌, ◌+◌, ap, sym, subst}
+use Rattle.std.proofs.Common.{◌∙◌, ◌+◌, Bool, if◌then◌else◌, ap, sym, subst}
 use Rattle.fsb_trace.specs.At.{Trace}
 use Rattle.vcd_way.specs.Events.{samples_among}
 use Rattle.vcd_way.specs.Events.{Sampled}
@@ -11,8 +11,8 @@ use Rattle.scope_check.proofs.Stamping.{found-more}
 use Rattle.scope_check.proofs.Turns.{count_snoc}
 use Rattle.scope_check.proofs.judging.Judging.judge.Goals as goal
 
-pub returns-in_ok-judged-clause-judged : goal.returns-in_ok-judged-clause-judged
-returns-in_ok-judged-clause-judged c l m part h =
+pub returns-clause-judged : goal.returns-clause-judged
+returns-clause-judged c l m part h =
     let j = c.args.self.now in
     let x = c.args.sample.now in
     let t = last_told c.args.stamp in
@@ -25,7 +25,8 @@ returns-in_ok-judged-clause-judged c l m part h =
           follows = subst (λ (w : Trace). Follows c.feed.new.self w) (sym one)
               (c.feed.ensures (samples_among part) h.follows);
           found_on = found-more j.broken j.stamp c.args.stamp c.first_stamp-self.result l m part x c.feed-self.result h.found_on
-              some (c.feed-self.ensures.found l m (samples_among part) h.stands) c.first_stamp-self.ensures;
+              some (c.feed-self.ensures.found l m (samples_among part) h.stands) (c.first_stamp-self.ensures
+              ∙ ap (λ (b : Bool). if b then j.stamp else c.args.stamp) c.is_some.ensures);
       },
       some,
     )
