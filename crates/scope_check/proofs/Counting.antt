@@ -10,7 +10,7 @@ use Rattle.scope_check.specs.Bounds.{most_counted}
 use Rattle.scope_check.specs.Parts.{IsParted, clocks_of, is_quiet, quiet_run}
 use Rattle.scope_check.specs.Standing.{Stands}
 
-clocks-few : (es : List DumpEvent) → clocks_of es ≤ length es
+pub clocks-few : (es : List DumpEvent) → clocks_of es ≤ length es
 clocks-few [] = omega arith
 clocks-few (Sampled x t ∷ es) = let h = clocks-few es in omega (arith, h)
 clocks-few (Hole t ∷ es) = let h = clocks-few es in omega (arith, h)

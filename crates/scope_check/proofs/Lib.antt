@@ -1,4 +1,4 @@
-mod Counting
+pub mod Counting
 mod Replying
 mod Samples
 mod Stamping
@@ -6,3 +6,4 @@ mod Told
 mod Growing
 mod Turns
 mod PartTurns
+pub mod Interface

@@ -1,6 +1,6 @@
 //! When a segment ends.
 
-ghost use Rattle.std.specs.Prelude.{◌≡◌, ◌<◌, ◌+◌, ◌^◌, if◌then◌else◌};
+ghost use Rattle.std.specs.Prelude.{◌≡◌, ◌≤◌, ◌+◌, if◌then◌else◌};
 ghost use Rattle.vcd_course.specs.Told.{event_told};
 ghost use Rattle.scope_parts.specs.declared.finding.End.TheVariants as ends;
 ghost use Rattle.scope_parts.specs.Endings.{breaks_18_last, breaks_one, ending, ends_at_hole, ends_at_reply, ends_broken, is_accepted};
@@ -41,13 +41,13 @@ pub(crate) fn broken_clock(verdict: &Verdict) -> Option<u64>
     }
 }
 
-/// The same, numbered behind so many others.
-pub(crate) fn broken_behind(base: u64, verdict: &Verdict) -> Option<u64>
-    ensures { base + clock_in verdict.now < 2 ^ 64 →
+/// The same, numbered behind so many others, in a dump that has so many up to there.
+pub(crate) fn broken_behind(base: u64, verdict: &Verdict, clocks: u64) -> Option<u64>
+    ensures { base + clock_in verdict.now ≤ clocks →
         result ≡ broken_clock (shifted base verdict.now) }
 {
     match *verdict {
-        Verdict::Broken { clock, .. } => base.checked_add(clock),
+        Verdict::Broken { clock, .. } => Some(base.saturating_add(clock).min(clocks)),
         Verdict::Nothing | Verdict::Accepted => None,
     }
 }

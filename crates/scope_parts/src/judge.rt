@@ -114,10 +114,12 @@ impl PartsJudge {
         ensures { (p : Plan) (m : Marks) (es : List DumpEvent) → Stands self.now p m es →
             IsFirstFault result p m es }
     {
-        let _clocks = self.counts.clocks;
         match self.tally.kept.faults.as_slice().first() {
             Some(part) => broken_clock(&part.verdict),
-            None => broken_behind(self.tally.clocks, &self.latest.found.verdict),
+            None => {
+                let found = &self.latest.found.verdict;
+                broken_behind(self.tally.clocks, found, self.counts.clocks)
+            }
         }
     }
 
