@@ -230,6 +230,7 @@ fn part_of(sketch: &Sketch) -> PartFound {
     PartFound {
         start,
         judged,
+        is_later: false,
         verdict,
         end,
     }

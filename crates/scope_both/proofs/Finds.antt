@@ -11,8 +11,11 @@ use Rattle.fsb_trace.specs.Verdict.{verdict}
 use Rattle.vcd_way.specs.Events.{DumpEvent, Sampled, Hole, Resumed, samples_among}
 use Rattle.scope_check.specs.declared.finding.Judged.{Judged}
 use Rattle.scope_check.specs.declared.finding.Verdict.{Verdict}
+use Rattle.scope_check.specs.declared.part.Begin.TheVariants.{Known}
+use Rattle.scope_check.specs.Bounds.{begins_later}
 use Rattle.scope_check.specs.Findings.{Says, IsFoundIn}
-use Rattle.scope_check.specs.Parts.{is_ready, is_sampled, begins, opens, closes, Throughout, IsParted}
+use Rattle.scope_later.specs.Findings.{found_on}
+use Rattle.scope_check.specs.Parts.{is_ready, is_sampled, begins, has_stopped, opens, closes, Throughout, IsParted}
 use Rattle.scope_both.specs.Finding.{begins_known, whole_part, IsJudgedWhole}
 
 ready-first : (events : List DumpEvent) → list_all is_sampled events ≡ true → begins_known (samples_among events) ≡ true
@@ -76,6 +79,8 @@ found-whole f marks events n r k =
     let before : length (samples_among k.before) ≡ 0 = ap (λ es. length (samples_among es)) all.first in
     let behind : length (samples_among k.behind) ≡ 0 = ap (λ es. length (samples_among es)) all.last in
     let start : f.start ≡ 0 = k.start ∙ before in
+    let later : f.is_later ≡ false =
+    k.is_later ∙ ap (λ es. begins_later Known f.start (has_stopped es)) all.first in
     let judged : f.judged ≡ length (samples_among events) = k.judged ∙ ap (λ es. length (samples_among es)) all.all in
     record {
       start = start;
@@ -86,5 +91,6 @@ found-whole f marks events n r k =
       says = subst (λ a. Says a (length (samples_among events)) (as_broken (verdict marks (samples_among events))) f.verdict)
           start
           (subst (λ b. Says f.start b (as_broken (verdict marks (samples_among events))) f.verdict) judged
-          (subst (λ es. Says f.start f.judged (as_broken (verdict marks (samples_among es))) f.verdict) all.all k.says));
+          (subst (λ es. Says f.start f.judged (as_broken (verdict marks (samples_among es))) f.verdict) all.all
+          (subst (λ (l : Bool). Says f.start f.judged (found_on l marks (samples_among k.part)) f.verdict) later k.says)));
     }

@@ -1,5 +1,5 @@
 -- What a judge stands for after one more event.
-use Rattle.std.proofs.Common.{◌≡◌, ◌∙◌, ◌+◌, ◌++◌, ◌∷◌, ◌&&◌, ◌||◌, not, [], ℕ, List, Option, Bool, true, false, if◌then◌else◌, length, ap, sym, subst, refl}
+use Rattle.std.proofs.Common.{◌≡◌, ◌∙◌, ◌+◌, ◌++◌, ◌∷◌, ◌&&◌, ◌||◌, not, [], ℕ, List, Option, Bool, true, false, if◌then◌else◌, length, Result, Ok, Err, IfOk, ap, sym, subst, refl, arith}
 use Rattle.std.specs.List.{prefix_len}
 use Rattle.std.proofs.lemmas.List.{length-append, reverse-append}
 use Rattle.fsb_signal.specs.declared.sample.Sample.{Sample}
@@ -10,9 +10,9 @@ use Rattle.scope_check.specs.declared.judging.Judging.{Judging}
 use Rattle.scope_check.specs.declared.judging.Phase.{Phase}
 use Rattle.scope_check.specs.declared.judging.Phase.TheVariants as phases
 use Rattle.scope_check.specs.declared.part.Part.{Part}
-use Rattle.scope_check.specs.Bounds.{passes, begins_later}
-use Rattle.scope_check.specs.Parts.{IsParted, opens_at, is_sampled, is_quiet, is_none, opens, closes, clocks_of, quiet_run, quiet_more, may_begin}
-use Rattle.scope_check.specs.Standing.{HasJudged, IsStage, Stands, Waits, rested}
+use Rattle.scope_check.specs.Bounds.{passes}
+use Rattle.scope_check.specs.Parts.{IsParted, opens_at, is_sampled, is_quiet, is_none, opens, closes, clocks_of, quiet_run, quiet_more, may_begin, has_stopped}
+use Rattle.scope_check.specs.Standing.{HasJudged, IsStage, Stands, Waits, later_at, rested, stopped}
 use Rattle.scope_check.proofs.Growing.{before_more, part_begins, part_goes_on, part_ends, rest_more, none_more}
 use Rattle.scope_check.proofs.Samples.{samples_snoc}
 
@@ -25,15 +25,38 @@ count_snoc es s t = ap length (samples_snoc es s t) ∙ length-append (samples_a
 pub quiet_snoc : (es : List DumpEvent) (e : DumpEvent) → quiet_run (es ++ e ∷ []) ≡ quiet_more (quiet_run es) e
 quiet_snoc es e = ap (prefix_len is_quiet) (reverse-append es (e ∷ []))
 
+-- one more quiet clock, and another one
+pub quiet-counted : {E : Type 0} (run : ℕ) (e : DumpEvent) (r : Result ℕ E) → is_quiet e ≡ true
+    → IfOk r (λ more. more ≡ run + 1) → IfOk r (λ more. more ≡ quiet_more run e)
+quiet-counted run e (Ok n) q h =
+    h ∙ (let same : run + 1 ≡ 1 + run = omega arith in same) ∙ ap (λ b. if b then 1 + run else 0) (sym q)
+quiet-counted run e (Err x) q h = tt
+
+pub quiet-none : (run : ℕ) (e : DumpEvent) → is_quiet e ≡ false → 0 ≡ quiet_more run e
+quiet-none run e q = ap (λ b. if b then 1 + run else 0) (sym q)
+
 -- what is no sample leaves the number of clocks as it is
 abbrev pub IsNoSample : DumpEvent → Type 0
 IsNoSample e =
     ((xs : List DumpEvent) → samples_among (xs ++ e ∷ []) ≡ samples_among xs) × (is_sampled e ≡ false) × (is_quiet e ≡ false)
 
+-- whether the dump has stopped or gone on with one more
+stopped_snoc : (es : List DumpEvent) (x : Sample) (t : Option Stamp) → has_stopped (es ++ Sampled x t ∷ []) ≡ has_stopped es
+stopped_snoc [] x t = refl
+stopped_snoc (e ∷ es) x t = ap (λ b. not (is_sampled e) || b) (stopped_snoc es x t)
+
+or_true : (b : Bool) → (b || true) ≡ true
+or_true true = refl
+or_true false = refl
+
+stopped_there : (es : List DumpEvent) (e : DumpEvent) → is_sampled e ≡ false → has_stopped (es ++ e ∷ []) ≡ true
+stopped_there [] e n = ap (λ b. not b || false) n
+stopped_there (d ∷ es) e n = ap (λ b. not (is_sampled d) || b) (stopped_there es e n) ∙ or_true (not (is_sampled d))
+
 -- an event that is no sample, by where the part stood
 pub rests_at : (ph : Phase) (j : Judging) (p : Part) (m : Marks) (es : List DumpEvent) (e : DumpEvent) → IsNoSample e
-    → (s : Stands j p m es) → IsStage ph j (begins_later p.begin (clocks_of s.before)) m s.before s.part s.behind
-    → Stands (record j { quiet = 0; phase = rested ph }) p m (es ++ e ∷ [])
+    → (s : Stands j p m es) → IsStage ph j (later_at p s.before) m s.before s.part s.behind
+    → Stands (record j { quiet = 0; has_stopped = stopped ph j.has_stopped; phase = rested ph }) p m (es ++ e ∷ [])
 rests_at phases.Before j p m es e n s f = record {
   before = s.before ++ e ∷ [];
   part = s.part;
@@ -44,11 +67,13 @@ rests_at phases.Before j p m es e n s f = record {
       (ap (λ b. b && not (passes p.to (clocks_of s.before) (time_of e))
       && may_begin p.begin (clocks_of s.before) (quiet_run (s.before ++ e ∷ [])) e) n.1);
   start = s.start ∙ sym (ap length (n.0 s.before));
+  has_stopped = sym (stopped_there s.before e n.1);
   stage = record {
     no_part = f.no_part;
     no_behind = f.no_behind;
     quiet = sym (quiet_snoc s.before e ∙ ap (λ b. if b then 1 + quiet_run s.before else 0) n.2);
     none = f.none;
+    follows = f.follows;
   };
   after = s.after;
 }
@@ -58,9 +83,10 @@ rests_at phases.Inside j p m es e n s f = record {
   behind = s.behind ++ e ∷ [];
   asked = s.asked;
   marked = s.marked;
-  parted = part_ends p es s.before s.part s.behind e s.parted f.0.some f.1
+  parted = part_ends p es s.before s.part s.behind e s.parted f.0.1 f.1
       (ap (λ b. not b || passes p.to (clocks_of s.before + clocks_of s.part) (time_of e)) n.1);
   start = s.start;
+  has_stopped = s.has_stopped;
   stage = (f.0, none_more s.behind e);
   after = s.after ∙ sym (ap length (n.0 s.behind));
 }
@@ -70,15 +96,25 @@ rests_at phases.After j p m es e n s f = record {
   behind = s.behind ++ e ∷ [];
   asked = s.asked;
   marked = s.marked;
-  parted = rest_more p es s.before s.part s.behind e s.parted f.0.some f.1;
+  parted = rest_more p es s.before s.part s.behind e s.parted f.0.1 f.1;
   start = s.start;
+  has_stopped = s.has_stopped;
   stage = (f.0, none_more s.behind e);
   after = s.after ∙ sym (ap length (n.0 s.behind));
 }
 
+-- the same, where the two are known by equations
+pub rests_as : (j : Judging) (before : Bool) (ph : Phase) (p : Part) (m : Marks) (es : List DumpEvent)
+    → before ≡ stopped j.phase j.has_stopped → ph ≡ rested j.phase
+    → Stands (record j { quiet = 0; has_stopped = stopped j.phase j.has_stopped; phase = rested j.phase }) p m es
+    → Stands (record j { quiet = 0; has_stopped = before; phase = ph }) p m es
+rests_as j before ph p m es before_is ph_is s =
+    subst (λ (x : Phase). Stands (record j { quiet = 0; has_stopped = before; phase = x }) p m es) (sym ph_is)
+    (subst (λ (b : Bool). Stands (record j { quiet = 0; has_stopped = b; phase = rested j.phase }) p m es) (sym before_is) s)
+
 -- a clock before the part
 pub waits_more : (j : Judging) (p : Part) (m : Marks) (es : List DumpEvent) (x : Sample) (t : Option Stamp)
-    → (s : Stands j p m es) → j.phase ≡ phases.Before → Waits j.quiet j.judged s.before s.part s.behind
+    → (s : Stands j p m es) → j.phase ≡ phases.Before → Waits j.quiet j.judged j.replies s.before s.part s.behind
     → opens p s.before (Sampled x t) ≡ false → (start run : ℕ) → start ≡ j.start + 1
     → run ≡ quiet_run (s.before ++ Sampled x t ∷ [])
     → Stands (record j { start = start; quiet = run }) p m (es ++ Sampled x t ∷ [])
@@ -90,19 +126,20 @@ waits_more j p m es x t s phase f shut start run more quiet = record {
   marked = s.marked;
   parted = before_more p es s.before s.part s.behind (Sampled x t) s.parted f.no_part f.no_behind shut;
   start = more ∙ ap (λ n. n + 1) s.start ∙ sym (count_snoc s.before x t);
+  has_stopped = s.has_stopped ∙ sym (stopped_snoc s.before x t);
   stage = subst (λ (ph : Phase). IsStage ph (record j { start = start; quiet = run })
-      (begins_later p.begin (clocks_of (s.before ++ Sampled x t ∷ []))) m (s.before ++ Sampled x t ∷ []) s.part s.behind)
-      (sym phase) (record { no_part = f.no_part; no_behind = f.no_behind; quiet = quiet; none = f.none });
+      (later_at p (s.before ++ Sampled x t ∷ [])) m (s.before ++ Sampled x t ∷ []) s.part s.behind)
+      (sym phase) (record { no_part = f.no_part; no_behind = f.no_behind; quiet = quiet; none = f.none; follows = f.follows });
   after = s.after;
 }
 
 -- the first clock of the part
 pub begins_now : (j k : Judging) (p : Part) (m : Marks) (es : List DumpEvent) (e : DumpEvent)
-    → (s : Stands j p m es) → Waits j.quiet j.judged s.before s.part s.behind → opens p s.before e ≡ true
-    → k.phase ≡ phases.Inside → k.part ≡ j.part → k.marks ≡ j.marks → k.start ≡ j.start → k.after ≡ j.after
-    → HasJudged k.checker k.judged k.broken (begins_later p.begin (clocks_of s.before)) m (e ∷ [])
+    → (s : Stands j p m es) → Waits j.quiet j.judged j.replies s.before s.part s.behind → opens p s.before e ≡ true
+    → k.phase ≡ phases.Inside → k.part ≡ j.part → k.marks ≡ j.marks → k.start ≡ j.start
+    → k.has_stopped ≡ j.has_stopped → k.after ≡ j.after → HasJudged k (later_at p s.before) m (e ∷ [])
     → Stands k p m (es ++ e ∷ [])
-begins_now j k p m es e s f open_there phase part marks start after has = record {
+begins_now j k p m es e s f open_there phase part marks start stopped after has = record {
   before = s.before;
   part = e ∷ [];
   behind = [];
@@ -110,17 +147,18 @@ begins_now j k p m es e s f open_there phase part marks start after has = record
   marked = marks ∙ s.marked;
   parted = part_begins p es s.before s.part s.behind e s.parted f.no_part f.no_behind open_there;
   start = start ∙ s.start;
-  stage = subst (λ ph. IsStage ph k (begins_later p.begin (clocks_of s.before)) m s.before (e ∷ []) []) (sym phase) (has, refl);
+  has_stopped = stopped ∙ s.has_stopped;
+  stage = subst (λ ph. IsStage ph k (later_at p s.before) m s.before (e ∷ []) []) (sym phase) (has, refl);
   after = after ∙ s.after ∙ ap clocks_of f.no_behind;
 }
 
 -- one more clock of the part
 pub goes_on : (j k : Judging) (p : Part) (m : Marks) (es : List DumpEvent) (e : DumpEvent)
     → (s : Stands j p m es) → is_none s.part ≡ false → s.behind ≡ [] → closes p s.before s.part e ≡ false
-    → k.phase ≡ phases.Inside → k.part ≡ j.part → k.marks ≡ j.marks → k.start ≡ j.start → k.after ≡ j.after
-    → HasJudged k.checker k.judged k.broken (begins_later p.begin (clocks_of s.before)) m (s.part ++ e ∷ [])
+    → k.phase ≡ phases.Inside → k.part ≡ j.part → k.marks ≡ j.marks → k.start ≡ j.start
+    → k.has_stopped ≡ j.has_stopped → k.after ≡ j.after → HasJudged k (later_at p s.before) m (s.part ++ e ∷ [])
     → Stands k p m (es ++ e ∷ [])
-goes_on j k p m es e s some no_behind stays phase part marks start after has = record {
+goes_on j k p m es e s some no_behind stays phase part marks start stopped after has = record {
   before = s.before;
   part = s.part ++ e ∷ [];
   behind = s.behind;
@@ -128,7 +166,8 @@ goes_on j k p m es e s some no_behind stays phase part marks start after has = r
   marked = marks ∙ s.marked;
   parted = part_goes_on p es s.before s.part s.behind e s.parted some no_behind stays;
   start = start ∙ s.start;
-  stage = subst (λ ph. IsStage ph k (begins_later p.begin (clocks_of s.before)) m s.before (s.part ++ e ∷ []) s.behind)
+  has_stopped = stopped ∙ s.has_stopped;
+  stage = subst (λ ph. IsStage ph k (later_at p s.before) m s.before (s.part ++ e ∷ []) s.behind)
       (sym phase) (has, no_behind);
   after = after ∙ s.after;
 }
@@ -136,7 +175,7 @@ goes_on j k p m es e s some no_behind stays phase part marks start after has = r
 -- one more clock behind it, the first or another one
 pub passes_by : (j : Judging) (p : Part) (m : Marks) (es : List DumpEvent) (x : Sample) (t : Option Stamp)
     → (s : Stands j p m es)
-    → HasJudged j.checker j.judged j.broken (begins_later p.begin (clocks_of s.before)) m s.part
+    → HasJudged j (later_at p s.before) m s.part
     → IsParted p (es ++ Sampled x t ∷ []) s.before s.part (s.behind ++ Sampled x t ∷ [])
     → (after : ℕ) → after ≡ j.after + 1
     → Stands (record j { phase = phases.After; after = after }) p m (es ++ Sampled x t ∷ [])
@@ -148,6 +187,7 @@ passes_by j p m es x t s has parted after more = record {
   marked = s.marked;
   parted = parted;
   start = s.start;
+  has_stopped = s.has_stopped;
   stage = (has, none_more s.behind (Sampled x t));
   after = more ∙ ap (λ n. n + 1) s.after ∙ sym (count_snoc s.behind x t);
 }
@@ -168,27 +208,3 @@ opens_is j p m es e s run quiet =
     ap (λ (q : Part). opens_at q (clocks_of s.before) (quiet_run (s.before ++ e ∷ [])) e) (sym s.asked)
     ∙ ap (λ (n : ℕ). opens_at j.part n (quiet_run (s.before ++ e ∷ [])) e) (sym s.start)
     ∙ ap (λ (n : ℕ). opens_at j.part j.start n e) (sym quiet)
-
--- holes are counted beside
-stage_free : (ph : Phase) (j k : Judging) (l : Bool) (m : Marks) (before part behind : List DumpEvent)
-    → IsStage ph j l m before part behind
-    → IsStage ph (record j { holes = k.holes; first_hole = k.first_hole }) l m before part behind
-stage_free phases.Before j k l m before part behind f = f
-stage_free phases.Inside j k l m before part behind f = f
-stage_free phases.After j k l m before part behind f = f
-
-pub holes_free : (j k : Judging) (p : Part) (m : Marks) (es : List DumpEvent)
-    → k ≡ record j { holes = k.holes; first_hole = k.first_hole } → Stands j p m es → Stands k p m es
-holes_free j k p m es same s =
-    let there : Stands (record j { holes = k.holes; first_hole = k.first_hole }) p m es = record {
-      before = s.before;
-      part = s.part;
-      behind = s.behind;
-      asked = s.asked;
-      marked = s.marked;
-      parted = s.parted;
-      start = s.start;
-      stage = stage_free j.phase j k (begins_later p.begin (clocks_of s.before)) m s.before s.part s.behind s.stage;
-      after = s.after;
-    } in
-    subst (λ v. Stands v p m es) (sym same) there

@@ -1,5 +1,5 @@
 -- The bounds of a part.
-use Rattle.std.specs.Prelude.{ℕ, Bool, false, nat_le, nat_lt, Option, Some, None}
+use Rattle.std.specs.Prelude.{ℕ, Bool, false, ◌||◌, nat_le, nat_lt, Option, Some, None}
 use Rattle.scope_check.specs.declared.part.Begin.{Begin}
 use Rattle.scope_check.specs.declared.part.Begin.TheVariants.{Known, At, Quiet}
 use Rattle.scope_check.specs.declared.part.Bound.{Bound}
@@ -16,8 +16,17 @@ passes None clock time = false
 passes (Some (Clock last)) clock time = nat_lt last clock
 passes (Some (Time last)) clock time = nat_lt last time
 
--- a part that begins so, behind so many clocks, begins later: of what came before nothing is known
-abbrev pub begins_later : Begin → ℕ → Bool
-begins_later Known clock = false
-begins_later (At bound) clock = nat_lt 0 clock
-begins_later (Quiet bound quiet) clock = nat_lt 0 clock
+-- so many clocks are counted
+abbrev pub most_counted : ℕ
+most_counted = 4294967280
+
+-- a part that begins so, behind so many clocks, begins later
+abbrev pub begins_behind : Begin → ℕ → Bool
+begins_behind Known clock = false
+begins_behind (At bound) clock = nat_lt 0 clock
+begins_behind (Quiet bound quiet) clock = nat_lt 0 clock
+
+-- a part that begins so, behind so many clocks, among which the dump stopped or went on or did not, begins later: of what
+-- came before nothing is known
+abbrev pub begins_later : Begin → ℕ → Bool → Bool
+begins_later begin clock has_stopped = has_stopped || begins_behind begin clock

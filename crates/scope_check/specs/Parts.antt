@@ -1,6 +1,7 @@
 -- The part of a dump that is judged.
-use Rattle.std.specs.Prelude.{◌≡◌, ℕ, ◌+◌, Bool, true, false, not, ◌&&◌, ◌||◌, ◌==◌, nat_le, if◌then◌else◌, List, [], ◌∷◌, ◌++◌, length}
+use Rattle.std.specs.Prelude.{◌≡◌, ℕ, ◌+◌, ◌%◌, Bool, true, false, not, ◌&&◌, ◌||◌, ◌==◌, nat_le, if◌then◌else◌, List, [], ◌∷◌, ◌++◌, length}
 use Rattle.std.specs.List.{suffix_len}
+use Rattle.fsb_signal.specs.declared.lines.TheConstants.Lines.{AP0}
 use Rattle.fsb_signal.specs.Samples.{has_known_lines}
 use Rattle.vcd_way.specs.Events.{DumpEvent, Sampled, Hole, Resumed, samples_among, time_of}
 use Rattle.scope_check.specs.declared.part.Begin.{Begin}
@@ -14,9 +15,10 @@ is_ready (Sampled sample stamp) = has_known_lines sample
 is_ready (Hole stamp) = false
 is_ready (Resumed stamp) = false
 
--- a sample in which all control lines are known, and none is asserted
+-- a sample in which all control lines are known, and none but those of parity is asserted. AP# and RP# are the last of
+-- the control lines, from AP0 up
 abbrev pub is_quiet : DumpEvent → Bool
-is_quiet (Sampled sample stamp) = has_known_lines sample && (sample.lines.0 == 0)
+is_quiet (Sampled sample stamp) = has_known_lines sample && (sample.lines.0 % AP0.0 == 0)
 is_quiet (Hole stamp) = false
 is_quiet (Resumed stamp) = false
 
@@ -25,6 +27,11 @@ abbrev pub is_sampled : DumpEvent → Bool
 is_sampled (Sampled sample stamp) = true
 is_sampled (Hole stamp) = false
 is_sampled (Resumed stamp) = false
+
+-- the dump stops or goes on among the events
+abbrev pub has_stopped : List DumpEvent → Bool
+has_stopped [] = false
+has_stopped (e ∷ events) = not (is_sampled e) || has_stopped events
 
 -- how many clocks there are among the events
 abbrev pub clocks_of : List DumpEvent → ℕ

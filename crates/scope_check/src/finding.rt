@@ -27,9 +27,10 @@ pub struct Judged {
     pub start: u32,
     /// How many clocks are judged, one after another.
     pub judged: u32,
+    /// Whether the part begins later: of what came before it nothing is known.
+    pub is_later: bool,
     pub verdict: Verdict,
-    /// How many times the dump stops for a time.
-    pub holes: u32,
-    /// The stamp before the first of these times, if there is one.
-    pub first_hole: Option<Stamp>,
+    /// Whether the last two judged clocks are those of a reply whose deferred ID no other request of the part has: its
+    /// request may have been deferred before the part.
+    pub answers_before: bool,
 }

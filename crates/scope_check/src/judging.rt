@@ -1,25 +1,26 @@
 //! The judge of the events of a dump.
 
-ghost use Rattle.std.specs.Prelude.{◌≡◌, if◌then◌else◌, ℕ, Bool, ◌+◌, ◌<◌, ◌^◌, ◌++◌, ◌∷◌, [], List, IfOk, OnOk, Option};
+ghost use Rattle.std.specs.Prelude.{◌≡◌, if◌then◌else◌, ℕ, Bool, ◌+◌, ◌<◌, ◌≤◌, ◌^◌, ◌++◌, ◌∷◌, [], List, IfOk, IfErr, OnOk, Option, length};
 ghost use Rattle.fsb_signal.specs.declared.marks.Marks.{Marks};
 ghost use Rattle.vcd_way.specs.Events.{DumpEvent, Sampled, Hole, Resumed};
 ghost use Rattle.vcd_way.specs.Pieces.{Stamp as TimeStamp, time_at};
 ghost use Rattle.vcd_course.specs.Told.{event_told, last_told};
 ghost use Rattle.scope_check.specs.declared.part.Part.{Part};
 ghost use Rattle.scope_check.specs.declared.judging.Phase.TheVariants as phases;
-ghost use Rattle.scope_check.specs.Bounds.{passes};
+ghost use Rattle.scope_check.specs.Bounds.{begins_later, most_counted, passes};
 ghost use Rattle.scope_check.specs.Parts.{may_begin, opens_at, quiet_more};
-ghost use Rattle.scope_check.specs.Standing.{HasFed, HasJudged, Stands, rested};
-ghost use Rattle.scope_check.specs.Findings.{IsFoundIn, Says};
+ghost use Rattle.scope_check.specs.Standing.{Fed, HasJudged, IsStampOf, Stands, rested, stopped};
+ghost use Rattle.scope_check.specs.Findings.{HasStamp, IsFoundIn, Says};
 
 use crate::finding::{Judged, Verdict};
-use crate::part::{Begin, Part, begins_later, passes, reaches};
+use crate::part::{Begin, Part, begins_later, is_quiet, passes, reaches};
+use crate::replies::Replies;
 use fsb_rules::Broken;
 use fsb_signal::{Marks, Sample};
 use scope_later::PartChecker;
 use vcd_course::{CourseEvent, Stamp, Told};
 
-/// There are more clocks or holes than are counted.
+/// There are more clocks than are counted.
 #[derive(Clone, Copy, Debug, PartialEq, Eq)]
 pub struct TooMany;
 
@@ -42,25 +43,27 @@ pub struct Judging {
     pub(crate) part: Part,
     pub(crate) marks: Marks,
     pub(crate) checker: PartChecker,
+    /// Of the part that is judged.
+    pub(crate) replies: Replies,
     pub(crate) phase: Phase,
     /// How many of the last clocks are quiet, one after another, while the part has not begun.
     pub(crate) quiet: u32,
     /// How many clocks came before the part that is judged.
     pub(crate) start: u32,
+    /// Whether the dump stopped or went on before it.
+    pub(crate) has_stopped: bool,
     pub(crate) judged: u32,
     /// How many came after it.
     pub(crate) after: u32,
     pub(crate) broken: Option<Broken>,
     /// The stamp of the broken clock.
     pub(crate) stamp: Option<Stamp>,
-    pub(crate) holes: u32,
-    /// The stamp before the first hole.
-    pub(crate) first_hole: Option<Stamp>,
 }
 
 /// One more, where that is counted.
 fn one_more(count: u32) -> Result<u32, TooMany>
-    ensures { IfOk result (λ more. more ≡ count + 1) }
+    ensures more { IfOk result (λ more. more ≡ count + 1) }
+    ensures full { IfErr result (λ _. most_counted ≤ count) }
 {
     match count.checked_add(1) {
         Some(more) => Ok(more),
@@ -72,6 +75,7 @@ fn one_more(count: u32) -> Result<u32, TooMany>
 fn one_judged(count: u32) -> Result<u32, TooMany>
     ensures more { IfOk result (λ more. more ≡ count + 1) }
     ensures room { OnOk result (count + 8 < 2 ^ 32) }
+    ensures full { IfErr result (λ _. most_counted ≤ count) }
 {
     if count < MOST {
         Ok(count + 1)
@@ -89,9 +93,11 @@ fn first_stamp(was_broken: bool, kept: Option<Stamp>, stamp: Option<Stamp>) -> O
 
 /// How many of the last clocks are quiet with one more.
 fn quiet_with(run: u32, sample: &Sample) -> Result<u32, TooMany>
-    ensures { (t : Option TimeStamp) → IfOk result (λ more. more ≡ quiet_more run (Sampled sample.now t)) }
+    ensures more { (t : Option TimeStamp) →
+        IfOk result (λ more. more ≡ quiet_more run (Sampled sample.now t)) }
+    ensures full { IfErr result (λ _. most_counted ≤ run) }
 {
-    if sample.has_known_lines() && sample.lines.0 == 0 {
+    if is_quiet(sample) {
         one_more(run)
     } else {
         Ok(0)
@@ -108,6 +114,16 @@ fn rested(phase: Phase) -> Phase
     }
 }
 
+/// Whether the dump has stopped before the part, once it stops or goes on again.
+fn stopped(phase: Phase, has_stopped: bool) -> bool
+    ensures { result ≡ stopped phase has_stopped }
+{
+    match phase {
+        Phase::Before => true,
+        Phase::Inside | Phase::After => has_stopped,
+    }
+}
+
 impl Judging {
     /// Before the first event of a dump with these marks, of which this part is judged.
     pub fn new(marks: Marks, part: Part) -> Judging
@@ -117,28 +133,30 @@ impl Judging {
             part,
             marks,
             checker: PartChecker::new(false, marks),
+            replies: Replies::new(),
             phase: Phase::Before,
             quiet: 0,
             start: 0,
+            has_stopped: false,
             judged: 0,
             after: 0,
             broken: None,
             stamp: None,
-            holes: 0,
-            first_hole: None,
         }
     }
 
-    /// Takes the next event. After an Err nothing is said of the judge.
+    /// Takes the next event. An Err comes where there were 4,294,967,280 events or more before it; after it nothing is said
+    /// of the judge.
     pub fn take(&mut self, event: &CourseEvent) -> Result<(), TooMany>
         requires { (p : Part) × (m : Marks) × (es : List DumpEvent) × Stands self.old p m es }
-        ensures { (p : Part) (m : Marks) (es : List DumpEvent) → Stands self.old p m es →
+        ensures stands { (p : Part) (m : Marks) (es : List DumpEvent) → Stands self.old p m es →
             OnOk result (Stands self.new p m (es ++ event_told event.now ∷ [])) }
+        ensures many { (p : Part) (m : Marks) (es : List DumpEvent) → Stands self.old p m es →
+            IfErr result (λ _. most_counted ≤ length es) }
     {
         match event.told {
             Told::Sampled(sample) => self.see(&sample, event.stamp),
             Told::Hole => {
-                self.count_hole(event.stamp)?;
                 self.rest();
                 Ok(())
             }
@@ -152,8 +170,10 @@ impl Judging {
     // The lines at the next edge of the clock.
     fn see(&mut self, sample: &Sample, stamp: Option<Stamp>) -> Result<(), TooMany>
         requires { (p : Part) × (m : Marks) × (es : List DumpEvent) × Stands self.old p m es }
-        ensures { (p : Part) (m : Marks) (es : List DumpEvent) → Stands self.old p m es →
+        ensures stands { (p : Part) (m : Marks) (es : List DumpEvent) → Stands self.old p m es →
             OnOk result (Stands self.new p m (es ++ Sampled sample.now (last_told stamp) ∷ [])) }
+        ensures many { (p : Part) (m : Marks) (es : List DumpEvent) → Stands self.old p m es →
+            IfErr result (λ _. most_counted ≤ length es) }
     {
         match self.phase {
             Phase::Before => self.wait(sample, stamp),
@@ -164,16 +184,19 @@ impl Judging {
 
     // A clock before the part, or its first.
     fn wait(&mut self, sample: &Sample, stamp: Option<Stamp>) -> Result<(), TooMany>
-        requires { (p : Part) × (m : Marks) × (es : List DumpEvent) × Stands self.old p m es }
-        ensures { (p : Part) (m : Marks) (es : List DumpEvent) → Stands self.old p m es →
+        requires { (p : Part) × (m : Marks) × (es : List DumpEvent) × Stands self.old p m es
+            × (self.old.phase ≡ phases.Before) }
+        ensures stands { (p : Part) (m : Marks) (es : List DumpEvent) → Stands self.old p m es →
             self.old.phase ≡ phases.Before →
             OnOk result (Stands self.new p m (es ++ Sampled sample.now (last_told stamp) ∷ [])) }
+        ensures many { (p : Part) (m : Marks) (es : List DumpEvent) → Stands self.old p m es →
+            self.old.phase ≡ phases.Before → IfErr result (λ _. most_counted ≤ length es) }
     {
         let quiet = quiet_with(self.quiet, sample)?;
         if self.opens(quiet, sample, stamp) {
-            let is_later = begins_later(self.part.begin, self.start);
-            self.checker = PartChecker::new(is_later, self.marks);
+            self.checker = PartChecker::new(self.is_later(), self.marks);
             self.judged = 0;
+            self.broken = None;
             self.judge(sample, stamp)?;
             self.phase = Phase::Inside;
         } else {
@@ -187,9 +210,11 @@ impl Judging {
     fn go_on(&mut self, sample: &Sample, stamp: Option<Stamp>) -> Result<(), TooMany>
         requires { (p : Part) × (m : Marks) × (es : List DumpEvent) × Stands self.old p m es
             × (self.old.phase ≡ phases.Inside) }
-        ensures { (p : Part) (m : Marks) (es : List DumpEvent) → Stands self.old p m es →
+        ensures stands { (p : Part) (m : Marks) (es : List DumpEvent) → Stands self.old p m es →
             self.old.phase ≡ phases.Inside →
             OnOk result (Stands self.new p m (es ++ Sampled sample.now (last_told stamp) ∷ [])) }
+        ensures many { (p : Part) (m : Marks) (es : List DumpEvent) → Stands self.old p m es →
+            self.old.phase ≡ phases.Inside → IfErr result (λ _. most_counted ≤ length es) }
     {
         if self.is_past(stamp) {
             self.after = one_more(self.after)?;
@@ -202,9 +227,11 @@ impl Judging {
 
     // A clock behind the part.
     fn pass(&mut self, sample: &Sample, stamp: Option<Stamp>) -> Result<(), TooMany>
-        ensures { (p : Part) (m : Marks) (es : List DumpEvent) → Stands self.old p m es →
+        ensures stands { (p : Part) (m : Marks) (es : List DumpEvent) → Stands self.old p m es →
             self.old.phase ≡ phases.After →
             OnOk result (Stands self.new p m (es ++ Sampled sample.now (last_told stamp) ∷ [])) }
+        ensures many { (p : Part) (m : Marks) (es : List DumpEvent) → Stands self.old p m es →
+            self.old.phase ≡ phases.After → IfErr result (λ _. most_counted ≤ length es) }
     {
         let _lines = sample.lines;
         let _stamp = stamp;
@@ -245,14 +272,13 @@ impl Judging {
 
     // A clock of the part.
     fn judge(&mut self, sample: &Sample, stamp: Option<Stamp>) -> Result<(), TooMany>
-        requires { (l : Bool) × (m : Marks) × (part : List DumpEvent)
-            × HasFed self.old.checker self.old.judged l m part }
-        ensures judged { (l : Bool) (m : Marks) (part : List DumpEvent) →
-            HasFed self.old.checker self.old.judged l m part →
-            OnOk result (HasJudged self.new.checker self.new.judged self.new.broken l m
-            (part ++ Sampled sample.now (last_told stamp) ∷ [])) }
+        requires { (l : Bool) × (m : Marks) × (part : List DumpEvent) × Fed self.old l m part }
+        ensures judged { (l : Bool) (m : Marks) (part : List DumpEvent) → Fed self.old l m part →
+            OnOk result (HasJudged self.new l m (part ++ Sampled sample.now (last_told stamp) ∷ [])) }
+        ensures full { IfErr result (λ _. most_counted ≤ self.old.judged) }
         ensures rest { self.new ≡ record self.old {
           checker = self.new.checker;
+          replies = self.new.replies;
           judged = self.new.judged;
           broken = self.new.broken;
           stamp = self.new.stamp;
@@ -261,6 +287,7 @@ impl Judging {
         let judged = one_judged(self.judged)?;
         self.stamp = first_stamp(self.broken.is_some(), self.stamp, stamp);
         self.broken = self.checker.feed(sample);
+        self.replies.feed(sample);
         self.judged = judged;
         Ok(())
     }
@@ -273,18 +300,8 @@ impl Judging {
             Stands self.old p m es → Stands self.new p m (es ++ Resumed t ∷ []) }
     {
         self.quiet = 0;
+        self.has_stopped = stopped(self.phase, self.has_stopped);
         self.phase = rested(self.phase);
-    }
-
-    fn count_hole(&mut self, stamp: Option<Stamp>) -> Result<(), TooMany>
-        ensures { self.new ≡ record self.old { holes = self.new.holes; first_hole = self.new.first_hole } }
-    {
-        let holes = one_more(self.holes)?;
-        if self.holes == 0 {
-            self.first_hole = stamp;
-        }
-        self.holes = holes;
-        Ok(())
     }
 
     /// What was judged and found.
@@ -298,10 +315,17 @@ impl Judging {
             clocks,
             start: self.start,
             judged: self.judged,
+            is_later: self.is_later(),
             verdict: self.verdict(),
-            holes: self.holes,
-            first_hole: self.first_hole,
+            answers_before: self.replies.answers_before,
         }
+    }
+
+    // Whether the part begins later, where it is to begin with the next clock, or has begun.
+    fn is_later(&self) -> bool
+        ensures { result ≡ begins_later self.now.part.begin self.now.start self.now.has_stopped }
+    {
+        begins_later(self.part.begin, self.start, self.has_stopped)
     }
 
     fn clocks(&self) -> u64
@@ -314,7 +338,9 @@ impl Judging {
     }
 
     fn verdict(&self) -> Verdict
-        ensures { Says self.now.start self.now.judged self.now.broken result }
+        ensures says { Says self.now.start self.now.judged self.now.broken result }
+        ensures stamp { (part : List DumpEvent) → IsStampOf self.now.broken self.now.stamp part →
+            HasStamp self.now.start part result }
     {
         let start = self.start;
         let found = self.broken;

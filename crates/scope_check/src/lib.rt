@@ -17,3 +17,4 @@ mod finding;
 mod judging;
 mod part;
 mod parting;
+mod replies;

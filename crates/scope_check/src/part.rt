@@ -1,10 +1,13 @@
 //! Which clocks of a dump are judged.
 
-ghost use Rattle.std.specs.Prelude.{◌≡◌};
-ghost use Rattle.vcd_way.specs.Pieces.{time_at};
+ghost use Rattle.std.specs.Prelude.{◌≡◌, Option};
+ghost use Rattle.vcd_way.specs.Pieces.{Stamp as TimeStamp, time_at};
+ghost use Rattle.vcd_way.specs.Events.{Sampled};
 ghost use Rattle.vcd_course.specs.Told.{last_told};
 ghost use Rattle.scope_check.specs.Bounds.{passes, reaches, begins_later};
+ghost use Rattle.scope_check.specs.Parts.{is_quiet};
 
+use fsb_signal::{Lines, Sample};
 use vcd_course::Stamp;
 
 /// A clock by its number, from 0 on, or by the time of its edge, in the dump's own unit.
@@ -77,12 +80,19 @@ pub(crate) fn passes(to: Option<Bound>, clock: u64, stamp: Option<Stamp>) -> boo
     }
 }
 
-// Whether a part that begins so, behind so many clocks, begins later.
-pub(crate) fn begins_later(begin: Begin, clock: u32) -> bool
-    ensures { result ≡ begins_later begin clock }
+// Whether a part that begins so, behind so many clocks, among which the dump stopped or did not, begins later.
+pub(crate) fn begins_later(begin: Begin, clock: u32, has_stopped: bool) -> bool
+    ensures { result ≡ begins_later begin clock has_stopped }
 {
     match begin {
-        Begin::Known => false,
-        Begin::At(_) | Begin::Quiet(_, _) => 0 < clock,
+        Begin::Known => has_stopped,
+        Begin::At(_) | Begin::Quiet(_, _) => has_stopped || 0 < clock,
     }
+}
+
+/// Whether all control lines of the sample are known, and none but those of parity is asserted.
+pub(crate) fn is_quiet(sample: &Sample) -> bool
+    ensures { (t : Option TimeStamp) → result ≡ is_quiet (Sampled sample.now t) }
+{
+    sample.has_known_lines() && sample.lines.0 % Lines::AP0.0 == 0
 }

@@ -13,7 +13,7 @@ ghost use Rattle.scope_check.specs.Standing.{rested};
 ghost use Rattle.scope_check.specs.Parting.{HasParted, taken, taken_if};
 
 use crate::judging::{Phase, TooMany};
-use crate::part::{Begin, Part, passes, reaches};
+use crate::part::{Begin, Part, is_quiet, passes, reaches};
 use fsb_signal::Sample;
 use vcd_course::{CourseEvent, Stamp, Told};
 
@@ -45,7 +45,7 @@ fn quiet_with(run: u64, sample: &Sample) -> Result<u64, TooMany>
     ensures { (t : Option TimeStamp) →
         IfOk result (λ more. more ≡ quiet_more run (Sampled sample.now t)) }
 {
-    if sample.has_known_lines() && sample.lines.0 == 0 {
+    if is_quiet(sample) {
         one_more(run)
     } else {
         Ok(0)

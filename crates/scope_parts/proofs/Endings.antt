@@ -1,13 +1,20 @@
 -- A segment that ends before a reply has an event before its last one.
-use Rattle.std.proofs.Common.{◌≡◌, ℕ, ◌≤◌, ◌∷◌, [], List, Option, Some, None, Bool, true, false, length, refl, arith, ◌&&◌, if◌then◌else◌}
-use Rattle.fsb_count.specs.Options.{is_some_and}
-use Rattle.vcd_way.specs.Events.{DumpEvent}
+use Rattle.std.proofs.Common.{◌≡◌, ◌∙◌, ℕ, ◌≤◌, ◌++◌, ◌∷◌, [], List, Option, Some, None, Bool, true, false, length, refl, sym, arith, ◌&&◌, if◌then◌else◌}
+use Rattle.std.proofs.lemmas.Bool.{and_parts}
+use Rattle.std.proofs.lemmas.List.{length-append}
+use Rattle.fsb_signal.specs.declared.marks.Marks.{Marks}
+use Rattle.fsb_trace.specs.At.{Trace}
+use Rattle.vcd_way.specs.Events.{DumpEvent, samples_among}
 use Rattle.scope_check.specs.declared.finding.Judged.{Judged}
-use Rattle.scope_check.specs.Bounds.{begins_later}
+use Rattle.scope_check.specs.declared.part.Part.{Part}
+use Rattle.scope_check.specs.Findings.{IsFoundIn}
+use Rattle.scope_check.specs.Parts.{is_sampled}
+use Rattle.scope_check.specs.Replies.{answers_before}
+use Rattle.scope_check.proofs.Interface.{counted-few}
 use Rattle.scope_parts.specs.declared.finding.End.{End}
 use Rattle.scope_parts.specs.declared.finding.End.TheVariants as ends
 use Rattle.scope_parts.specs.declared.plan.Plan.{Plan}
-use Rattle.scope_parts.specs.Endings.{breaks_18_last, ending, ends_at_reply, ends_broken, ends_at_hole, is_reply_on, last_sample, sample_of}
+use Rattle.scope_parts.specs.Endings.{breaks_18_last, ending, ends_at_reply, ends_broken, ends_at_hole}
 
 -- the three tests of an end, one after another
 abbrev pick : Bool → Bool → Bool → Option End
@@ -19,14 +26,22 @@ first_of_three false true c h = grind (arith, h)
 first_of_three false false true h = grind (arith, h)
 first_of_three false false false h = grind (arith, h)
 
-none_alone : (a b : Bool) (e : DumpEvent) → (a && b && is_reply_on None (sample_of e)) ≡ true → ⊥
-unfolding is_reply_on is_some_and
-none_alone true true e h = grind (arith, h)
-none_alone true false e h = grind (arith, h)
-none_alone false b e h = grind (arith, h)
+third : (a b c d : Bool) → (a && b && c && d) ≡ true → c ≡ true
+third true true c d h = (and_parts c d h).0
+third true false c d h = absurd (let no : ⊥ = cc in no)
+third false b c d h = absurd (let no : ⊥ = cc in no)
 
-pub reply_behind_one : (p : Plan) (n : ℕ) (f : Judged) (xs : List DumpEvent) (e : DumpEvent)
-    → ending p n f (last_sample xs) e ≡ Some ends.Reply → 1 ≤ length xs
-reply_behind_one p n f [] e h =
-    absurd (none_alone (begins_later f.part.begin f.start) (breaks_18_last f.clocks f.verdict) e (first_of_three (ends_at_reply f None e) (ends_broken p n f) (ends_at_hole f e) h))
-reply_behind_one p n f (x ∷ xs) e h = omega arith
+two-samples : (w : Trace) → answers_before w ≡ true → 2 ≤ length w
+two-samples [] h = absurd (let no : ⊥ = cc in no)
+two-samples (a ∷ []) h = absurd (let no : ⊥ = cc in no)
+two-samples (a ∷ (b ∷ w)) h = omega arith
+
+pub reply_behind_one : (p : Plan) (n : ℕ) (f : Judged) (part : Part) (m : Marks) (xs : List DumpEvent) (e : DumpEvent)
+    → IsFoundIn f part m (xs ++ e ∷ []) → ending p n f e ≡ Some ends.Reply → 1 ≤ length xs
+reply_behind_one p n f part m xs e found h =
+    let reply = first_of_three (ends_at_reply f e) (ends_broken p n f) (ends_at_hole f e) h in
+    let answers = third (is_sampled e) f.is_later f.answers_before (breaks_18_last f.clocks f.verdict) reply in
+    let two = two-samples (samples_among found.part) (sym found.answers_before ∙ answers) in
+    let few = counted-few part (xs ++ e ∷ []) found.before found.part found.behind found.parted in
+    let size = length-append xs (e ∷ []) in
+    omega (arith, two, few, size)

@@ -1,4 +1,5 @@
 mod Endings
+mod Faults
 mod Found
 mod Holes
 mod Lists

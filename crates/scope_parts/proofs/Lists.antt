@@ -1,9 +1,7 @@
 -- One more at the end of a list.
 use Rattle.std.proofs.Common.{◌≡◌, ◌∙◌, ℕ, ◌-◌, ◌<◌, ◌++◌, ◌∷◌, [], List, Option, length, take, refl, sym, ap, arith}
 use Rattle.std.proofs.lemmas.List.{length-append, length-take, take_all, take-append-le}
-use Rattle.fsb_signal.specs.declared.sample.Sample.{Sample}
 use Rattle.vcd_way.specs.Events.{DumpEvent}
-use Rattle.scope_parts.specs.Endings.{sample_of, sample_behind}
 use Rattle.scope_parts.specs.Findings.{EachBehind}
 use Rattle.scope_parts.specs.Standing.{but_last}
 
@@ -12,12 +10,6 @@ pub each_more : {A : Type 0} (IsSo : List A → A → Type 0) (xs : List A) (x :
     → EachBehind IsSo (xs ++ x ∷ [])
 each_more IsSo [] x all one = (one, tt)
 each_more IsSo (y ∷ xs) x all one = (all.0, each_more (λ ys. IsSo (y ∷ ys)) xs x all.1 one)
-
--- the sample of the last event
-pub sample_behind-snoc : (s : Option Sample) (es : List DumpEvent) (e : DumpEvent)
-    → sample_behind s (es ++ e ∷ []) ≡ sample_of e
-sample_behind-snoc s [] e = refl
-sample_behind-snoc s (d ∷ es) e = sample_behind-snoc (sample_of d) es e
 
 -- all but the last one
 pub but_last-snoc : (es : List DumpEvent) (e : DumpEvent) → but_last (es ++ e ∷ []) ≡ es

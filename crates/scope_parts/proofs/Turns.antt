@@ -2,7 +2,6 @@
 use Rattle.std.proofs.Common.{◌≡◌, ◌∙◌, ℕ, ◌-◌, ◌++◌, ◌∷◌, [], List, Option, Some, None, Result, Ok, Err, OnOk, length, drop, refl, sym, ap, subst, arith, append_assoc, append-nil}
 use Rattle.std.proofs.lemmas.List.{length-append, length-drop, take-append-drop}
 use Rattle.fsb_signal.specs.declared.marks.Marks.{Marks}
-use Rattle.fsb_signal.specs.declared.sample.Sample.{Sample}
 use Rattle.vcd_way.specs.Events.{DumpEvent}
 use Rattle.scope_check.specs.declared.finding.Judged.{Judged}
 use Rattle.scope_check.specs.declared.part.Part.{Part}
@@ -14,7 +13,7 @@ use Rattle.scope_parts.specs.declared.judge.PartsJudge.{PartsJudge}
 use Rattle.scope_parts.specs.declared.plan.Plan.{Plan}
 use Rattle.scope_parts.specs.Plans.{later_part}
 use Rattle.scope_parts.specs.Segments.{Segment, all_of, clocks_in, events_in, faults_in, next_part}
-use Rattle.scope_parts.specs.Endings.{ending, last_sample}
+use Rattle.scope_parts.specs.Endings.{ending}
 use Rattle.scope_parts.specs.Findings.{EachBehind, GoesOn, IsOver, reply_clocks}
 use Rattle.scope_parts.specs.Standing.{Counted, Remembers, Stands, Tallies, but_last, kept_at}
 use Rattle.scope_parts.proofs.Endings.{reply_behind_one}
@@ -28,7 +27,7 @@ pub stands_on : (j k : PartsJudge) (p : Plan) (m : Marks) (es : List DumpEvent) 
     → JudgingStands k.judging (next_part p s.segments) m (s.open_events ++ e ∷ [])
     → Remembers k.latest (next_part p s.segments) m (s.open_events ++ e ∷ [])
     → (f : Judged) → IsFoundIn f (next_part p s.segments) m (s.open_events ++ e ∷ [])
-    → ending p (length (faults_in s.segments)) f (last_sample s.open_events) e ≡ None
+    → ending p (length (faults_in s.segments)) f e ≡ None
     → Stands k p m (es ++ e ∷ [])
 stands_on j k p m es e s plan marks tally counted judging latest f found goes = record {
   segments = s.segments;
@@ -47,12 +46,11 @@ stands_on j k p m es e s plan marks tally counted judging latest f found goes = 
 
 -- what the judge asks is what the definition says
 pub ending_is : (j : PartsJudge) (p : Plan) (m : Marks) (es : List DumpEvent) (s : Stands j p m es) (f : Judged)
-    (e : DumpEvent) → ending j.plan j.tally.kept.broken f j.latest.asks e
-    ≡ ending p (length (faults_in s.segments)) f (last_sample s.open_events) e
+    (e : DumpEvent) → ending j.plan j.tally.kept.broken f e
+    ≡ ending p (length (faults_in s.segments)) f e
 ending_is j p m es s f e =
-    ap (λ (q : Plan). ending q j.tally.kept.broken f j.latest.asks e) s.planned
-    ∙ ap (λ (n : ℕ). ending p n f j.latest.asks e) s.tallied.kept.broken
-    ∙ ap (λ (a : Option Sample). ending p (length (faults_in s.segments)) f a e) s.latest.asks
+    ap (λ (q : Plan). ending q j.tally.kept.broken f e) s.planned
+    ∙ ap (λ (n : ℕ). ending p n f e) s.tallied.kept.broken
 
 -- ---- it ends
 
@@ -94,19 +92,19 @@ found_at ends.Hole xs e f b p m up_to before = up_to
 found_at ends.Broken xs e f b p m up_to before = up_to
 found_at ends.Reply xs e f b p m up_to before = before
 
-reply_size : (end : End) (p : Plan) (n : ℕ) (f : Judged) (xs : List DumpEvent) (e : DumpEvent)
-    → ending p n f (last_sample xs) e ≡ Some end → length (reply_at end xs e) ≡ reply_clocks end
-reply_size ends.Dump p n f xs e h = refl
-reply_size ends.Hole p n f xs e h = refl
-reply_size ends.Broken p n f xs e h = refl
-reply_size ends.Reply p n f xs e h =
-    let some = reply_behind_one p n f xs e h in
+reply_size : (end : End) (p : Plan) (n : ℕ) (f : Judged) (part : Part) (m : Marks) (xs : List DumpEvent) (e : DumpEvent)
+    → IsFoundIn f part m (xs ++ e ∷ []) → ending p n f e ≡ Some end → length (reply_at end xs e) ≡ reply_clocks end
+reply_size ends.Dump p n f part m xs e found h = refl
+reply_size ends.Hole p n f part m xs e found h = refl
+reply_size ends.Broken p n f part m xs e found h = refl
+reply_size ends.Reply p n f part m xs e found h =
+    let some = reply_behind_one p n f part m xs e found h in
     omega (arith, some, length-append (drop (length xs - 1) xs) (e ∷ []), length-drop (length xs - 1) xs)
 
 pub is_over : (end : End) (p : Plan) (m : Marks) (ss : List Segment) (xs : List DumpEvent) (e : DumpEvent) (f b : Judged)
     → EachBehind (GoesOn p m ss) xs → IsFoundIn f (next_part p ss) m (xs ++ e ∷ [])
     → IsFoundIn b (next_part p ss) m (but_last xs)
-    → ending p (length (faults_in ss)) f (last_sample xs) e ≡ Some end
+    → ending p (length (faults_in ss)) f e ≡ Some end
     → IsOver p m ss (segment_at end xs e f b)
 is_over end p m ss xs e f b unended up_to before ends_so = record {
   es = xs;
@@ -116,7 +114,7 @@ is_over end p m ss xs e f b unended up_to before ends_so = record {
   unended = unended;
   is_up_to = subst (λ ys. IsFoundIn f (next_part p ss) m ys) (sym (all_at end xs e f b)) up_to;
   ends = ends_so;
-  reply = reply_size end p (length (faults_in ss)) f xs e ends_so;
+  reply = reply_size end p (length (faults_in ss)) f (next_part p ss) m xs e up_to ends_so;
   found = found_at end xs e f b (next_part p ss) m up_to before;
 }
 

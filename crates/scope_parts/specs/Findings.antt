@@ -1,17 +1,20 @@
 -- What is found of a dump, part by part.
-use Rattle.std.specs.Prelude.{◌≡◌, ℕ, if◌then◌else◌, List, [], ◌∷◌, ◌++◌, length, take, Some, None}
+use Rattle.std.specs.Prelude.{◌≡◌, ℕ, if◌then◌else◌, List, [], ◌∷◌, ◌++◌, length, take, Option, Some, None}
 use Rattle.fsb_signal.specs.declared.marks.Marks.{Marks}
 use Rattle.vcd_way.specs.Events.{DumpEvent}
 use Rattle.vcd_course.specs.Told.{last_told}
 use Rattle.scope_check.specs.declared.finding.Judged.{Judged}
+use Rattle.scope_check.specs.declared.finding.Verdict.{Verdict}
+use Rattle.scope_check.specs.declared.finding.Verdict.TheVariants.{Nothing, Accepted, Broken}
 use Rattle.scope_check.specs.Findings.{IsFoundIn}
 use Rattle.scope_check.specs.Parts.{clocks_of}
 use Rattle.scope_parts.specs.declared.finding.End.{End}
 use Rattle.scope_parts.specs.declared.finding.End.TheVariants as ends
+use Rattle.scope_parts.specs.declared.finding.PartFound.{PartFound}
 use Rattle.scope_parts.specs.declared.finding.PartsFound.{PartsFound}
 use Rattle.scope_parts.specs.declared.plan.Plan.{Plan}
 use Rattle.scope_parts.specs.Segments.{Segment, all_of, events_in, next_part, parts_in, faults_in, judged_in}
-use Rattle.scope_parts.specs.Endings.{ending, breaks_one, last_sample}
+use Rattle.scope_parts.specs.Endings.{ending, breaks_one}
 use Rattle.scope_parts.specs.Holes.{holes_in, first_hole_in}
 
 -- each of the items is so behind those before it
@@ -23,7 +26,7 @@ EachBehind IsSo (x ∷ xs) = IsSo [] x × EachBehind (λ ys. IsSo (x ∷ ys)) xs
 pub record GoesOn (plan : Plan) (marks : Marks) (before : List Segment) (es : List DumpEvent) (e : DumpEvent) : Type 0 where
   pub found : Judged
   pub is_found : IsFoundIn found (next_part plan before) marks (es ++ e ∷ [])
-  pub goes_on : ending plan (length (faults_in before)) found (last_sample es) e ≡ None
+  pub goes_on : ending plan (length (faults_in before)) found e ≡ None
 
 -- how many clocks of a reply stand behind a part that ends so
 abbrev pub reply_clocks : End → ℕ
@@ -41,7 +44,7 @@ pub record IsOver (plan : Plan) (marks : Marks) (before : List Segment) (s : Seg
   pub whole : all_of s ≡ es ++ e ∷ []
   pub unended : EachBehind (GoesOn plan marks before) es
   pub is_up_to : IsFoundIn up_to (next_part plan before) marks (all_of s)
-  pub ends : ending plan (length (faults_in before)) up_to (last_sample es) e ≡ Some s.end
+  pub ends : ending plan (length (faults_in before)) up_to e ≡ Some s.end
   pub reply : length s.reply ≡ reply_clocks s.end
   pub found : IsFoundIn s.found (next_part plan before) marks s.events
 
@@ -73,3 +76,23 @@ pub record IsJudgedInParts (f : PartsFound) (plan : Plan) (marks : Marks) (event
   pub tells : Tells f (segments ++ last ∷ [])
   pub holes : f.holes ≡ holes_in events
   pub first_hole : last_told f.first_hole ≡ first_hole_in events
+
+-- the clock of a broken rule
+abbrev pub broken_clock : Verdict → Option ℕ
+broken_clock Nothing = None
+broken_clock Accepted = None
+broken_clock (Broken clock rule stamp) = Some clock
+
+-- the clock of the first of these broken parts
+abbrev pub first_clock : List PartFound → Option ℕ
+first_clock [] = None
+first_clock (p ∷ ps) = broken_clock p.verdict
+
+-- this is the first broken clock of the events, if there is one: that of the first broken part
+pub record IsFirstFault (fault : Option ℕ) (plan : Plan) (marks : Marks) (events : List DumpEvent) : Type 0 where
+  pub segments : List Segment
+  pub last : Segment
+  pub whole : events ≡ events_in (segments ++ last ∷ [])
+  pub over : EachBehind (IsOver plan marks) segments
+  pub is_last : IsLast plan marks segments last
+  pub fault_is : fault ≡ first_clock (faults_in (segments ++ last ∷ []))

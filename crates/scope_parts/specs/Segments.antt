@@ -49,6 +49,7 @@ abbrev pub part_told : ℕ → Judged → End → PartFound
 part_told base f end = record {
   start = base + f.start;
   judged = f.judged;
+  is_later = f.is_later;
   verdict = shifted base f.verdict;
   end = end;
 }

@@ -1,9 +1,11 @@
 -- What a judge of parts has judged.
-use Rattle.std.specs.Prelude.{◌≡◌, ◌-◌, List, ◌++◌, length, take, filter}
+use Rattle.std.specs.Prelude.{◌≡◌, ◌≤◌, ℕ, ◌-◌, List, ◌++◌, length, take, filter}
 use Rattle.fsb_signal.specs.declared.marks.Marks.{Marks}
 use Rattle.vcd_way.specs.Events.{DumpEvent}
 use Rattle.vcd_course.specs.Told.{last_told}
 use Rattle.scope_check.specs.declared.finding.Judged.{Judged}
+use Rattle.scope_check.specs.declared.finding.Verdict.{Verdict}
+use Rattle.scope_check.specs.declared.finding.Verdict.TheVariants.{Nothing, Accepted, Broken}
 use Rattle.scope_check.specs.declared.part.Part.{Part}
 use Rattle.scope_check.specs.Findings.{IsFoundIn}
 use Rattle.scope_check.specs.Parts.{clocks_of}
@@ -18,7 +20,6 @@ use Rattle.scope_parts.specs.declared.latest.Latest.{Latest}
 use Rattle.scope_parts.specs.declared.judge.PartsJudge.{PartsJudge}
 use Rattle.scope_parts.specs.declared.plan.Plan.{Plan}
 use Rattle.scope_parts.specs.Segments.{Segment, clocks_in, events_in, next_part, parts_in, judged_in, is_fault}
-use Rattle.scope_parts.specs.Endings.{last_sample}
 use Rattle.scope_parts.specs.Holes.{holes_in, first_hole_in}
 use Rattle.scope_parts.specs.Findings.{EachBehind, GoesOn, IsOver}
 
@@ -41,6 +42,18 @@ pub record Tallies (t : Tally) (ss : List Segment) : Type 0 where
   pub judged : t.judged ≡ judged_in ss
   pub kept : Keeps t.kept (parts_in ss)
 
+-- the clock of a verdict, where a rule is broken
+abbrev pub clock_in : Verdict → ℕ
+clock_in Nothing = 0
+clock_in Accepted = 0
+clock_in (Broken clock rule stamp) = clock
+
+-- the clocks that were found are among so many
+pub record IsWithin (f : Judged) (clocks : ℕ) : Type 0 where
+  pub start : f.start ≤ clocks
+  pub judged : f.judged ≤ clocks
+  pub broken : clock_in f.verdict ≤ clocks
+
 -- what is judged of a segment that ends so: up to its end, or before a reply
 abbrev pub kept_at : End → Judged → Judged → Judged
 kept_at ends.Dump found before = found
@@ -52,11 +65,10 @@ kept_at ends.Reply found before = before
 abbrev pub but_last : List DumpEvent → List DumpEvent
 but_last es = take (length es - 1) es
 
--- what was found of these events, and of all but the last one, and the last sample
+-- what was found of these events, and of all but the last one
 pub record Remembers (l : Latest) (p : Part) (marks : Marks) (es : List DumpEvent) : Type 0 where
   pub found : IsFoundIn l.found p marks es
   pub before : IsFoundIn l.before p marks (but_last es)
-  pub asks : l.asks ≡ last_sample es
 
 -- the judge was made with these marks and this plan, and took these events: some segments are over, and one is open
 pub record Stands (j : PartsJudge) (plan : Plan) (marks : Marks) (events : List DumpEvent) : Type 0 where

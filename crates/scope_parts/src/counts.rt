@@ -1,8 +1,9 @@
 //! The clocks and the holes of a dump.
 
-ghost use Rattle.std.specs.Prelude.{◌≡◌, ◌+◌, ◌==◌, ◌++◌, ◌∷◌, [], List, IfOk, OnOk, if◌then◌else◌};
+ghost use Rattle.std.specs.Prelude.{◌≡◌, ◌+◌, ◌≤◌, ◌^◌, ◌==◌, ◌++◌, ◌∷◌, [], List, IfOk, IfErr, OnOk, if◌then◌else◌, length};
 ghost use Rattle.vcd_way.specs.Events.{DumpEvent, Hole};
 ghost use Rattle.vcd_course.specs.Told.{event_told, last_told};
+ghost use Rattle.scope_check.specs.Bounds.{most_counted};
 ghost use Rattle.scope_parts.specs.Standing.{Counted};
 
 use scope_check::TooMany;
@@ -19,7 +20,8 @@ pub(crate) struct Counts {
 
 /// The sum, where it is counted.
 pub(crate) fn sum(a: u64, b: u64) -> Result<u64, TooMany>
-    ensures { IfOk result (λ s. s ≡ a + b) }
+    ensures sum { IfOk result (λ s. s ≡ a + b) }
+    ensures full { IfErr result (λ _. 2 ^ 64 ≤ a + b) }
 {
     match a.checked_add(b) {
         Some(s) => Ok(s),
@@ -48,8 +50,10 @@ impl Counts {
 
     /// With one more event.
     pub(crate) fn count(&mut self, event: &CourseEvent) -> Result<(), TooMany>
-        ensures { (es : List DumpEvent) → Counted self.old es →
+        ensures counted { (es : List DumpEvent) → Counted self.old es →
             OnOk result (Counted self.new (es ++ event_told event.now ∷ [])) }
+        ensures many { (es : List DumpEvent) → Counted self.old es →
+            IfErr result (λ _. most_counted ≤ length es) }
     {
         match event.told {
             Told::Sampled(_) => {
@@ -62,8 +66,10 @@ impl Counts {
     }
 
     fn count_hole(&mut self, stamp: Option<Stamp>) -> Result<(), TooMany>
-        ensures { (es : List DumpEvent) → Counted self.old es →
+        ensures counted { (es : List DumpEvent) → Counted self.old es →
             OnOk result (Counted self.new (es ++ Hole (last_told stamp) ∷ [])) }
+        ensures many { (es : List DumpEvent) → Counted self.old es →
+            IfErr result (λ _. most_counted ≤ length es) }
     {
         let holes = sum(self.holes, 1)?;
         self.first_hole = first_stamp(self.holes, self.first_hole, stamp);

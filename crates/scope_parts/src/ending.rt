@@ -1,20 +1,16 @@
 //! When a segment ends.
 
-ghost use Rattle.std.specs.Prelude.{◌≡◌, if◌then◌else◌};
-ghost use Rattle.fsb_trace.specs.Requests.{is_reply};
+ghost use Rattle.std.specs.Prelude.{◌≡◌, ◌≤◌, ◌+◌, if◌then◌else◌};
 ghost use Rattle.vcd_course.specs.Told.{event_told};
-ghost use Rattle.scope_check.specs.Bounds.{begins_later};
 ghost use Rattle.scope_parts.specs.declared.finding.End.TheVariants as ends;
-ghost use Rattle.scope_parts.specs.Endings.{breaks_18_last, breaks_one, ending, ends_at_hole, ends_at_reply, ends_broken, is_accepted, is_reply_on, request_on, sample_of};
-ghost use Rattle.scope_parts.specs.Standing.{kept_at};
+ghost use Rattle.scope_parts.specs.Endings.{breaks_18_last, breaks_one, ending, ends_at_hole, ends_at_reply, ends_broken, is_accepted};
+ghost use Rattle.scope_parts.specs.Findings.{broken_clock};
+ghost use Rattle.scope_parts.specs.Segments.{shifted};
+ghost use Rattle.scope_parts.specs.Standing.{clock_in, kept_at};
 
 use crate::finding::End;
-use crate::latest::sample_of;
 use crate::plan::Plan;
-use fsb_encode::{Kind, Request, decode};
-use fsb_signal::{Lines, Sample};
-use fsb_trace::known_pair;
-use scope_check::{Begin, Judged, Verdict};
+use scope_check::{Judged, Verdict};
 use vcd_course::{CourseEvent, Told};
 
 fn is_accepted(verdict: &Verdict) -> bool
@@ -35,10 +31,23 @@ fn breaks_one(verdict: &Verdict) -> bool
     }
 }
 
-/// The clock of a broken rule, behind so many others.
-pub(crate) fn broken_clock(base: u64, verdict: &Verdict) -> Option<u64> {
+/// The clock of a broken rule.
+pub(crate) fn broken_clock(verdict: &Verdict) -> Option<u64>
+    ensures { result ≡ broken_clock verdict.now }
+{
     match *verdict {
-        Verdict::Broken { clock, .. } => base.checked_add(clock),
+        Verdict::Broken { clock, .. } => Some(clock),
+        Verdict::Nothing | Verdict::Accepted => None,
+    }
+}
+
+/// The same, numbered behind so many others, in a dump that has so many up to there.
+pub(crate) fn broken_behind(base: u64, verdict: &Verdict, clocks: u64) -> Option<u64>
+    ensures { base + clock_in verdict.now ≤ clocks →
+        result ≡ broken_clock (shifted base verdict.now) }
+{
+    match *verdict {
+        Verdict::Broken { clock, .. } => Some(base.saturating_add(clock).min(clocks)),
         Verdict::Nothing | Verdict::Accepted => None,
     }
 }
@@ -49,49 +58,6 @@ fn breaks_18_last(clocks: u64, verdict: &Verdict) -> bool
     match *verdict {
         Verdict::Broken { clock, rule, .. } => rule == 18 && clock < clocks && clock + 1 == clocks,
         Verdict::Nothing | Verdict::Accepted => false,
-    }
-}
-
-fn begins_later(begin: Begin, clock: u32) -> bool
-    ensures { result ≡ begins_later begin clock }
-{
-    match begin {
-        Begin::Known => false,
-        Begin::At(_) | Begin::Quiet(_, _) => 0 < clock,
-    }
-}
-
-// The request that two samples hold.
-#[tactic(auto, unfolding(crate::specs::Endings::request_on))]
-fn request_on(a: &Sample, b: &Sample) -> Option<Request>
-    ensures { result ≡ request_on a.now b.now }
-{
-    let first = known_pair(a)?;
-    let second = known_pair(b)?;
-    decode(first, second).ok()
-}
-
-#[tactic(auto, unfolding(fsb_count::specs::Options::is_some_and, fsb_trace::specs::Requests::is_reply, fsb_trace::specs::Requests::is_reply_kind))]
-fn is_reply(request: Option<Request>) -> bool
-    ensures { result ≡ is_reply request }
-{
-    match request {
-        Some(request) => match request.kind {
-            Kind::Reply => true,
-            Kind::Invalidate | Kind::Read | Kind::WriteBack | Kind::Upgrade => false,
-        },
-        None => false,
-    }
-}
-
-// Whether a reply begins with the first of two samples.
-#[tactic(auto, unfolding(crate::specs::Endings::is_reply_on, fsb_count::specs::Options::is_some_and))]
-fn is_reply_on(first: &Option<Sample>, second: &Option<Sample>) -> bool
-    ensures { result ≡ is_reply_on first.now second.now }
-{
-    match (first, second) {
-        (Some(a), Some(b)) => a.has(Lines::ADS) && is_reply(request_on(a, b)),
-        _ => false,
     }
 }
 
@@ -115,26 +81,29 @@ fn ends_broken(plan: &Plan, broken: u32, found: &Judged) -> bool
     breaks_one(&found.verdict) && u64::from(broken) + 1 < u64::from(most)
 }
 
-fn ends_at_reply(found: &Judged, asks: &Option<Sample>, event: &CourseEvent) -> bool
-    ensures { result ≡ ends_at_reply found.now asks.now (event_told event.now) }
+fn ends_at_reply(found: &Judged, event: &CourseEvent) -> bool
+    ensures { result ≡ ends_at_reply found.now (event_told event.now) }
 {
-    begins_later(found.part.begin, found.start)
-        && breaks_18_last(found.clocks, &found.verdict)
-        && is_reply_on(asks, &sample_of(event))
+    match event.told {
+        Told::Sampled(_) => {
+            found.is_later
+                && found.answers_before
+                && breaks_18_last(found.clocks, &found.verdict)
+        }
+        Told::Hole | Told::Resumed => false,
+    }
 }
 
-/// Why the segment ends with this event: so many parts were broken before, this was found up to it, and this is the sample
-/// before it.
+/// Why the segment ends with this event: so many parts were broken before, and this was found up to it.
 pub(crate) fn ending(
     plan: &Plan,
     broken: u32,
     found: &Judged,
-    asks: &Option<Sample>,
     event: &CourseEvent,
 ) -> Option<End>
-    ensures { result ≡ ending plan.now broken found.now asks.now (event_told event.now) }
+    ensures { result ≡ ending plan.now broken found.now (event_told event.now) }
 {
-    if ends_at_reply(found, asks, event) {
+    if ends_at_reply(found, event) {
         Some(End::Reply)
     } else if ends_broken(plan, broken, found) {
         Some(End::Broken)

@@ -12,7 +12,7 @@ pub enum End {
     Hole,
     /// A rule is broken.
     Broken,
-    /// A reply answers a request that may have been deferred before the part.
+    /// A reply has an ID that no request of the part has: what it answers may have been deferred before the part.
     Reply,
 }
 
@@ -23,6 +23,8 @@ pub struct PartFound {
     pub start: u64,
     /// How many clocks are judged, one after another.
     pub judged: u64,
+    /// Whether it begins later: of what came before it nothing is known.
+    pub is_later: bool,
     pub verdict: Verdict,
     pub end: End,
 }
@@ -57,6 +59,7 @@ impl Default for PartFound {
         PartFound {
             start: 0,
             judged: 0,
+            is_later: false,
             verdict: Verdict::Nothing,
             end: End::Dump,
         }

@@ -1,19 +1,20 @@
 //! The judge of a dump, part by part.
 
-ghost use Rattle.std.specs.Prelude.{◌≡◌, ◌++◌, ◌∷◌, [], List, IfOk, OnOk};
+ghost use Rattle.std.specs.Prelude.{◌≡◌, ◌+◌, ◌<◌, ◌≤◌, ◌++◌, ◌∷◌, [], List, IfOk, IfErr, OnOk, length};
 ghost use Rattle.fsb_signal.specs.declared.marks.Marks.{Marks};
 ghost use Rattle.vcd_way.specs.Events.{DumpEvent};
 ghost use Rattle.vcd_course.specs.Told.{event_told};
+ghost use Rattle.scope_check.specs.Bounds.{most_counted};
 ghost use Rattle.scope_check.specs.Parts.{clocks_of};
 ghost use Rattle.scope_check.specs.Standing.{Stands as JudgingStands};
 ghost use Rattle.scope_parts.specs.declared.plan.Plan.{Plan};
 ghost use Rattle.scope_parts.specs.Plans.{later_part};
-ghost use Rattle.scope_parts.specs.Segments.{Segment, all_of};
-ghost use Rattle.scope_parts.specs.Findings.{IsJudgedInParts};
-ghost use Rattle.scope_parts.specs.Standing.{Remembers, Stands, Tallies, kept_at};
+ghost use Rattle.scope_parts.specs.Segments.{Segment, all_of, clocks_in, judged_in};
+ghost use Rattle.scope_parts.specs.Findings.{IsFirstFault, IsJudgedInParts};
+ghost use Rattle.scope_parts.specs.Standing.{IsWithin, Remembers, Stands, Tallies, kept_at};
 
 use crate::counts::Counts;
-use crate::ending::{broken_clock, ending, kept_at, last_end};
+use crate::ending::{broken_behind, broken_clock, ending, kept_at, last_end};
 use crate::finding::{End, PartsFound};
 use crate::latest::Latest;
 use crate::plan::{Plan, later_part};
@@ -52,24 +53,21 @@ impl PartsJudge {
         }
     }
 
-    /// Takes the next event. After an Err nothing is said of the judge.
+    /// Takes the next event. An Err comes where there were 4,294,967,280 events or more before it; after it nothing is said
+    /// of the judge.
     pub fn take(&mut self, event: &CourseEvent) -> Result<(), TooMany>
         requires { (p : Plan) × (m : Marks) × (es : List DumpEvent) × Stands self.old p m es }
-        ensures { (p : Plan) (m : Marks) (es : List DumpEvent) → Stands self.old p m es →
+        ensures stands { (p : Plan) (m : Marks) (es : List DumpEvent) → Stands self.old p m es →
             OnOk result (Stands self.new p m (es ++ event_told event.now ∷ [])) }
+        ensures many { (p : Plan) (m : Marks) (es : List DumpEvent) → Stands self.old p m es →
+            IfErr result (λ _. most_counted ≤ length es) }
     {
         self.counts.count(event)?;
         self.judging.take(event)?;
         let found = self.judging.judged();
-        match ending(
-            &self.plan,
-            self.tally.kept.broken,
-            &found,
-            &self.latest.asks,
-            event,
-        ) {
+        match ending(&self.plan, self.tally.kept.broken, &found, event) {
             None => {
-                self.latest = self.latest.with(found, event);
+                self.latest = self.latest.with(found);
                 Ok(())
             }
             Some(end) => self.close(end, found),
@@ -82,6 +80,9 @@ impl PartsJudge {
             s.found ≡ kept_at end found self.old.latest.before →
             s.end ≡ end → found.clocks ≡ clocks_of (all_of s) →
             OnOk result (Tallies self.new.tally (ss ++ s ∷ [])) }
+        ensures many { (ss : List Segment) → Tallies self.old.tally ss → judged_in ss ≤ clocks_in ss →
+            IsWithin (kept_at end found self.old.latest.before) found.clocks →
+            IfErr result (λ _. most_counted < clocks_in ss + found.clocks) }
         ensures judging { OnOk result (JudgingStands self.new.judging
             (later_part self.old.plan self.new.tally.clocks) self.old.marks []) }
         ensures latest { OnOk result (Remembers self.new.latest
@@ -109,17 +110,25 @@ impl PartsJudge {
     }
 
     /// The first clock with a broken rule, if one was found: what is drawn of a dump lies around it.
-    pub fn first_fault(&self) -> Option<u64> {
+    pub fn first_fault(&self) -> Option<u64>
+        ensures { (p : Plan) (m : Marks) (es : List DumpEvent) → Stands self.now p m es →
+            IsFirstFault result p m es }
+    {
         match self.tally.kept.faults.as_slice().first() {
-            Some(part) => broken_clock(0, &part.verdict),
-            None => broken_clock(self.tally.clocks, &self.latest.found.verdict),
+            Some(part) => broken_clock(&part.verdict),
+            None => {
+                let found = &self.latest.found.verdict;
+                broken_behind(self.tally.clocks, found, self.counts.clocks)
+            }
         }
     }
 
-    /// What was judged and found.
+    /// What was judged and found. An Err comes where there are more than 4,294,967,280 events.
     pub fn found(self) -> Result<PartsFound, TooMany>
-        ensures { (p : Plan) (m : Marks) (es : List DumpEvent) → Stands self p m es →
+        ensures judged { (p : Plan) (m : Marks) (es : List DumpEvent) → Stands self p m es →
             IfOk result (λ found. IsJudgedInParts found p m es) }
+        ensures many { (p : Plan) (m : Marks) (es : List DumpEvent) → Stands self p m es →
+            IfErr result (λ _. most_counted < length es) }
     {
         let last = self.latest.found;
         let mut tally = self.tally;

@@ -1,6 +1,7 @@
 //! The first parts of a dump, and how many there are.
 
-ghost use Rattle.std.specs.Prelude.{◌≡◌, ◌+◌, ◌++◌, ◌∷◌, [], List, IfOk, OnOk, take};
+ghost use Rattle.std.specs.Prelude.{◌≡◌, ◌+◌, ◌<◌, ◌++◌, ◌∷◌, [], List, IfOk, IfErr, OnOk, take, length};
+ghost use Rattle.scope_check.specs.Bounds.{most_counted};
 ghost use Rattle.scope_parts.specs.declared.finding.PartFound.{PartFound};
 ghost use Rattle.scope_parts.specs.Segments.{is_broken};
 ghost use Rattle.scope_parts.specs.Standing.{Keeps};
@@ -21,7 +22,8 @@ pub(crate) struct Kept {
 
 // One more broken part, where that is counted.
 fn one_more(count: u32) -> Result<u32, TooMany>
-    ensures { IfOk result (λ more. more ≡ count + 1) }
+    ensures more { IfOk result (λ more. more ≡ count + 1) }
+    ensures full { IfErr result (λ _. most_counted < count) }
 {
     match count.checked_add(1) {
         Some(more) => Ok(more),
@@ -63,8 +65,10 @@ impl Kept {
 
     /// With one more part.
     pub(crate) fn add(&mut self, part: PartFound) -> Result<(), TooMany>
-        ensures { (xs : List PartFound) → Keeps self.old xs →
+        ensures keeps { (xs : List PartFound) → Keeps self.old xs →
             OnOk result (Keeps self.new (xs ++ part ∷ [])) }
+        ensures many { (xs : List PartFound) → Keeps self.old xs →
+            IfErr result (λ _. most_counted < length xs) }
     {
         self.parts = sum(self.parts, 1)?;
         keep(&mut self.first, part);

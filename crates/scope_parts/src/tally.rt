@@ -1,10 +1,11 @@
 //! The sums of the segments that are over.
 
-ghost use Rattle.std.specs.Prelude.{◌≡◌, ◌++◌, ◌∷◌, [], List, IfOk, OnOk};
+ghost use Rattle.std.specs.Prelude.{◌≡◌, ◌+◌, ◌<◌, ◌≤◌, ◌^◌, ℕ, ◌++◌, ◌∷◌, [], List, IfOk, IfErr, OnOk, length};
+ghost use Rattle.scope_check.specs.Bounds.{most_counted};
 ghost use Rattle.scope_check.specs.Parts.{clocks_of};
 ghost use Rattle.scope_parts.specs.declared.finding.PartFound.{PartFound};
-ghost use Rattle.scope_parts.specs.Segments.{Segment, all_of, part_told, shifted, told_if_judged};
-ghost use Rattle.scope_parts.specs.Standing.{Keeps, Tallies};
+ghost use Rattle.scope_parts.specs.Segments.{Segment, all_of, clocks_in, judged_in, part_told, shifted, told_if_judged};
+ghost use Rattle.scope_parts.specs.Standing.{IsWithin, Keeps, Tallies, clock_in};
 
 use crate::counts::sum;
 use crate::finding::{End, PartFound};
@@ -21,7 +22,8 @@ pub(crate) struct Tally {
 
 // The verdict, its clock numbered behind so many others.
 fn shifted(base: u64, verdict: &Verdict) -> Result<Verdict, TooMany>
-    ensures { IfOk result (λ v. v ≡ shifted base verdict.now) }
+    ensures verdict { IfOk result (λ v. v ≡ shifted base verdict.now) }
+    ensures full { IfErr result (λ _. 2 ^ 64 ≤ base + clock_in verdict.now) }
 {
     match *verdict {
         Verdict::Nothing => Ok(Verdict::Nothing),
@@ -35,13 +37,16 @@ fn shifted(base: u64, verdict: &Verdict) -> Result<Verdict, TooMany>
 
 // What was found of a segment behind so many clocks.
 fn part_told(base: u64, found: &Judged, end: End) -> Result<PartFound, TooMany>
-    ensures { IfOk result (λ part. part ≡ part_told base found.now end) }
+    ensures part { IfOk result (λ part. part ≡ part_told base found.now end) }
+    ensures full { (clocks : ℕ) → IsWithin found.now clocks →
+        IfErr result (λ _. 2 ^ 64 ≤ base + clocks) }
 {
     let verdict = shifted(base, &found.verdict)?;
     let start = sum(base, u64::from(found.start))?;
     Ok(PartFound {
         start,
         judged: u64::from(found.judged),
+        is_later: found.is_later,
         verdict,
         end,
     })
@@ -49,8 +54,10 @@ fn part_told(base: u64, found: &Judged, end: End) -> Result<PartFound, TooMany>
 
 // Keeps the part of a segment behind so many clocks, where it has a judged clock.
 fn keep_if_judged(kept: &mut Kept, base: u64, found: &Judged, end: End) -> Result<(), TooMany>
-    ensures { (xs : List PartFound) → Keeps kept.old xs →
+    ensures keeps { (xs : List PartFound) → Keeps kept.old xs →
         OnOk result (Keeps kept.new (xs ++ told_if_judged base found.now end)) }
+    ensures many { (xs : List PartFound) (clocks : ℕ) → Keeps kept.old xs → length xs ≤ base →
+        IsWithin found.now clocks → IfErr result (λ _. most_counted < base + clocks) }
 {
     if 0 < found.judged {
         let part = part_told(base, found, end)?;
@@ -74,8 +81,10 @@ impl Tally {
 
     /// With one more segment of so many clocks.
     pub(crate) fn add(&mut self, clocks: u64, found: &Judged, end: End) -> Result<(), TooMany>
-        ensures { (ss : List Segment) (s : Segment) → Tallies self.old ss → s.found ≡ found.now →
+        ensures tallies { (ss : List Segment) (s : Segment) → Tallies self.old ss → s.found ≡ found.now →
             s.end ≡ end → clocks ≡ clocks_of (all_of s) → OnOk result (Tallies self.new (ss ++ s ∷ [])) }
+        ensures many { (ss : List Segment) → Tallies self.old ss → judged_in ss ≤ clocks_in ss →
+            IsWithin found.now clocks → IfErr result (λ _. most_counted < clocks_in ss + clocks) }
     {
         let judged = sum(self.judged, u64::from(found.judged))?;
         let more = sum(self.clocks, clocks)?;

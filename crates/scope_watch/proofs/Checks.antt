@@ -1,5 +1,5 @@
 -- What is found of a dump, from what was read of it.
-use Rattle.std.proofs.Common.{◌≡◌, ℕ, ◌⊎◌, inl, inr, List, [], ◌++◌, length, Option, None, Result, Ok, Err, IfOk, IfErr, option_map, sym, ap, subst, ◌∙◌, append_assoc, append-nil}
+use Rattle.std.proofs.Common.{◌≡◌, ℕ, ◌⊎◌, inl, inr, List, [], ◌++◌, length, Option, None, Result, Ok, Err, IfOk, IfErr, option_map, refl, sym, ap, subst, ◌∙◌, append_assoc, append-nil}
 use Rattle.fsb_signal.specs.declared.marks.Marks.{Marks}
 use Rattle.vcd_grammar.specs.Tokens.{tokens_so_far, tokens_from, open_run, ended_at}
 use Rattle.vcd_way.specs.Declarations.{Declaration}
@@ -62,15 +62,19 @@ declares-of m b text left h = by h.stands.place
 
 -- ---- stops
 
+-- what a reading that stopped so answers
+abbrev pub watched : ScopeStop → Result (Option EarlyEnd) ScopeStop
+watched stop = Err stop
+
 pub judged-stop : (stop : ScopeStop) (seen : List DumpEvent → Type 0) (plan : Plan) (marks : Marks)
-    (way : Way (List Declaration)) (text : List ℕ) → IsWatched (Err stop) seen way text
-    → IsJudgedAs (Err stop) plan marks way text
-judged-stop (stops.Bad fault) seen plan marks way text h = h
-judged-stop stops.ReadFault seen plan marks way text h = tt
-judged-stop stops.TooLong seen plan marks way text h = h
-judged-stop stops.TooMany seen plan marks way text h = tt
-judged-stop stops.WriteFault seen plan marks way text h = tt
-judged-stop stops.Memory seen plan marks way text h = tt
+    (way : Way (List Declaration)) (text : List ℕ) → (watched stop ≡ watched stops.WriteFault → ⊥)
+    → IsWatched (Err stop) seen way text → IsJudgedAs (Err stop) plan marks way text
+judged-stop (stops.Bad fault) seen plan marks way text never h = h
+judged-stop stops.ReadFault seen plan marks way text never h = tt
+judged-stop stops.TooLong seen plan marks way text never h = h
+judged-stop stops.TooMany seen plan marks way text never h = tt
+judged-stop stops.WriteFault seen plan marks way text never h = never refl
+judged-stop stops.Memory seen plan marks way text never h = tt
 
 -- what a judge tells at the end of a text
 pub judged-told : (answer : Result JudgedText ScopeStop) (plan : Plan) (marks : Marks) (way : Way (List Declaration))
@@ -98,8 +102,8 @@ pub checked-header : (stop : ScopeStop) (choice : Choice) (plan : Plan) (s : Sam
 checked-header (stops.Bad fault) choice plan s text left h = inl h
 checked-header stops.ReadFault choice plan s text left h = tt
 checked-header stops.TooLong choice plan s text left h = h
-checked-header stops.TooMany choice plan s text left h = tt
-checked-header stops.WriteFault choice plan s text left h = tt
+checked-header stops.TooMany choice plan s text left h = absurd h
+checked-header stops.WriteFault choice plan s text left h = h
 checked-header stops.Memory choice plan s text left h = tt
 
 pub checked-values : (stop : ScopeStop) (choice : Choice) (plan : Plan) (s : Sampling) (h : Header) (w : Wiring)
@@ -110,7 +114,7 @@ checked-values (stops.Bad fault) choice plan s h w marks text wired e =
 checked-values stops.ReadFault choice plan s h w marks text wired e = tt
 checked-values stops.TooLong choice plan s h w marks text wired e = e
 checked-values stops.TooMany choice plan s h w marks text wired e = tt
-checked-values stops.WriteFault choice plan s h w marks text wired e = tt
+checked-values stops.WriteFault choice plan s h w marks text wired e = e
 checked-values stops.Memory choice plan s h w marks text wired e = tt
 
 -- ---- the wires

@@ -15,13 +15,13 @@ use Rattle.vcd_joined.specs.Choosing.{Choice, choosing, IsTaken, of_values}
 use Rattle.vcd_joined.specs.Behind.{gathered_in, IsHeader}
 use Rattle.vcd_joined.specs.Texts.{IsHeadWith, IsWholeWith}
 use Rattle.vcd_way.specs.Steps.{is_past_header_at, open_from, hides_stamp}
-use Rattle.vcd_header.specs.Gathering.{header_fault_so_far, header_fault_of}
+use Rattle.vcd_header.specs.Gathering.{FitsRules, header_fault_so_far, header_fault_of}
 use Rattle.scope_watch.specs.declared.header.Behind.{Behind}
 use Rattle.scope_watch.specs.declared.header.Begun.{Begun}
 use Rattle.scope_watch.specs.declared.stop.ScopeStop.{ScopeStop}
 use Rattle.scope_watch.specs.declared.stop.ScopeStop.TheVariants as stops
 use Rattle.scope_watch.specs.declared.values.Sampling.{Sampling}
-use Rattle.scope_watch.specs.Heading.{StandsBehind, IsInside, IsWhole, ShowsInHeader, IsHeaderFault, IsReadUp, IsHeaded}
+use Rattle.scope_watch.specs.Heading.{StandsBehind, IsInside, IsWhole, ShowsInHeader, IsHeaderFault, IsReadUp, IsHeaded, any_header}
 use Rattle.scope_watch.specs.Watching.{rules_for, EndsBadly, Finishes, IsWatched}
 
 -- the laws of vcd_joined and vcd_way that are drawn on
@@ -186,14 +186,18 @@ not-past true o fault e = absurd (let no : ⊥ = cc in no)
 not-past false o fault e = refl
 
 -- it is the first fault in each way that keeps declarations
-pub header-bad : (laws : HeaderLaws) (text : List ℕ) (fault : VcdFault) → ShowsInHeader text fault
-    → IsHeaderFault text fault
-header-bad laws text fault (inl shown) = λ c m f.
+first-bad : (laws : HeaderLaws) (text : List ℕ) (fault : VcdFault) → ShowsInHeader text fault
+    → (c : Choice) (m : ValueRules) → FitsRules m any_header → first_fault_by (choosing c m) text ≡ Some fault
+first-bad laws text fault (inl shown) = λ c m f.
     let early = not-past _ (gathered_in m (tokens_so_far shown.some)).fault fault (shown.first m f) in
     ap (first_fault_by (choosing c m)) shown.whole
     ∙ laws.stays (choosing c m) shown.some shown.more fault
     (laws.so_far c m shown.some early ∙ shown.first m f)
-header-bad laws text fault (inr e) = λ c m f. laws.whole c m text (not-past _ _ fault (e m f)) ∙ e m f
+first-bad laws text fault (inr e) = λ c m f. laws.whole c m text (not-past _ _ fault (e m f)) ∙ e m f
+
+pub header-bad : (laws : HeaderLaws) (text : List ℕ) (fault : VcdFault) → ShowsInHeader text fault
+    → IsHeaderFault text fault
+header-bad laws text fault shown = (shown, first-bad laws text fault shown)
 
 -- what was read up to the end of a header
 pub headed : (laws : HeaderLaws) (answer : Result Begun ScopeStop) (text left : List ℕ) → IsReadUp answer text left

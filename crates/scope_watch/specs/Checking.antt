@@ -37,13 +37,13 @@ pub record IsJudgedText (told : JudgedText) (plan : Plan) (marks : Marks) (way :
   pub early_end : option_map early_told told.early_end ≡ early_end_by way text
   pub last : FedFirst told.last (samples_among (events_by way text))
 
--- what is judged of a whole text, read in a way and parted so, with these marks
+-- what is judged of a whole text, read in a way and parted so, with these marks; nothing is written
 abbrev pub IsJudgedAs : Result JudgedText ScopeStop → Plan → Marks → Way (List Declaration) → List ℕ → Type 0
 IsJudgedAs (Ok told) plan marks way text = IsJudgedText told plan marks way text
 IsJudgedAs (Err (stops.Bad fault)) plan marks way text = first_fault_by way text ≡ Some fault
 IsJudgedAs (Err stops.TooLong) plan marks way text = 2 ^ 40 < length text
 IsJudgedAs (Err stops.TooMany) plan marks way text = Unit {0}
-IsJudgedAs (Err stops.WriteFault) plan marks way text = Unit {0}
+IsJudgedAs (Err stops.WriteFault) plan marks way text = ⊥
 IsJudgedAs (Err stops.Memory) plan marks way text = Unit {0}
 IsJudgedAs (Err stops.ReadFault) plan marks way text = Unit {0}
 
@@ -82,6 +82,6 @@ IsChecked (Ok checked) choice plan s text = IsFinding checked.finding choice pla
 IsChecked (Err (stops.Bad fault)) choice plan s text = IsHeaderFault text fault ⊎ IsFaultBehind choice s text fault
 IsChecked (Err stops.TooLong) choice plan s text = 2 ^ 40 < length text
 IsChecked (Err stops.TooMany) choice plan s text = Unit {0}
-IsChecked (Err stops.WriteFault) choice plan s text = Unit {0}
+IsChecked (Err stops.WriteFault) choice plan s text = ⊥
 IsChecked (Err stops.Memory) choice plan s text = Unit {0}
 IsChecked (Err stops.ReadFault) choice plan s text = Unit {0}

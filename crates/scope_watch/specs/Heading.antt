@@ -128,10 +128,12 @@ IsReadUp (Err watched.Memory) text left = Unit {0}
 IsReadUp (Err watched.TooMany) text left = ⊥
 IsReadUp (Err watched.WriteFault) text left = ⊥
 
--- the text has this fault in its header: in each way that keeps declarations it is the first one
+-- the text has this fault in its header: its first bytes show it there or it ends there, and in each way that keeps
+-- declarations it is the first one
 abbrev pub IsHeaderFault : List ℕ → VcdFault → Type 0
 IsHeaderFault text fault =
-    (c : Choice) (m : ValueRules) → FitsRules m any_header → first_fault_by (choosing c m) text ≡ Some fault
+    ShowsInHeader text fault
+    × ((c : Choice) (m : ValueRules) → FitsRules m any_header → first_fault_by (choosing c m) text ≡ Some fault)
 
 -- what is told of the header of a text, of which these bytes are left in the source
 abbrev pub IsHeaded : Result Begun ScopeStop → List ℕ → List ℕ → Type 0

@@ -14,6 +14,7 @@ returns-in_err-early_end-clause-judged g c = λ tells choice ts text at taken.
     let judge : Judge = record { judging = c.new-judging.result; plan = c.args.plan; marks = c.args.marks; last = c.in_ok-last.last } in
     let same : c.from_residual-in_err-early_end.result ≡ Err c.in_err-early_end.field-0.0 = search rules in
     rw same (judged-stop _ _ c.args.plan c.args.marks _ text
+    (λ e. c.in_err-early_end.ensures.write_fault e judge [] (c.new-judging.ensures, fed-none _ c.in_ok-last.ensures))
     (c.in_err-early_end.ensures.read tells judge [] choice ts text
     (c.new-judging.ensures, fed-none _ c.in_ok-last.ensures) at taken))
 

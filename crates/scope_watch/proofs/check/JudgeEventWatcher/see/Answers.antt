@@ -9,14 +9,14 @@ keep-requires c =
     let es = c.requires.1 in (
       es,
       c.requires.2.1,
-      c.clocks-clocks.ensures p m (es ++ event_told c.args.event.now ∷ []) (c.in-Ok.ensures p m es c.requires.2.0),
+      c.clocks-clocks.ensures p m (es ++ event_told c.args.event.now ∷ []) (c.in-Ok.ensures.stands p m es c.requires.2.0),
     )
 
 pub returns-in-Ok-clause-seen : goal.returns-in-Ok-clause-seen
 returns-in-Ok-clause-seen c = λ first es seen.
     let p = first.plan in
     let m = first.marks in
-    let stands = c.in-Ok.ensures p m es seen.0 in (
+    let stands = c.in-Ok.ensures.stands p m es seen.0 in (
       stands,
       c.keep.ensures es seen.1 (c.clocks-clocks.ensures p m (es ++ event_told c.args.event.now ∷ []) stands),
     )
