@@ -13,6 +13,7 @@ pub use named::{LineFault, read_options};
 pub use orders::perform;
 pub use pick::ending_copied;
 pub use stop::{Stop, ending_at};
+pub use tries::hints_of;
 
 mod answer;
 mod check;
@@ -24,3 +25,4 @@ mod pick;
 mod settled;
 mod stop;
 mod stopped;
+mod tries;

@@ -9,7 +9,7 @@ use crate::answer::{Answer, Stream};
 use crate::named::{LineFault, read_options};
 use crate::stop::Stop;
 use fsb_io::{Failed, ReadStop, Source, read_all};
-use scope_report::{Ending, limit_text, unread_text};
+use scope_report::{Ending, limit_text, unlisted_text};
 use scope_wiring::Choice;
 use std::alloc::{AllocError, Global};
 
@@ -97,7 +97,7 @@ fn listed_text(alloc: Global, choice: Choice, file: &str, text: &[u8]) -> Result
     let mut choice = choice;
     match read_options(alloc, text, &mut choice.lines)? {
         None => Ok(Listed::Chosen(choice)),
-        Some(fault) => Ok(Listed::Unlisted(line_answer(alloc, file, fault)?)),
+        Some(fault) => Ok(Listed::Unlisted(line_answer(alloc, file, text, fault)?)),
     }
 }
 
@@ -113,14 +113,30 @@ fn long_answer(alloc: Global, file: &str) -> Result<Answer, AllocError>
 }
 
 // Tells that a line of a file says nothing.
-fn line_answer(alloc: Global, file: &str, fault: LineFault) -> Result<Answer, AllocError>
+fn line_answer(
+    alloc: Global,
+    file: &str,
+    text: &[u8],
+    fault: LineFault,
+) -> Result<Answer, AllocError>
     ensures { IfOk result (λ answer. answer.ending ≡ Ending.Unjudged) }
 {
-    let number = fault.number;
-    let reason = format!(in alloc; "line {number}: LINE=[!]PATH is wanted")?;
+    let line = line_at(text, fault.number);
     Ok(Answer {
         ending: Ending::Unjudged,
         stream: Stream::Err,
-        text: unread_text(alloc, file, reason.as_str())?,
+        text: unlisted_text(alloc, file, fault.number, line)?,
     })
+}
+
+// The line of this number, from 1 on, without white space at its ends.
+fn line_at(text: &[u8], number: u64) -> &[u8] {
+    let mut left = number;
+    for line in text.split(|byte| *byte == 10) {
+        if left <= 1 {
+            return line.trim_ascii();
+        }
+        left -= 1;
+    }
+    &[]
 }
