@@ -1,3 +1,2 @@
 pub mod Endings
-pub mod Hints
 pub mod VerdictText

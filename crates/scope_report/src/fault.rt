@@ -63,26 +63,6 @@ pub fn unread_text(alloc: Global, file: &str, reason: &str) -> Result<Vec<u8>, A
     Ok(text)
 }
 
-/// A file of `--lines` with a line that says nothing: its number, from 1 on, and what stands there.
-pub fn unlisted_text(
-    alloc: Global,
-    file: &str,
-    number: u64,
-    line: &[u8],
-) -> Result<Vec<u8>, AllocError> {
-    let mut text = named(alloc, file)?;
-    put(&mut text, ", line ")?;
-    put_number(&mut text, number)?;
-    put(&mut text, ": '")?;
-    put_bytes(&mut text, line)?;
-    put(&mut text, UNLISTED)?;
-    Ok(text)
-}
-
-const UNLISTED: &str = "' is no word for --line
-LINE=[!]PATH is wanted, as ADS_n=tb.dut.ads, A_n=tb.a[35:3] or HIT_n=!tb.hit
-";
-
 /// A dump of which a part is named by a time, and whose header does not say how long a step of its time is.
 pub fn unscaled_text(alloc: Global, file: &str) -> Result<Vec<u8>, AllocError> {
     let mut text = named(alloc, file)?;

@@ -4,15 +4,14 @@
 //! picked and what helps, `fault_text` and its siblings why a dump was not read. Nothing is read here. `status` is the
 //! exit status: 0 only where a clock was judged and no rule is broken, or where what was asked for was printed.
 //!
-//! The line of a verdict has its text in `specs/`, and `further_in` says which other ways to read a rejected dump get further; the other texts are tested, in rows_reports.
+//! The line of a verdict has its text in `specs/`; the other texts are tested, in rows_reports.
 //!
 //! Next: scope_wiring and scope_parts, whose answers these are.
 #![tactic(auto)]
 
 pub use check::check_text;
 pub use ending::{Ending, ending_of, status};
-pub use fault::{fault_text, limit_text, unlisted_text, unread_text, unscaled_text};
-pub use hint::{Further, Hint, Try, further_in, put_hints};
+pub use fault::{fault_text, limit_text, unread_text, unscaled_text};
 pub use lines::lines_text;
 pub use refusal::refusal_text;
 pub use rules::{rule_list, rule_text};
@@ -21,7 +20,6 @@ pub use verdict::{put_verdict, verdict_over};
 mod check;
 mod ending;
 mod fault;
-mod hint;
 mod lines;
 mod notices;
 mod parts;

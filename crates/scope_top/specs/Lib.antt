@@ -2,4 +2,3 @@ pub mod Ends
 pub mod Named
 pub mod Parts
 pub mod Performing
-pub mod Tries

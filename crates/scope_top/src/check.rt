@@ -11,10 +11,10 @@ use crate::listed::{Listed, listed_choice};
 use crate::settled::{Settled, plan_of, settled_part};
 use crate::stop::Stop;
 use crate::stopped::{PIECE, stop_answer};
-use crate::tries::{broken_found, hints_of, tries_of};
 use fsb_io::Source;
 use scope_parts::Plan;
-use scope_report::{Ending, check_text, ending_of, put_hints, refusal_text, verdict_over};
+use scope_report::{Ending, check_text, ending_of, refusal_text, verdict_over};
+use scope_tries::{broken_found, hints_of, hints_text, tries_of};
 use scope_watch::{Checked, Finding, Sampling, check_dump};
 use scope_wiring::Choice;
 use scope_words::{Part, Wires};
@@ -130,7 +130,8 @@ fn tried_answer<S: Source>(
     match (tries, broken_found(&checked.finding)) {
         (Some(edge), Some(broken)) => {
             let hints = hints_of(alloc, name, choice, plan, edge, broken, dump)?;
-            put_hints(&mut answer.text, &hints)?;
+            let told = hints_text(alloc, &hints)?;
+            answer.text.extend_from_slice(told.as_bytes())?;
         }
         _ => {}
     }

@@ -9,7 +9,7 @@ use crate::answer::{Answer, Stream};
 use crate::named::{LineFault, read_options};
 use crate::stop::Stop;
 use fsb_io::{Failed, ReadStop, Source, read_all};
-use scope_report::{Ending, limit_text, unlisted_text};
+use scope_report::{Ending, limit_text, unread_text};
 use scope_wiring::Choice;
 use std::alloc::{AllocError, Global};
 
@@ -121,12 +121,30 @@ fn line_answer(
 ) -> Result<Answer, AllocError>
     ensures { IfOk result (λ answer. answer.ending ≡ Ending.Unjudged) }
 {
-    let line = line_at(text, fault.number);
+    let number = fault.number;
+    let line = shown(alloc, line_at(text, number))?;
+    let reason = format!(in alloc; "line {number}: '{line}'{UNLISTED}")?;
     Ok(Answer {
         ending: Ending::Unjudged,
         stream: Stream::Err,
-        text: unlisted_text(alloc, file, fault.number, line)?,
+        text: unread_text(alloc, file, reason.as_str())?,
     })
+}
+
+const UNLISTED: &str = " is no word for --line
+LINE=[!]PATH is wanted, as ADS_n=tb.dut.ads, A_n=tb.a[35:3] or HIT_n=!tb.hit";
+
+// The first bytes of a line, with a question mark for each that is no plain character.
+fn shown(alloc: Global, line: &[u8]) -> Result<String, AllocError> {
+    let mut text = String::new(alloc);
+    for byte in line.iter().take(80) {
+        text.push(plain(*byte))?;
+    }
+    Ok(text)
+}
+
+fn plain(byte: u8) -> char {
+    if 32 <= byte && byte < 127 { char::from(byte) } else { '?' }
 }
 
 // The line of this number, from 1 on, without white space at its ends.

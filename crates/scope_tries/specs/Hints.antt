@@ -2,10 +2,10 @@
 use Rattle.std.specs.Prelude.{ℕ, Bool, nat_lt, ◌+◌, Option, Some, None, if◌then◌else◌}
 use Rattle.scope_check.specs.declared.finding.Verdict.{Verdict}
 use Rattle.scope_check.specs.declared.finding.Verdict.TheVariants as verdicts
-use Rattle.scope_report.specs.declared.hint.Further.{Further}
-use Rattle.scope_report.specs.declared.hint.Further.TheVariants as furthers
-use Rattle.scope_report.specs.declared.hint.Try.{Try}
-use Rattle.scope_report.specs.declared.hint.Try.TheVariants as tries
+use Rattle.scope_tries.specs.declared.hint.Further.{Further}
+use Rattle.scope_tries.specs.declared.hint.Further.TheVariants as furthers
+use Rattle.scope_tries.specs.declared.hint.Try.{Try}
+use Rattle.scope_tries.specs.declared.hint.Try.TheVariants as tries
 
 -- the clock of this number in the reading by the try lies behind the broken one; with `--first` each clock has
 -- the number after its own

@@ -1,11 +1,11 @@
 //! Other ways to read a rejected dump, and which of them get further.
 
 ghost use Rattle.std.specs.Prelude.{◌≡◌};
-ghost use Rattle.scope_report.specs.Hints.{further_in, is_later};
+ghost use Rattle.scope_tries.specs.Hints.{further_in, is_later};
 
-use crate::text::{put, put_line, put_number};
+use fsb_signal::signal_at;
 use scope_check::Verdict;
-use std::alloc::AllocError;
+use std::alloc::{AllocError, Global};
 
 /// Another way to read a dump, by the option that asks for it.
 #[derive(Clone, Copy, Debug, PartialEq, Eq)]
@@ -63,38 +63,41 @@ fn is_later(by: Try, broken: u64, clock: u64) -> bool
     }
 }
 
-/// Appends a line for each hint, as `with --after ADS_n it is accepted`.
-pub fn put_hints(text: &mut Vec<u8>, hints: &[Hint]) -> Result<(), AllocError> {
+/// A line for each hint, as `with --after ADS_n it is accepted`.
+pub fn hints_text(alloc: Global, hints: &[Hint]) -> Result<String, AllocError> {
+    let mut text = String::new(alloc);
     for hint in hints {
-        put_hint(text, *hint)?;
+        put_hint(&mut text, *hint)?;
     }
-    Ok(())
+    Ok(text)
 }
 
-fn put_hint(text: &mut Vec<u8>, hint: Hint) -> Result<(), AllocError> {
-    put(text, "with ")?;
+fn put_hint(text: &mut String, hint: Hint) -> Result<(), AllocError> {
+    text.push_str("with ")?;
     put_option(text, hint.by)?;
     put_further(text, hint.further)
 }
 
-fn put_option(text: &mut Vec<u8>, by: Try) -> Result<(), AllocError> {
+fn put_option(text: &mut String, by: Try) -> Result<(), AllocError> {
     match by {
-        Try::First => put(text, "--first"),
-        Try::After(line) => {
-            put(text, "--after ")?;
-            put_line(text, line)
-        }
-        Try::AfterRequests => put(text, "--after BREQ0_n,BREQ1_n,BREQ2_n,BREQ3_n"),
+        Try::First => text.push_str("--first"),
+        Try::After(line) => put_after(text, line),
+        Try::AfterRequests => text.push_str("--after BREQ0_n,BREQ1_n,BREQ2_n,BREQ3_n"),
     }
 }
 
-fn put_further(text: &mut Vec<u8>, further: Further) -> Result<(), AllocError> {
+fn put_after(text: &mut String, line: u8) -> Result<(), AllocError> {
+    text.push_str("--after ")?;
+    if line < 22 {
+        text.push_str(signal_at(line).name)
+    } else {
+        write!(text, "{line}")
+    }
+}
+
+fn put_further(text: &mut String, further: Further) -> Result<(), AllocError> {
     match further {
-        Further::Accepted => put(text, " it is accepted\n"),
-        Further::Broken(clock) => {
-            put(text, " it is broken first at clock ")?;
-            put_number(text, clock)?;
-            put(text, "\n")
-        }
+        Further::Accepted => text.push_str(" it is accepted\n"),
+        Further::Broken(clock) => write!(text, " it is broken first at clock {clock}\n"),
     }
 }

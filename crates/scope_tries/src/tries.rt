@@ -1,17 +1,20 @@
 //! A rejected dump, read in other ways: which of them get further.
 
 ghost use Rattle.std.specs.Prelude.{◌≡◌, ◌≤◌, IsTrue, IfOk, IfSome, Some, length, All};
-ghost use Rattle.scope_top.specs.Tries.{IsHint, SamplesBy, further_found, takes_first_by, late_by, tries_of, broken_found};
+ghost use Rattle.scope_tries.specs.Tries.{IsHint, SamplesBy, further_found, takes_first_by, late_by, tries_of, broken_found};
 
-use crate::stopped::PIECE;
+use crate::hint::{Further, Hint, Try, further_in};
 use fsb_io::Source;
 use scope_check::Verdict;
 use scope_parts::Plan;
-use scope_report::{Further, Hint, Try, further_in, verdict_over};
+use scope_report::verdict_over;
 use scope_watch::{Finding, Sampling, check_dump};
 use scope_wiring::Choice;
 use std::alloc::{AllocError, Global};
 use vcd_way::Edge;
+
+/// How many bytes are asked of a dump at a time, at most.
+const PIECE: usize = 65_536;
 
 /// The ways that are tried, in the order in which they are told: LOCK_n is line 6, ADS_n 8, REQ_n 9, A_n 10.
 const TRIES: [Try; 6] = [
@@ -25,7 +28,7 @@ const TRIES: [Try; 6] = [
 
 /// The edge at which the tries sample, where there are any: the dump can be read again, and the words asked neither for a
 /// first edge nor for lines that are sampled after it.
-pub(crate) fn tries_of(is_again: bool, sampling: &Sampling) -> Option<Edge>
+pub fn tries_of(is_again: bool, sampling: &Sampling) -> Option<Edge>
     ensures { result ≡ tries_of is_again sampling.now }
 {
     if is_again && !sampling.takes_first && sampling.late.is_empty() {
@@ -36,7 +39,7 @@ pub(crate) fn tries_of(is_again: bool, sampling: &Sampling) -> Option<Edge>
 }
 
 /// The first broken clock of what was found.
-pub(crate) fn broken_found(finding: &Finding) -> Option<u64>
+pub fn broken_found(finding: &Finding) -> Option<u64>
     ensures { result ≡ broken_found finding.now }
 {
     match finding {

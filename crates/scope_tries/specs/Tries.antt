@@ -3,12 +3,12 @@ use Rattle.std.specs.Prelude.{◌≡◌, ℕ, Bool, true, false, not, ◌&&◌, 
 use Rattle.scope_check.specs.declared.finding.Verdict.{Verdict}
 use Rattle.scope_check.specs.declared.finding.Verdict.TheVariants as verdicts
 use Rattle.scope_parts.specs.declared.plan.Plan.{Plan}
-use Rattle.scope_report.specs.declared.hint.Further.{Further}
-use Rattle.scope_report.specs.declared.hint.Hint.{Hint}
-use Rattle.scope_report.specs.declared.hint.Try.{Try}
-use Rattle.scope_report.specs.declared.hint.Try.TheVariants as tries
+use Rattle.scope_tries.specs.declared.hint.Further.{Further}
+use Rattle.scope_tries.specs.declared.hint.Hint.{Hint}
+use Rattle.scope_tries.specs.declared.hint.Try.{Try}
+use Rattle.scope_tries.specs.declared.hint.Try.TheVariants as tries
 use Rattle.scope_report.specs.Endings.{verdict_over}
-use Rattle.scope_report.specs.Hints.{further_in}
+use Rattle.scope_tries.specs.Hints.{further_in}
 use Rattle.scope_watch.specs.declared.check.Checked.{Checked}
 use Rattle.scope_watch.specs.declared.check.Finding.{Finding}
 use Rattle.scope_watch.specs.declared.check.Finding.TheVariants as findings
