@@ -10,6 +10,7 @@
 
 #[cfg(test)]
 mod dumps;
+mod hints;
 #[cfg(test)]
 mod judged;
 #[cfg(test)]
