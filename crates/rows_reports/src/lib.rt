@@ -10,6 +10,7 @@
 
 #[cfg(test)]
 mod dumps;
+#[cfg(test)]
 mod hints;
 #[cfg(test)]
 mod judged;
