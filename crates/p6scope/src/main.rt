@@ -36,10 +36,7 @@ fn exit(ending: Ending) -> ExitCode
 fn run<E: Sink>(rt: &(impl Files + Env + Print + AllocGlobal), err: &mut E) -> Ending {
     match words_of(rt) {
         Err(ending) => {
-            warn(
-                err,
-                b"p6scope: its words could not be had: memory lacks, or they are no text\n",
-            );
+            warn(err, unheard(ending));
             ending
         }
         Ok(words) => match read_order(rt.alloc(), &words) {
@@ -81,12 +78,21 @@ fn obey<E: Sink>(rt: &(impl Files + Print + AllocGlobal), order: Order<'_>, err:
     let end = perform(
         rt.alloc(),
         order,
+        is_again(rt, dump),
         &mut FileSource::new(rt),
         &mut FileSource::new(rt),
         &mut StdoutSink::new(rt),
         err,
     );
     ended(rt, end, lines, dump, err)
+}
+
+// Whether a file can be read again: a regular one, and no pipe. Without a name there is none.
+fn is_again(rt: &impl Files, name: &str) -> bool {
+    match fs::metadata(rt, name) {
+        Ok(found) => found.is_file(),
+        Err(_) => false,
+    }
 }
 
 // The name of the dump of an order.
@@ -173,6 +179,15 @@ fn no_words(kind: ErrorKind) -> Ending
         Ending::NoMemory
     } else {
         Ending::BadWords
+    }
+}
+
+// Why the words could not be had, by the end that comes of it.
+fn unheard(ending: Ending) -> &'static [u8] {
+    if ending == Ending::NoMemory {
+        b"p6scope: out of memory\n"
+    } else {
+        b"p6scope: a word of the command is no text: it is not UTF-8\n"
     }
 }
 

@@ -116,7 +116,7 @@ fn written_to(
 {
     let mut out = MemSink::new(alloc, 100_000, writes)?;
     let mut err = MemSink::new(alloc, 100_000, &[])?;
-    let end = perform(alloc, order, lines, source, &mut out, &mut err);
+    let end = perform(alloc, order, true, lines, source, &mut out, &mut err);
     Ok(came_of(alloc, end, out.holds(), err.holds())?)
 }
 

@@ -11,6 +11,8 @@
 #[cfg(test)]
 mod dumps;
 #[cfg(test)]
+mod hints;
+#[cfg(test)]
 mod judged;
 #[cfg(test)]
 mod options;

@@ -14,12 +14,12 @@ const FILES: [File; 5] = [
     (
         "ADS_n=tb.dut.ads_n\nADS\n",
         3,
-        "my.lines: line 2: LINE=[!]PATH is wanted\n",
+        "my.lines: line 2: 'ADS' is no word for --line\nLINE=[!]PATH is wanted, as ADS_n=tb.dut.ads, A_n=tb.a[35:3] or HIT_n=!tb.hit\n",
     ),
     (
         "ADS=tb.dut.ads_n",
         3,
-        "my.lines: line 1: LINE=[!]PATH is wanted\n",
+        "my.lines: line 1: 'ADS=tb.dut.ads_n' is no word for --line\nLINE=[!]PATH is wanted, as ADS_n=tb.dut.ads, A_n=tb.a[35:3] or HIT_n=!tb.hit\n",
     ),
     (
         "ADS_n=x\n",

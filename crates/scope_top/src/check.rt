@@ -14,10 +14,12 @@ use crate::stopped::{PIECE, stop_answer};
 use fsb_io::Source;
 use scope_parts::Plan;
 use scope_report::{Ending, check_text, ending_of, refusal_text, verdict_over};
+use scope_tries::{broken_found, hints_of, hints_text, tries_of};
 use scope_watch::{Checked, Finding, Sampling, check_dump};
 use scope_wiring::Choice;
-use scope_words::{Edge, Part, Wires};
+use scope_words::{Part, Wires};
 use std::alloc::{AllocError, Global};
+use vcd_way::Edge;
 
 /// Judges the parts of a dump that the words name, and tells what was found.
 pub(crate) fn check_answer<L: Source, S: Source>(
@@ -25,6 +27,7 @@ pub(crate) fn check_answer<L: Source, S: Source>(
     name: &str,
     wires: Wires<'_>,
     words: &Part,
+    is_again: bool,
     named: &mut L,
     dump: &mut S,
 ) -> Result<Answer, Stop>
@@ -44,16 +47,18 @@ pub(crate) fn check_answer<L: Source, S: Source>(
     };
     match listed_choice(alloc, wires.choice, wires.file, named)? {
         Listed::Unlisted(answer) => Ok(answer),
-        Listed::Chosen(choice) => parted_answer(alloc, name, &choice, words, sampling, dump),
+        Listed::Chosen(choice) => {
+            parted_answer(alloc, name, &choice, words, is_again, sampling, dump)
+        }
     }
 }
 
-pub(crate) fn edge_of(edge: Edge) -> vcd_way::Edge
+pub(crate) fn edge_of(edge: scope_words::Edge) -> Edge
     ensures { result ≡ edge_of edge }
 {
     match edge {
-        Edge::Rise => vcd_way::Edge::Rising,
-        Edge::Fall => vcd_way::Edge::Falling,
+        scope_words::Edge::Rise => Edge::Rising,
+        scope_words::Edge::Fall => Edge::Falling,
     }
 }
 
@@ -63,6 +68,7 @@ fn parted_answer<S: Source>(
     name: &str,
     choice: &Choice,
     words: &Part,
+    is_again: bool,
     sampling: Sampling,
     dump: &mut S,
 ) -> Result<Answer, Stop>
@@ -76,7 +82,8 @@ fn parted_answer<S: Source>(
     match settled_part(alloc, name, words, dump)? {
         Settled::Unsettled(answer) => Ok(answer),
         Settled::Part(first) => {
-            judged_answer(alloc, name, choice, plan_of(words, first), sampling, dump)
+            let plan = plan_of(words, first);
+            judged_answer(alloc, name, choice, plan, is_again, sampling, dump)
         }
     }
 }
@@ -87,6 +94,7 @@ fn judged_answer<S: Source>(
     name: &str,
     choice: &Choice,
     plan: Plan,
+    is_again: bool,
     sampling: Sampling,
     dump: &mut S,
 ) -> Result<Answer, Stop>
@@ -97,11 +105,37 @@ fn judged_answer<S: Source>(
     ensures dump_fault { result ≡ Err Stop.Dump → Rose (S.faults dump.old) (S.faults dump.new) }
     ensures not_out { result ≢ Err Stop.Out }
 {
+    let tries = tries_of(is_again, &sampling);
     let mut room = vec![in alloc; 0; PIECE]?;
     match check_dump(alloc, name, dump, &mut room, choice, plan, sampling) {
         Err(stop) => stop_answer(alloc, name, stop),
-        Ok(checked) => Ok(found_answer(alloc, name, choice, &checked)?),
+        Ok(checked) => Ok(tried_answer(alloc, name, choice, plan, tries, &checked, dump)?),
     }
+}
+
+// Tells what was found, and of a rejected dump in which other ways it gets further, where these are tried.
+fn tried_answer<S: Source>(
+    alloc: Global,
+    name: &str,
+    choice: &Choice,
+    plan: Plan,
+    tries: Option<Edge>,
+    checked: &Checked,
+    dump: &mut S,
+) -> Result<Answer, AllocError>
+    requires { length name.now ≤ 4096 }
+    ensures { IfOk result (λ answer. answer.ending ≡ ending_found checked.now.finding) }
+{
+    let mut answer = found_answer(alloc, name, choice, checked)?;
+    match (tries, broken_found(&checked.finding)) {
+        (Some(edge), Some(broken)) => {
+            let hints = hints_of(alloc, name, choice, plan, edge, broken, dump)?;
+            let told = hints_text(alloc, &hints)?;
+            answer.text.extend_from_slice(told.as_bytes())?;
+        }
+        _ => {}
+    }
+    Ok(answer)
 }
 
 // Tells what was found.

@@ -97,7 +97,7 @@ fn listed_text(alloc: Global, choice: Choice, file: &str, text: &[u8]) -> Result
     let mut choice = choice;
     match read_options(alloc, text, &mut choice.lines)? {
         None => Ok(Listed::Chosen(choice)),
-        Some(fault) => Ok(Listed::Unlisted(line_answer(alloc, file, fault)?)),
+        Some(fault) => Ok(Listed::Unlisted(line_answer(alloc, file, text, fault)?)),
     }
 }
 
@@ -113,14 +113,48 @@ fn long_answer(alloc: Global, file: &str) -> Result<Answer, AllocError>
 }
 
 // Tells that a line of a file says nothing.
-fn line_answer(alloc: Global, file: &str, fault: LineFault) -> Result<Answer, AllocError>
+fn line_answer(
+    alloc: Global,
+    file: &str,
+    text: &[u8],
+    fault: LineFault,
+) -> Result<Answer, AllocError>
     ensures { IfOk result (λ answer. answer.ending ≡ Ending.Unjudged) }
 {
     let number = fault.number;
-    let reason = format!(in alloc; "line {number}: LINE=[!]PATH is wanted")?;
+    let line = shown(alloc, line_at(text, number))?;
+    let reason = format!(in alloc; "line {number}: '{line}'{UNLISTED}")?;
     Ok(Answer {
         ending: Ending::Unjudged,
         stream: Stream::Err,
         text: unread_text(alloc, file, reason.as_str())?,
     })
+}
+
+const UNLISTED: &str = " is no word for --line
+LINE=[!]PATH is wanted, as ADS_n=tb.dut.ads, A_n=tb.a[35:3] or HIT_n=!tb.hit";
+
+// The first bytes of a line, with a question mark for each that is no plain character.
+fn shown(alloc: Global, line: &[u8]) -> Result<String, AllocError> {
+    let mut text = String::new(alloc);
+    for byte in line.iter().take(80) {
+        text.push(plain(*byte))?;
+    }
+    Ok(text)
+}
+
+fn plain(byte: u8) -> char {
+    if 32 <= byte && byte < 127 { char::from(byte) } else { '?' }
+}
+
+// The line of this number, from 1 on, without white space at its ends.
+fn line_at(text: &[u8], number: u64) -> &[u8] {
+    let mut left = number;
+    for line in text.split(|byte| *byte == 10) {
+        if left <= 1 {
+            return line.trim_ascii();
+        }
+        left -= 1;
+    }
+    &[]
 }

@@ -16,13 +16,16 @@ use scope_words::{Order, Part, Wires};
 use std::alloc::{AllocError, Global};
 
 /// Does what the order asks for. The answer goes to `out`; a refusal, and why a file says nothing, to `err`. `named` is the
-/// file of `--lines`, `dump` the dump. Where an order names a time, the dump is begun twice.
+/// file of `--lines`, `dump` the dump. Where an order names a time, the dump is begun twice. `is_again` says that the dump
+/// can be begun again at any time and then gives the same: a check that rejects it then reads it once more for each other
+/// way to sample it, and tells those in which it gets further, which `hints_of` answers. That changes no ending.
 ///
 /// How it ends is one relation, `Ends`, with a row for each form of an order. Where it comes to no end, the source or the
 /// sink that it names has failed in this call, or memory lacked.
 pub fn perform<L: Source, S: Source, O: Sink, E: Sink>(
     alloc: Global,
     order: Order<'_>,
+    is_again: bool,
     named: &mut L,
     dump: &mut S,
     out: &mut O,
@@ -45,7 +48,7 @@ pub fn perform<L: Source, S: Source, O: Sink, E: Sink>(
             wires,
             part,
             dump: name,
-        } => check(alloc, name, wires, &part, named, dump, out, err),
+        } => check(alloc, name, wires, &part, is_again, named, dump, out, err),
         Order::Pick {
             wires,
             part,
@@ -96,6 +99,7 @@ fn check<L: Source, S: Source, O: Sink, E: Sink>(
     name: &str,
     wires: Wires<'_>,
     words: &Part,
+    is_again: bool,
     named: &mut L,
     dump: &mut S,
     out: &mut O,
@@ -111,7 +115,7 @@ fn check<L: Source, S: Source, O: Sink, E: Sink>(
     ensures out_fault { result ≡ Err Stop.Out →
         Rose (O.faults out.old) (O.faults out.new) ⊎ Rose (E.faults err.old) (E.faults err.new) }
 {
-    let answer = check_answer(alloc, name, wires, words, named, dump)?;
+    let answer = check_answer(alloc, name, wires, words, is_again, named, dump)?;
     hand_out(&answer, out, err)
 }
 

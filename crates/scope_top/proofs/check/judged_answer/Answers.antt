@@ -18,5 +18,5 @@ pub returns-clause-ends : goal.returns-clause-ends
 returns-clause-ends g c = λ tells. record {
   answer = Ok c.in-Ok.checked;
   is_checked = c.in-Ok.ensures.checked tells;
-  ends = c.in_ok-found_answer-in-Ok.ensures;
+  ends = c.in_ok-tried_answer-in-Ok.ensures;
 }
