@@ -11,7 +11,7 @@ use Rattle.fsb_trace.specs.Rules.{phase_rules, breaks}
 use Rattle.fsb_trace.specs.Verdict.{is_broken, verdict}
 use Rattle.fsb_trace.proofs.Interface.{verdict-least}
 use Rattle.fsb_reasons.specs.declared.reason.Reason.{Reason}
-use Rattle.fsb_reasons.specs.declared.reason.Reason.TheVariants.{UnknownLines, AtStart, TooSoon, UnknownBits, Unlawful, QueueFull, Blocked, NotArbitrated, Locked, NoneAsks, NoId, ReplyByOther, IdOfOther, Dropped, Held, LockAlone, ErrorAlone, SnoopsOver, SnoopEarly, SnoopBetween, WriteBackSnooped, ReplySnooped, NothingToAnswer, ResponseEarly, CodeForNone, CodeWrong, ReadyForNone, ReadyUnwanted, ReadyEarly, ReadyTwice, ResponseUnready, DataForNone, BusyMissing, BusyForNone, UnknownData, ReplyUnawaited, IdTaken, TooMany, AddressParity, RequestParity}
+use Rattle.fsb_reasons.specs.declared.reason.Reason.TheVariants.{UnknownLines, AtStart, TooSoon, UnknownBits, Unlawful, QueueFull, Blocked, NotArbitrated, Locked, NoneAsks, NoId, ReplyByOther, IdOfOther, Dropped, Held, LockAlone, ErrorAlone, SnoopsOver, SnoopEarly, SnoopBetween, WriteBackSnooped, ReplySnooped, NothingToAnswer, ResponseEarly, CodeForNone, CodeUnsettled, CodeWrong, ReadyForNone, ReadyUnsettled, ReadyUnwanted, ReadyEarly, ReadyTwice, ResponseUnready, DataForNone, BusyMissing, BusyForNone, UnknownData, ReplyUnawaited, IdTaken, TooMany, AddressParity, RequestParity}
 use Rattle.fsb_reasons.specs.RuleOf.{rule_of}
 use Rattle.fsb_reasons.specs.Holds.{Holds, HasReason}
 use Rattle.fsb_reasons.proofs.Begins.{at_start-sound, too_soon-sound, reason_2, unknown_bits-sound, unlawful-sound, reason_3}
@@ -22,6 +22,7 @@ use Rattle.fsb_reasons.proofs.Alone.{reason_9, error_alone-sound, reason_10, sno
 use Rattle.fsb_reasons.proofs.Alone.{snoop_between-sound, reason_11, write_back-sound, reply-sound, reason_12}
 use Rattle.fsb_reasons.proofs.Alone.{unknown_data-sound, reason_17, address_parity-sound, reason_19, request_parity-sound, reason_20}
 use Rattle.fsb_reasons.proofs.Answered.{nothing_to_answer-sound, response_early-sound, reason_13, code_for_none-sound}
+use Rattle.fsb_reasons.proofs.Answered.{code_unsettled-sound, ready_unsettled-sound}
 use Rattle.fsb_reasons.proofs.Answered.{code_wrong-sound, reason_14, ready_for_none-sound, ready_unwanted-sound}
 use Rattle.fsb_reasons.proofs.Answered.{ready_early-sound, ready_twice-sound, response_unready-sound, reason_15}
 use Rattle.fsb_reasons.proofs.Moved.{data_for_none-sound, busy_missing-sound, busy_for_none-sound, reason_16}
@@ -48,17 +49,19 @@ sound m v c (Dropped who) h = dropped-sound m v c who h
 sound m v c (Held who) h = held-sound m v c who h
 sound m v c LockAlone h = lock_alone-sound m v c h
 sound m v c (ErrorAlone last) h = error_alone-sound m v c last h
-sound m v c (SnoopsOver line) h = snoops_over-sound m v c line h
-sound m v c (SnoopEarly line request start) h = snoop_early-sound m v c line request start h
-sound m v c (SnoopBetween line request start) h = snoop_between-sound m v c line request start h
-sound m v c (WriteBackSnooped line request) h = write_back-sound m v c line request h
-sound m v c (ReplySnooped line request) h = reply-sound m v c line request h
+sound m v c (SnoopsOver lines) h = snoops_over-sound m v c lines h
+sound m v c (SnoopEarly lines request start) h = snoop_early-sound m v c lines request start h
+sound m v c (SnoopBetween lines request start) h = snoop_between-sound m v c lines request start h
+sound m v c (WriteBackSnooped lines request) h = write_back-sound m v c lines request h
+sound m v c (ReplySnooped lines request) h = reply-sound m v c lines request h
 sound m v c (NothingToAnswer number) h = nothing_to_answer-sound m v c number h
 sound m v c (ResponseEarly request w earliest) h = response_early-sound m v c request w earliest h
 sound m v c (CodeForNone number code) h = code_for_none-sound m v c number code h
+sound m v c (CodeUnsettled request found expected) h = code_unsettled-sound m v c request found expected h
 sound m v c (CodeWrong request snoop_end found expected may_defer) h =
     code_wrong-sound m v c request snoop_end found expected may_defer h
 sound m v c (ReadyForNone number) h = ready_for_none-sound m v c number h
+sound m v c (ReadyUnsettled request) h = ready_unsettled-sound m v c request h
 sound m v c (ReadyUnwanted request snoop_end) h = ready_unwanted-sound m v c request snoop_end h
 sound m v c (ReadyEarly request w earliest) h = ready_early-sound m v c request w earliest h
 sound m v c (ReadyTwice request ready) h = ready_twice-sound m v c request ready h

@@ -28,10 +28,11 @@ use Rattle.fsb_trace.specs.Rules.{has_parity_at, is_address_parity_wrong, is_req
 use Rattle.fsb_trace.specs.Rules.{is_marked_address_wrong, is_marked_request_wrong}
 use Rattle.fsb_trace.proofs.Interface.{live_below_count}
 use Rattle.fsb_reasons.specs.declared.reason.Concerned.{Concerned}
+use Rattle.fsb_reasons.specs.declared.reason.SnoopLines.{SnoopLines}
 use Rattle.fsb_reasons.specs.declared.reason.Reason.TheVariants.{UnknownLines, Dropped, Held, LockAlone, ErrorAlone, SnoopsOver, SnoopEarly, SnoopBetween, WriteBackSnooped, ReplySnooped, UnknownData, AddressParity, RequestParity}
 use Rattle.fsb_reasons.specs.RuleOf.{rule_of}
-use Rattle.fsb_reasons.specs.Holds.{Holds, HasReason, IsSnooped, is_bus_agent, is_unsnooped, next_snoop}
-use Rattle.fsb_reasons.proofs.Words.{or_first, or_second, or_third, line_within, live_there}
+use Rattle.fsb_reasons.specs.Holds.{Holds, HasReason, AreSnooped, IsSnooped, is_bus_agent, is_unsnooped, next_snoop}
+use Rattle.fsb_reasons.proofs.Words.{or_first, line_within, live_there}
 
 -- 1
 
@@ -137,44 +138,54 @@ reason_10 m v c t =
 
 -- 11
 
-snooped_line : (v : Trace) (c : ℕ) (line : Lines) → IsSnooped v c line
-    → (line_at HIT v c || line_at HITM v c || line_at DEFER v c) ≡ true
-snooped_line v c line h =
-    elim (h.0) [
-      | inl e ↦ or_first _ _ _ (subst (λ x. line_at x v c ≡ true) e h.1)
-      | inr other ↦ elim other [
-        | inl e ↦ or_second _ _ _ (subst (λ x. line_at x v c ≡ true) e h.1)
-        | inr e ↦ or_third (line_at HIT v c) (line_at HITM v c) _ (subst (λ x. line_at x v c ≡ true) e h.1)
-      ]
-    ]
+three_lines : (v : Trace) (c : ℕ) (lines : SnoopLines) → AreSnooped v c lines
+    → (lines.hit || lines.hitm || lines.defer) ≡ (line_at HIT v c || line_at HITM v c || line_at DEFER v c)
+three_lines v c lines h = rw (h.0, h.1, h.2) refl
 
-snoop_alone : (v : Trace) (c : ℕ) (line : Lines) → IsSnooped v c line → is_snoop_clock v c ≡ false
+two_lines : (v : Trace) (c : ℕ) (lines : SnoopLines) → AreSnooped v c lines
+    → (lines.hitm || lines.defer) ≡ (line_at HITM v c || line_at DEFER v c)
+two_lines v c lines h = rw (h.1, h.2) refl
+
+snooped_line : (v : Trace) (c : ℕ) (lines : SnoopLines) → IsSnooped v c lines
+    → (line_at HIT v c || line_at HITM v c || line_at DEFER v c) ≡ true
+snooped_line v c lines h = sym (three_lines v c lines h.0) ∙ h.1
+
+snoop_alone : (v : Trace) (c : ℕ) (lines : SnoopLines) → IsSnooped v c lines → is_snoop_clock v c ≡ false
     → is_snoop_line_alone v c ≡ true
 unfolding is_snoop_line_alone
-snoop_alone v c line h f = and_from _ _ (snooped_line v c line h) (not_from_false _ f)
+snoop_alone v c lines h f = and_from _ _ (snooped_line v c lines h) (not_from_false _ f)
 
-pub snoops_over-sound : (m : Marks) (v : Trace) (c : ℕ) (line : Lines) → Holds m v c (SnoopsOver line)
+pub snoops_over-sound : (m : Marks) (v : Trace) (c : ℕ) (lines : SnoopLines) → Holds m v c (SnoopsOver lines)
     → is_snoop_line_alone v c ≡ true
-snoops_over-sound m v c line h = snoop_alone v c line h.0 h.1
+snoops_over-sound m v c lines h = snoop_alone v c lines h.0 h.1
 
-pub snoop_early-sound : (m : Marks) (v : Trace) (c : ℕ) (line : Lines) (request : Concerned) (start : ℕ)
-    → Holds m v c (SnoopEarly line request start) → is_snoop_line_alone v c ≡ true
-snoop_early-sound m v c line request start h = snoop_alone v c line h.0 h.1
+pub snoop_early-sound : (m : Marks) (v : Trace) (c : ℕ) (lines : SnoopLines) (request : Concerned) (start : ℕ)
+    → Holds m v c (SnoopEarly lines request start) → is_snoop_line_alone v c ≡ true
+snoop_early-sound m v c lines request start h = snoop_alone v c lines h.0 h.1
 
-pub snoop_between-sound : (m : Marks) (v : Trace) (c : ℕ) (line : Lines) (request : Concerned) (start : ℕ)
-    → Holds m v c (SnoopBetween line request start) → is_snoop_line_alone v c ≡ true
-snoop_between-sound m v c line request start h = snoop_alone v c line h.0 h.1
+pub snoop_between-sound : (m : Marks) (v : Trace) (c : ℕ) (lines : SnoopLines) (request : Concerned) (start : ℕ)
+    → Holds m v c (SnoopBetween lines request start) → is_snoop_line_alone v c ≡ true
+snoop_between-sound m v c lines request start h = snoop_alone v c lines h.0 h.1
 
--- one of the three lines is there
-which_line : (v : Trace) (c : ℕ) → (line_at HIT v c || line_at HITM v c || line_at DEFER v c) ≡ true
-    → (line : Lines) × IsSnooped v c line
-which_line v c t =
+-- the three lines, as they are
+abbrev snoop_lines : Trace → ℕ → SnoopLines
+snoop_lines v c = record { hit = line_at HIT v c; hitm = line_at HITM v c; defer = line_at DEFER v c }
+
+as_they_are : (v : Trace) (c : ℕ) → AreSnooped v c (snoop_lines v c)
+as_they_are v c = (refl, refl, refl)
+
+which_lines : (v : Trace) (c : ℕ) → (line_at HIT v c || line_at HITM v c || line_at DEFER v c) ≡ true
+    → IsSnooped v c (snoop_lines v c)
+which_lines v c t = ((refl, refl, refl), t)
+
+within_three : (v : Trace) (c : ℕ) → (line_at HIT v c || line_at HITM v c || line_at DEFER v c) ≡ true → c < length v
+within_three v c t =
     elim (or_cases _ _ t) [
       | inl two ↦ elim (or_cases _ _ two) [
-        | inl hit ↦ (HIT, (inl refl, hit))
-        | inr hitm ↦ (HITM, (inr (inl refl), hitm))
+        | inl hit ↦ line_within HIT v c hit
+        | inr hitm ↦ line_within HITM v c hitm
       ]
-      | inr defer ↦ (DEFER, (inr (inr refl), defer))
+      | inr defer ↦ line_within DEFER v c defer
     ]
 
 -- the first request that is not snooped has its snoop's start, since those before it have their ends
@@ -205,43 +216,42 @@ not_every_second v c i start l t e f =
     (not (is_before (snoop_end_of v i) c)) f (lt-ltb c (length v) l) t in
     sym (ap (λ o. is_some_and o (λ n. is_every_second_from n c)) e) ∙ off
 
-snoop_reason : (m : Marks) (v : Trace) (c i : ℕ) (line : Lines) → IsSnooped v c line → is_snoop_clock v c ≡ false
+snoop_reason : (m : Marks) (v : Trace) (c i : ℕ) (lines : SnoopLines) → IsSnooped v c lines → is_snoop_clock v c ≡ false
     → next_snoop v c ≡ Some i → HasReason m v c 11
 unfolding next_snoop is_snoop_clock is_every_second_from rule_of
-snoop_reason m v c i line h f e =
+snoop_reason m v c i lines h f e =
     let p = first_where-found (is_unsnooped v c) (live_count v) i e in
     let q = live_there v i p.0 in
     let n = start_there v c i q.0 q.1 p.2 in
     let off = any_where-none (is_snoop_clock_of v c) (live_count v) f i p.0 in
-    let odd = not_every_second v c i n.0 (line_within line v c h.1) p.1 n.1 off in
+    let odd = not_every_second v c i n.0 (within_three v c (snooped_line v c lines h)) p.1 n.1 off in
     elim (cases_lt c n.0) [
       | inl early ↦ record {
-        reason = SnoopEarly line (record { number = i; clock = q.0 }) n.0;
+        reason = SnoopEarly lines (record { number = i; clock = q.0 }) n.0;
         rule = refl;
         holds = (h, f, e, q.1, n.1, early);
       }
       | inr late ↦ elim (and_cases (nat_le n.0 c) (nat_eq ((c - n.0) % 2) 0) odd) [
         | inl before ↦ absurd (both_ways _ before (le-leb n.0 c late))
         | inr between ↦ record {
-          reason = SnoopBetween line (record { number = i; clock = q.0 }) n.0;
+          reason = SnoopBetween lines (record { number = i; clock = q.0 }) n.0;
           rule = refl;
           holds = (h, f, e, q.1, n.1, late, between);
         }
       ]
     ]
 
-snoop-cases : (m : Marks) (v : Trace) (c : ℕ) (line : Lines) (o : Option ℕ) → IsSnooped v c line
+snoop-cases : (m : Marks) (v : Trace) (c : ℕ) (lines : SnoopLines) (o : Option ℕ) → IsSnooped v c lines
     → is_snoop_clock v c ≡ false → next_snoop v c ≡ o → HasReason m v c 11
 unfolding rule_of
-snoop-cases m v c line None h f e = record { reason = SnoopsOver line; rule = refl; holds = (h, f, e) }
-snoop-cases m v c line (Some i) h f e = snoop_reason m v c i line h f e
+snoop-cases m v c lines None h f e = record { reason = SnoopsOver lines; rule = refl; holds = (h, f, e) }
+snoop-cases m v c lines (Some i) h f e = snoop_reason m v c i lines h f e
 
 pub reason_11 : (m : Marks) (v : Trace) (c : ℕ) → is_snoop_line_alone v c ≡ true → HasReason m v c 11
 unfolding is_snoop_line_alone
 reason_11 m v c t =
     let p = and_parts _ _ t in
-    let line = which_line v c p.0 in
-    snoop-cases m v c line.0 (next_snoop v c) line.1 (not-true _ p.1) refl
+    snoop-cases m v c (snoop_lines v c) (next_snoop v c) (which_lines v c p.0) (not-true _ p.1) refl
 
 -- 12
 
@@ -267,35 +277,28 @@ reply_unfit false true a false true e t = refl
 reply_unfit w true a false false e t = absurd (let no : ⊥ = cc in no)
 reply_unfit w false a b d e t = absurd (let no : ⊥ = cc in no)
 
-pub write_back-sound : (m : Marks) (v : Trace) (c : ℕ) (line : Lines) (request : Concerned)
-    → Holds m v c (WriteBackSnooped line request) → is_snoop_result_unfit v c ≡ true
+pub write_back-sound : (m : Marks) (v : Trace) (c : ℕ) (lines : SnoopLines) (request : Concerned)
+    → Holds m v c (WriteBackSnooped lines request) → is_snoop_result_unfit v c ≡ true
 unfolding is_result_unfit_for
-write_back-sound m v c line request h =
+write_back-sound m v c lines request h =
     unfit v c request.number request.clock h.1
     (and_from _ _ (is_at-from _ c h.2)
     (write_back_unfit (is_write_back (live_request_of v request.number)) (is_reply (live_request_of v request.number))
-    (line_at HIT v c) (line_at HITM v c) (line_at DEFER v c) h.3 (snooped_line v c line h.0)))
+    (line_at HIT v c) (line_at HITM v c) (line_at DEFER v c) h.3 (snooped_line v c lines h.0)))
 
-pub reply-sound : (m : Marks) (v : Trace) (c : ℕ) (line : Lines) (request : Concerned)
-    → Holds m v c (ReplySnooped line request) → is_snoop_result_unfit v c ≡ true
+pub reply-sound : (m : Marks) (v : Trace) (c : ℕ) (lines : SnoopLines) (request : Concerned)
+    → Holds m v c (ReplySnooped lines request) → is_snoop_result_unfit v c ≡ true
 unfolding is_result_unfit_for
-reply-sound m v c line request h =
-    let there : (line_at HITM v c || line_at DEFER v c) ≡ true = elim (h.0) [
-      | inl e ↦ or_left _ _ (subst (λ x. line_at x v c ≡ true) e h.1)
-      | inr e ↦ or_right _ _ (subst (λ x. line_at x v c ≡ true) e h.1)
-    ] in
+reply-sound m v c lines request h =
+    let there : (line_at HITM v c || line_at DEFER v c) ≡ true = sym (two_lines v c lines h.0) ∙ h.1 in
     unfit v c request.number request.clock h.2
     (and_from _ _ (is_at-from _ c h.3)
     (reply_unfit (is_write_back (live_request_of v request.number)) (is_reply (live_request_of v request.number))
     (line_at HIT v c) (line_at HITM v c) (line_at DEFER v c) h.4 there))
 
-two_lines : (v : Trace) (c : ℕ) → (line_at HITM v c || line_at DEFER v c) ≡ true
-    → (line : Lines) × ((line ≡ HITM) ⊎ (line ≡ DEFER)) × (line_at line v c ≡ true)
-two_lines v c t =
-    elim (or_cases _ _ t) [
-      | inl hitm ↦ (HITM, inl refl, hitm)
-      | inr defer ↦ (DEFER, inr refl, defer)
-    ]
+or_rest : (a b d : Bool) → (b || d) ≡ true → (a || b || d) ≡ true
+or_rest true b d t = refl
+or_rest false b d t = t
 
 unfit_parts : (w r a b d : Bool) → ((w || r) && (b || d) || w && a) ≡ true
     → ((w ≡ true) × (a ≡ true)) ⊎ ((w || r) ≡ true) × ((b || d) ≡ true)
@@ -314,22 +317,21 @@ unfit-reason m v c i q e s t =
     elim (unfit_parts (is_write_back (live_request_of v i)) (is_reply (live_request_of v i)) (line_at HIT v c)
     (line_at HITM v c) (line_at DEFER v c) t) [
       | inl hit ↦ record {
-        reason = WriteBackSnooped HIT (record { number = i; clock = q });
+        reason = WriteBackSnooped (snoop_lines v c) (record { number = i; clock = q });
         rule = refl;
-        holds = ((inl refl, hit.1), e, s, hit.0);
+        holds = (which_lines v c (or_first _ _ _ hit.1), e, s, hit.0);
       }
       | inr both ↦
-          let line = two_lines v c both.1 in
           elim (or_cases (is_write_back (live_request_of v i)) (is_reply (live_request_of v i)) both.0) [
             | inl back ↦ record {
-              reason = WriteBackSnooped line.0 (record { number = i; clock = q });
+              reason = WriteBackSnooped (snoop_lines v c) (record { number = i; clock = q });
               rule = refl;
-              holds = ((inr line.1, line.2), e, s, back);
+              holds = (which_lines v c (or_rest (line_at HIT v c) _ _ both.1), e, s, back);
             }
             | inr reply ↦ record {
-              reason = ReplySnooped line.0 (record { number = i; clock = q });
+              reason = ReplySnooped (snoop_lines v c) (record { number = i; clock = q });
               rule = refl;
-              holds = (line.1, line.2, e, s, reply);
+              holds = (as_they_are v c, both.1, e, s, reply);
             }
           ]
     ]

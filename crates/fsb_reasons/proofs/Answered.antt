@@ -12,7 +12,7 @@ use Rattle.fsb_signal.specs.Samples.{line_at}
 use Rattle.fsb_trace.specs.declared.outcome.Outcome.{Outcome}
 use Rattle.fsb_trace.specs.declared.outcome.Outcome.TheVariants.{Granted, Handed, Retried, Deferred, Written, Upgraded}
 use Rattle.fsb_trace.specs.At.{Trace, responds_at, response_code_at}
-use Rattle.fsb_trace.specs.Requests.{live_count, live_request_of, is_write_back, is_upgrade}
+use Rattle.fsb_trace.specs.Requests.{live_count, live_clock_of, live_request_of, is_write_back, is_upgrade}
 use Rattle.fsb_trace.specs.Snoop.{snoop_end_of, line_at_snoop_end}
 use Rattle.fsb_trace.specs.Outcome.{response_code_of}
 use Rattle.fsb_trace.specs.Response.{takes, end_of, is_clear_before, answer_from, ready_clock_of}
@@ -21,7 +21,7 @@ use Rattle.fsb_trace.specs.Rules.{has_code_at, is_code_wrong, is_ready_in_time, 
 use Rattle.fsb_reasons.specs.declared.reason.Concerned.{Concerned}
 use Rattle.fsb_reasons.specs.declared.reason.Wait.{Wait}
 use Rattle.fsb_reasons.specs.declared.reason.Wait.TheVariants.{NoSnoopEnd, SnoopEnd, NotClear}
-use Rattle.fsb_reasons.specs.declared.reason.Reason.TheVariants.{NothingToAnswer, ResponseEarly, CodeForNone, CodeWrong, ReadyForNone, ReadyUnwanted, ReadyEarly, ReadyTwice, ResponseUnready}
+use Rattle.fsb_reasons.specs.declared.reason.Reason.TheVariants.{NothingToAnswer, ResponseEarly, CodeForNone, CodeUnsettled, CodeWrong, ReadyForNone, ReadyUnsettled, ReadyUnwanted, ReadyEarly, ReadyTwice, ResponseUnready}
 use Rattle.fsb_reasons.specs.RuleOf.{rule_of}
 use Rattle.fsb_reasons.specs.Holds.{Holds, HasReason, Waits, expected_of, may_defer_of}
 use Rattle.fsb_reasons.proofs.Words.{live_there, live_past, no_end}
@@ -34,13 +34,15 @@ waits-none v c i NoSnoopEnd h = and_left _ _ (ap (λ o. is_some_and o (λ s. nat
 waits-none v c i (SnoopEnd s) h =
     and_left _ _ (ap (λ o. is_some_and o (λ s. nat_le (s + 2) c)) h.0 ∙ lt-leb (s + 2) c h.1)
 waits-none v c i (NotClear end) h =
-    let busy : is_clear_before v (suc h.0) c ≡ false = ap (λ o. is_before o c) h.2 ∙ h.3 in
-    and_right _ _ (subst (λ x. is_clear_before v x c ≡ false) (sym h.1) busy)
+    let k = h.1 in
+    let busy : is_clear_before v (suc k.0) c ≡ false = ap (λ o. is_before o c) k.2 ∙ k.3 in
+    and_right _ _ (subst (λ x. is_clear_before v x c ≡ false) (sym k.1) busy)
 
-not_clear : (v : Trace) (c i : ℕ) → is_clear_before v i c ≡ false → (w : Wait) × Waits v c i w
+not_clear : (v : Trace) (c i s : ℕ) → snoop_end_of v i ≡ Some s → s + 2 ≤ c → is_clear_before v i c ≡ false
+    → (w : Wait) × Waits v c i w
 unfolding is_clear_before
-not_clear v c zero f = absurd (let no : ⊥ = cc in no)
-not_clear v c (suc j) f = (NotClear (end_of v j), (j, refl, refl, f))
+not_clear v c zero s e l f = absurd (let no : ⊥ = cc in no)
+not_clear v c (suc j) s e l f = (NotClear (end_of v j), ((s, e, l), (j, refl, refl, f)))
 
 waits-cases : (v : Trace) (c i : ℕ) (o : Option ℕ) → snoop_end_of v i ≡ o
     → (is_some_and o (λ s. nat_le (s + 2) c) && is_clear_before v i c) ≡ false → (w : Wait) × Waits v c i w
@@ -51,7 +53,7 @@ waits-cases v c i (Some s) e f =
       | inl early ↦ (SnoopEnd s, (e, early))
       | inr late ↦ elim (and_cases _ _ f) [
         | inl g ↦ absurd (both_ways _ g (le-leb (s + 2) c late))
-        | inr g ↦ not_clear v c i g
+        | inr g ↦ not_clear v c i s e late g
       ]
     ]
 
@@ -141,7 +143,28 @@ pub code_for_none-sound : (m : Marks) (v : Trace) (c number code : ℕ) → Hold
     → is_code_wrong v c ≡ true
 code_for_none-sound m v c number code h = code_wrong v c number h.0 (h.2).0 (no_code v c number (h.2).1)
 
-pub code_wrong-sound : (m : Marks) (v : Trace) (c : ℕ) (request : Concerned) (snoop_end : Option ℕ) (found : ℕ)
+and_middle : (a b n : Bool) → (a && b && false && n) ≡ false
+and_middle true true n = refl
+and_middle true false n = refl
+and_middle false b n = refl
+
+no_defer : (v : Trace) (i : ℕ) → snoop_end_of v i ≡ None → may_defer_of v i ≡ false
+unfolding may_defer_of line_at_snoop_end is_some_and
+no_defer v i e =
+    rw e (and_middle true (not (is_write_back (live_request_of v i))) (has_den (live_request_of v i)))
+
+pub code_unsettled-sound : (m : Marks) (v : Trace) (c : ℕ) (request : Concerned) (found : ℕ) (expected : Outcome)
+    → Holds m v c (CodeUnsettled request found expected) → is_code_wrong v c ≡ true
+code_unsettled-sound m v c request found expected h =
+    let i : ℕ = request.number in
+    let one : nat_eq found (response_code_of (expected_of v i)) ≡ false =
+    ap (λ o. nat_eq found (response_code_of o)) h.4 ∙ h.5 in
+    let other : (may_defer_of v i && nat_eq found (response_code_of Deferred)) ≡ false =
+    and_left _ _ (no_defer v i h.3) in
+    let off : is_code_for v i found ≡ false = code_for v i found ∙ or_from _ _ one other in
+    code_wrong v c i h.0 (h.2).0 (other_code v c i (ap (is_code_for v i) h.1 ∙ off))
+
+pub code_wrong-sound : (m : Marks) (v : Trace) (c : ℕ) (request : Concerned) (snoop_end found : ℕ)
     (expected : Outcome) (may_defer : Bool) → Holds m v c (CodeWrong request snoop_end found expected may_defer)
     → is_code_wrong v c ≡ true
 code_wrong-sound m v c request snoop_end found expected may_defer h =
@@ -152,6 +175,23 @@ code_wrong-sound m v c request snoop_end found expected may_defer h =
     ap (λ b. b && nat_eq found (response_code_of Deferred)) h.5 ∙ h.7 in
     let off : is_code_for v i found ≡ false = code_for v i found ∙ or_from _ _ one other in
     code_wrong v c i h.0 (h.2).0 (other_code v c i (ap (is_code_for v i) h.1 ∙ off))
+
+code-cases : (m : Marks) (v : Trace) (c n q : ℕ) (o : Option ℕ) → n ≡ next_response v c → live_clock_of v n ≡ Some q
+    → responds_soundly v c ≡ true → snoop_end_of v n ≡ o
+    → nat_eq (response_code_at v c) (response_code_of (expected_of v n)) ≡ false
+    → (may_defer_of v n && nat_eq (response_code_at v c) (response_code_of Deferred)) ≡ false → HasReason m v c 14
+unfolding rule_of
+code-cases m v c n q None next e t s a b = record {
+  reason = CodeUnsettled (record { number = n; clock = q }) (response_code_at v c) (expected_of v n);
+  rule = refl;
+  holds = (t, refl, (next, e), s, refl, a);
+}
+code-cases m v c n q (Some end) next e t s a b = record {
+  reason = CodeWrong (record { number = n; clock = q }) end (response_code_at v c) (expected_of v n)
+      (may_defer_of v n);
+  rule = refl;
+  holds = (t, refl, (next, e), s, refl, refl, a, b);
+}
 
 pub reason_14 : (m : Marks) (v : Trace) (c : ℕ) → is_code_wrong v c ≡ true → HasReason m v c 14
 unfolding is_code_wrong has_code_at rule_of
@@ -165,12 +205,7 @@ reason_14 m v c t =
             | inl dead ↦ absurd (both_ways _ dead (lt-ltb n (live_count v) live))
             | inr off ↦
                 let both = or_parts _ _ (sym (code_for v n (response_code_at v c)) ∙ off) in
-                record {
-                  reason = CodeWrong (record { number = n; clock = q.0 }) (snoop_end_of v n) (response_code_at v c)
-                      (expected_of v n) (may_defer_of v n);
-                  rule = refl;
-                  holds = (p.0, refl, (refl, q.1), refl, refl, refl, both.0, both.1);
-                }
+                code-cases m v c n q.0 (snoop_end_of v n) refl q.1 p.0 refl both.0 both.1
           ]
       | inr past ↦ record {
         reason = CodeForNone n (response_code_at v c);
@@ -199,7 +234,18 @@ pub ready_for_none-sound : (m : Marks) (v : Trace) (c number : ℕ) → Holds m 
 ready_for_none-sound m v c number h =
     ready_wrong v c number h.0 (h.1).0 (wrongly_unfit v c number (and_left _ _ (no_takes v number (h.1).1)))
 
-pub ready_unwanted-sound : (m : Marks) (v : Trace) (c : ℕ) (request : Concerned) (snoop_end : Option ℕ)
+unsettled_takes : (v : Trace) (i : ℕ) → snoop_end_of v i ≡ None → is_write_back (live_request_of v i) ≡ false
+    → takes v i ≡ false
+unfolding takes line_at_snoop_end is_some_and
+unsettled_takes v i e f = rw (e, f) refl
+
+pub ready_unsettled-sound : (m : Marks) (v : Trace) (c : ℕ) (request : Concerned)
+    → Holds m v c (ReadyUnsettled request) → is_target_ready_wrong v c ≡ true
+ready_unsettled-sound m v c request h =
+    let i : ℕ = request.number in
+    ready_wrong v c i h.0 (h.1).0 (wrongly_unfit v c i (and_left _ _ (unsettled_takes v i h.2 h.3)))
+
+pub ready_unwanted-sound : (m : Marks) (v : Trace) (c : ℕ) (request : Concerned) (snoop_end : ℕ)
     → Holds m v c (ReadyUnwanted request snoop_end) → is_target_ready_wrong v c ≡ true
 ready_unwanted-sound m v c request snoop_end h =
     ready_wrong v c request.number h.0 (h.1).0 (wrongly_unfit v c request.number (and_left _ _ h.3))
@@ -228,6 +274,21 @@ pub response_unready-sound : (m : Marks) (v : Trace) (c : ℕ) (request : Concer
     → Holds m v c (ResponseUnready request ready earliest) → is_target_ready_wrong v c ≡ true
 response_unready-sound m v c request ready earliest h = unready v c request.number h.0 (h.1).0 h.2 h.4
 
+unwanted-reason : (m : Marks) (v : Trace) (c n q : ℕ) (o : Option ℕ) → n ≡ next_response v c
+    → live_clock_of v n ≡ Some q → line_at TRDY v c ≡ true → snoop_end_of v n ≡ o → takes v n ≡ false
+    → HasReason m v c 15
+unfolding rule_of takes
+unwanted-reason m v c n q None next e t s f = record {
+  reason = ReadyUnsettled (record { number = n; clock = q });
+  rule = refl;
+  holds = (t, (next, e), s, (or_parts _ _ f).0);
+}
+unwanted-reason m v c n q (Some end) next e t s f = record {
+  reason = ReadyUnwanted (record { number = n; clock = q }) end;
+  rule = refl;
+  holds = (t, (next, e), s, f);
+}
+
 trdy-reason : (m : Marks) (v : Trace) (c n : ℕ) → n ≡ next_response v c → line_at TRDY v c ≡ true
     → is_ready_wrongly v c n ≡ true → HasReason m v c 15
 unfolding is_ready_wrongly rule_of
@@ -237,11 +298,7 @@ trdy-reason m v c n e t w =
       | inl live ↦
           let q = live_there v n live in
           elim (cases_Bool (takes v n)) [
-            | inr unwanted ↦ record {
-              reason = ReadyUnwanted (record { number = n; clock = q.0 }) (snoop_end_of v n);
-              rule = refl;
-              holds = (t, (e, q.1), refl, unwanted);
-            }
+            | inr unwanted ↦ unwanted-reason m v c n q.0 (snoop_end_of v n) e q.1 t refl unwanted
             | inl wanted ↦ elim (cases_Bool (may_answer v c n)) [
               | inr off ↦
                   let wait = waits v c n off in

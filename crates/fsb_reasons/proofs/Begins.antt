@@ -106,9 +106,9 @@ unlawful v c t e = and_from _ _ t (ap (λ o. is_none o) e)
 pub unknown_bits-sound : (m : Marks) (v : Trace) (c clock : ℕ) → Holds m v c (UnknownBits clock)
     → is_code_unlawful v c ≡ true
 unknown_bits-sound m v c clock h =
-    elim (h.1) [
-      | inl e ↦ unlawful v c h.0 (first_none v (c - 1) (subst (λ x. known_pair_at v x ≡ None) e h.2))
-      | inr e ↦ unlawful v c h.0 (second_none v (c - 1) (subst (λ x. known_pair_at v x ≡ None) e h.2))
+    elim (h.2) [
+      | inl e ↦ unlawful v c h.0 (first_none v (c - 1) (subst (λ x. known_pair_at v x ≡ None) e h.1))
+      | inr e ↦ unlawful v c h.0 (second_none v (c - 1) (subst (λ x. known_pair_at v x ≡ None) e.0 h.1))
     ]
 
 pub unlawful-sound : (m : Marks) (v : Trace) (c : ℕ) (fault : DecodeFault) → Holds m v c (Unlawful fault)
@@ -130,9 +130,9 @@ unlawful-cases : (m : Marks) (v : Trace) (c : ℕ) (x y : Option Pair) → line_
     → known_pair_at v (c - 1) ≡ x → known_pair_at v (c - 1 + 1) ≡ y → request_at v (c - 1) ≡ None → HasReason m v c 3
 unfolding rule_of request_at
 unlawful-cases m v c None y t e f n =
-    record { reason = UnknownBits (c - 1); rule = refl; holds = (t, inl refl, e) }
+    record { reason = UnknownBits (c - 1); rule = refl; holds = (t, e, inl refl) }
 unlawful-cases m v c (Some a) None t e f n =
-    record { reason = UnknownBits (c - 1 + 1); rule = refl; holds = (t, inr refl, f) }
+    record { reason = UnknownBits (c - 1 + 1); rule = refl; holds = (t, f, inr (refl, ap (λ o. is_some o) e)) }
 unlawful-cases m v c (Some a) (Some b) t e f n =
     let none : request_of a b ≡ None = rw (e, f) at n in
     let g = faulty a b none in
@@ -260,6 +260,28 @@ none_asks-sound m v c clock h =
     (λ a l. subst (λ x. line_at (bus_request_of a) v x ≡ false) same (h.4 a l)) in
     no_winner v c h.0 (winner_asking v c (omega (arith, at)) lock bpri ∙ ap (option_map Symmetric) none)
 
+-- where there is no winner, by LOCK# two clocks before
+pub unwon-locked : (m : Marks) (v : Trace) (c : ℕ) → line_at ADS v c ≡ true → winner_at v c ≡ None → 2 ≤ c
+    → line_at LOCK v (c - 2) ≡ true → Holds m v c (Locked (last_agent v c))
+unwon-locked m v c ads none high lock = (ads, high, lock, refl, sym (winner_locked v c high lock) ∙ none)
+
+pub unwon-free : (m : Marks) (v : Trace) (c : ℕ) → line_at ADS v c ≡ true → winner_at v c ≡ None → 2 ≤ c
+    → line_at LOCK v (c - 2) ≡ false → Holds m v c (NoneAsks (c - 2))
+unwon-free m v c ads none high free =
+    elim (cases_Bool (line_at BPRI v (c - 2))) [
+      | inl bpri ↦
+          let wins = winner_high v c high ∙ winner_by-priority v (c - 2) (requesters_before v c) free bpri in
+          absurd (let no : ⊥ = cc in no)
+      | inr quiet ↦
+          let asking = symmetric_none _ (sym (winner_asking v c high free quiet) ∙ none) in (
+            ads,
+            omega (arith, high),
+            free,
+            quiet,
+            asking_none v (c - 2) _ (first_below (last_symmetric v c)) asking,
+          )
+    ]
+
 pub reason_6 : (m : Marks) (v : Trace) (c : ℕ) → has_no_winner v c ≡ true → HasReason m v c 6
 unfolding has_no_winner rule_of
 reason_6 m v c t =
@@ -271,26 +293,13 @@ reason_6 m v c t =
         | inl lock ↦ record {
           reason = Locked (last_agent v c);
           rule = refl;
-          holds = (p.0, high, lock, refl, sym (winner_locked v c high lock) ∙ none);
+          holds = unwon-locked m v c p.0 none high lock;
         }
-        | inr free ↦ elim (cases_Bool (line_at BPRI v (c - 2))) [
-          | inl bpri ↦
-              let wins = winner_high v c high ∙ winner_by-priority v (c - 2) (requesters_before v c) free bpri in
-              absurd (let no : ⊥ = cc in no)
-          | inr quiet ↦
-              let asking = symmetric_none _ (sym (winner_asking v c high free quiet) ∙ none) in
-              record {
-                reason = NoneAsks (c - 2);
-                rule = refl;
-                holds = (
-                  p.0,
-                  omega (arith, high),
-                  free,
-                  quiet,
-                  asking_none v (c - 2) _ (first_below (last_symmetric v c)) asking,
-                );
-              }
-        ]
+        | inr free ↦ record {
+          reason = NoneAsks (c - 2);
+          rule = refl;
+          holds = unwon-free m v c p.0 none high free;
+        }
       ]
     ]
 
@@ -301,16 +310,16 @@ wrong : (v : Trace) (c : ℕ) → line_back ADS v c 1 ≡ true
 unfolding is_identity_wrong
 wrong v c t f = and_from _ _ t (not_from_false _ f)
 
-identified-none : (winner : Option Who) → is_identified winner None ≡ false
+pub identified-none : (winner : Option Who) → is_identified winner None ≡ false
 unfolding is_identified is_reply is_some_and
 identified-none winner = refl
 
-identified-reply : (winner : Option Who) (request : Option Request) → is_reply request ≡ true
+pub identified-reply : (winner : Option Who) (request : Option Request) → is_reply request ≡ true
     → is_identified winner request ≡ is_agent winner Priority
 unfolding is_identified
 identified-reply winner request t = rw t refl
 
-identified-other : (winner : Option Who) (r : Request) → is_reply (Some r) ≡ false
+pub identified-other : (winner : Option Who) (r : Request) → is_reply (Some r) ≡ false
     → is_identified winner (Some r) ≡ is_agent winner (Symmetric (r.did / 16))
 unfolding is_identified is_some_and is_own_id is_agent
 identified-other winner r f = rw f refl

@@ -6,3 +6,4 @@ pub mod Moved
 pub mod Earliest
 pub mod All
 pub mod Rows
+pub mod Interface

@@ -28,7 +28,7 @@ second_request_too_soon = (refl, refl, refl, omega arith)
 pub ready_for_a_read : Holds no_marks
     (clock (BREQ0 ∷ []) 0x0 0x0 ∷ clock (BREQ0 ∷ []) 0x0 0x0 ∷ clock (BREQ0 ∷ ADS ∷ []) 0x6 0x8 ∷ clock [] 0x2 0x2
     ∷ idle ∷ idle ∷ idle ∷ idle ∷ clock (TRDY ∷ []) 0x0 0x0 ∷ []) 8
-    (ReadyUnwanted (record { number = 0; clock = 2 }) (Some 6))
+    (ReadyUnwanted (record { number = 0; clock = 2 }) 6)
 unfolding line_at is_some_and first_where count_where all_where nth_where is_lawful_request are_lawful_fields high_bit
     den_bit clocks row_of pairs_of req_words kind_of read_off is_pair is_coded_as if_coded_as request_of
     response_code_at responds_at stalls_at known_pair known_pair_at request_at is_cancelled is_live live_clock_of

@@ -1,5 +1,5 @@
 -- What a reason says of clock c of a trace, which is to end there.
-use Rattle.std.specs.Prelude.{◌≡◌, ◌<◌, ◌≤◌, ◌⊎◌, ℕ, suc, ◌+◌, ◌-◌, ◌/◌, ◌%◌, Bool, true, false, ◌&&◌, not, nat_eq, nat_lt, ◌==◌, if◌then◌else◌, Option, Some, None, Err, length, slice_get}
+use Rattle.std.specs.Prelude.{◌≡◌, ◌<◌, ◌≤◌, ◌⊎◌, ℕ, suc, ◌+◌, ◌-◌, ◌/◌, ◌%◌, Bool, true, false, ◌&&◌, ◌||◌, not, is_some, nat_eq, nat_lt, ◌==◌, if◌then◌else◌, Option, Some, None, Err, length, slice_get}
 use Rattle.std.specs.Option.{option_map}
 use Rattle.fsb_count.specs.Options.{is_before}
 use Rattle.fsb_count.specs.Clocks.{first_where, last_where, any_where, count_where, from_clock}
@@ -27,10 +27,11 @@ use Rattle.fsb_trace.specs.Flight.{in_flight}
 use Rattle.fsb_trace.specs.Rules.{next_response, has_den, responds_soundly, is_ready_in_time, is_transferring, awaits_reply, is_id_taken_by, is_outstanding_of_winner, has_parity_at}
 use Rattle.fsb_reasons.specs.RuleOf.{rule_of}
 use Rattle.fsb_reasons.specs.declared.reason.Concerned.{Concerned}
+use Rattle.fsb_reasons.specs.declared.reason.SnoopLines.{SnoopLines}
 use Rattle.fsb_reasons.specs.declared.reason.Wait.{Wait}
 use Rattle.fsb_reasons.specs.declared.reason.Wait.TheVariants.{NoSnoopEnd, SnoopEnd, NotClear}
 use Rattle.fsb_reasons.specs.declared.reason.Reason.{Reason}
-use Rattle.fsb_reasons.specs.declared.reason.Reason.TheVariants.{UnknownLines, AtStart, TooSoon, UnknownBits, Unlawful, QueueFull, Blocked, NotArbitrated, Locked, NoneAsks, NoId, ReplyByOther, IdOfOther, Dropped, Held, LockAlone, ErrorAlone, SnoopsOver, SnoopEarly, SnoopBetween, WriteBackSnooped, ReplySnooped, NothingToAnswer, ResponseEarly, CodeForNone, CodeWrong, ReadyForNone, ReadyUnwanted, ReadyEarly, ReadyTwice, ResponseUnready, DataForNone, BusyMissing, BusyForNone, UnknownData, ReplyUnawaited, IdTaken, TooMany, AddressParity, RequestParity}
+use Rattle.fsb_reasons.specs.declared.reason.Reason.TheVariants.{UnknownLines, AtStart, TooSoon, UnknownBits, Unlawful, QueueFull, Blocked, NotArbitrated, Locked, NoneAsks, NoId, ReplyByOther, IdOfOther, Dropped, Held, LockAlone, ErrorAlone, SnoopsOver, SnoopEarly, SnoopBetween, WriteBackSnooped, ReplySnooped, NothingToAnswer, ResponseEarly, CodeForNone, CodeUnsettled, CodeWrong, ReadyForNone, ReadyUnsettled, ReadyUnwanted, ReadyEarly, ReadyTwice, ResponseUnready, DataForNone, BusyMissing, BusyForNone, UnknownData, ReplyUnawaited, IdTaken, TooMany, AddressParity, RequestParity}
 
 -- the live request of this number begins at this clock
 abbrev pub IsRequest : Trace → Concerned → Type 0
@@ -48,16 +49,23 @@ IsNone v c number = (number ≡ next_response v c) × (live_count v ≤ number)
 abbrev pub Waits : Trace → ℕ → ℕ → Wait → Type 0
 Waits v c i NoSnoopEnd = snoop_end_of v i ≡ None
 Waits v c i (SnoopEnd s) = (snoop_end_of v i ≡ Some s) × (c < s + 2)
-Waits v c i (NotClear end) = (j : ℕ) × (i ≡ suc j) × (end_of v j ≡ end) × (is_before end c ≡ false)
+Waits v c i (NotClear end) =
+    ((s : ℕ) × (snoop_end_of v i ≡ Some s) × (s + 2 ≤ c))
+    × ((j : ℕ) × (i ≡ suc j) × (end_of v j ≡ end) × (is_before end c ≡ false))
 
 -- the agent is one of the five of the bus
 unfoldable pub is_bus_agent : Who → Bool
 is_bus_agent (Symmetric a) = nat_lt a 4
 is_bus_agent Priority = true
 
--- the line is HIT#, HITM# or DEFER#, and is asserted at c
-abbrev pub IsSnooped : Trace → ℕ → Lines → Type 0
-IsSnooped v c line = ((line ≡ HIT) ⊎ (line ≡ HITM) ⊎ (line ≡ DEFER)) × (line_at line v c ≡ true)
+-- these of HIT#, HITM# and DEFER# are asserted at c
+abbrev pub AreSnooped : Trace → ℕ → SnoopLines → Type 0
+AreSnooped v c lines =
+    (lines.hit ≡ line_at HIT v c) × (lines.hitm ≡ line_at HITM v c) × (lines.defer ≡ line_at DEFER v c)
+
+-- and one of them at least is
+abbrev pub IsSnooped : Trace → ℕ → SnoopLines → Type 0
+IsSnooped v c lines = AreSnooped v c lines × ((lines.hit || lines.hitm || lines.defer) ≡ true)
 
 -- live request i has not had its snoop end below c
 unfoldable pub is_unsnooped : Trace → ℕ → ℕ → Bool
@@ -101,9 +109,10 @@ Holds m v c AtStart = (line_at ADS v c ≡ true) × (c < 2)
 -- 2: ADS# is at c, less than three clocks after the last one before
 Holds m v c (TooSoon before earliest) =
     (line_at ADS v c ≡ true) × (last_where (line_at ADS v) c ≡ Some before) × (earliest ≡ before + 3) × (c < earliest)
--- 3: ADS# is at c - 1, and this one of the two clocks has an unknown bit in its address or REQ word
+-- 3: ADS# is at c - 1, and this one of the two clocks is the first with an unknown bit in its address or REQ word
 Holds m v c (UnknownBits clock) =
-    (line_back ADS v c 1 ≡ true) × ((clock ≡ c - 1) ⊎ (clock ≡ c - 1 + 1)) × (known_pair_at v clock ≡ None)
+    (line_back ADS v c 1 ≡ true) × (known_pair_at v clock ≡ None)
+    × ((clock ≡ c - 1) ⊎ ((clock ≡ c - 1 + 1) × (is_some (known_pair_at v (c - 1)) ≡ true)))
 -- 3: ADS# is at c - 1, and the two clocks hold no lawful request, for this fault
 Holds m v c (Unlawful fault) =
     (line_back ADS v c 1 ≡ true) × (request_at v (c - 1) ≡ None) × IsFaulty v (c - 1) fault
@@ -146,24 +155,24 @@ Holds m v c LockAlone =
 -- 10: AERR# is at c, ADS# is not at c - 3, and the last request before c begins there
 Holds m v c (ErrorAlone last) =
     (line_at AERR v c ≡ true) × (line_back ADS v c 3 ≡ false) × (last ≡ last_where (line_at ADS v) c)
--- 11: the line is at c, which is no snoop clock, and every live request has its snoop end below c
-Holds m v c (SnoopsOver line) = IsSnooped v c line × (is_snoop_clock v c ≡ false) × (next_snoop v c ≡ None)
--- 11: the line is at c, which is no snoop clock; the snoop of the next request to be snooped starts after c
-Holds m v c (SnoopEarly line request start) =
-    IsSnooped v c line × (is_snoop_clock v c ≡ false) × (next_snoop v c ≡ Some request.number) × IsRequest v request
+-- 11: these lines are at c, which is no snoop clock, and every live request has its snoop end below c
+Holds m v c (SnoopsOver lines) = IsSnooped v c lines × (is_snoop_clock v c ≡ false) × (next_snoop v c ≡ None)
+-- 11: these lines are at c, which is no snoop clock; the snoop of the next request to be snooped starts after c
+Holds m v c (SnoopEarly lines request start) =
+    IsSnooped v c lines × (is_snoop_clock v c ≡ false) × (next_snoop v c ≡ Some request.number) × IsRequest v request
     × (snoop_start_of v request.number ≡ Some start) × (c < start)
--- 11: the line is at c, which is no snoop clock; the snoop of the next request to be snooped started before c, an odd
+-- 11: these lines are at c, which is no snoop clock; the snoop of the next request to be snooped started before c, an odd
 -- number of clocks
-Holds m v c (SnoopBetween line request start) =
-    IsSnooped v c line × (is_snoop_clock v c ≡ false) × (next_snoop v c ≡ Some request.number) × IsRequest v request
+Holds m v c (SnoopBetween lines request start) =
+    IsSnooped v c lines × (is_snoop_clock v c ≡ false) × (next_snoop v c ≡ Some request.number) × IsRequest v request
     × (snoop_start_of v request.number ≡ Some start) × (start ≤ c) × (nat_eq ((c - start) % 2) 0 ≡ false)
--- 12: a write-back has its snoop end at c, with the line
-Holds m v c (WriteBackSnooped line request) =
-    IsSnooped v c line × IsRequest v request × (snoop_end_of v request.number ≡ Some c)
+-- 12: a write-back has its snoop end at c, with these lines
+Holds m v c (WriteBackSnooped lines request) =
+    IsSnooped v c lines × IsRequest v request × (snoop_end_of v request.number ≡ Some c)
     × (is_write_back (live_request_of v request.number) ≡ true)
--- 12: a reply has its snoop end at c, with the line, which is HITM# or DEFER#
-Holds m v c (ReplySnooped line request) =
-    ((line ≡ HITM) ⊎ (line ≡ DEFER)) × (line_at line v c ≡ true) × IsRequest v request
+-- 12: a reply has its snoop end at c, with these lines, of which HITM# or DEFER# is one
+Holds m v c (ReplySnooped lines request) =
+    AreSnooped v c lines × ((lines.hitm || lines.defer) ≡ true) × IsRequest v request
     × (snoop_end_of v request.number ≡ Some c) × (is_reply (live_request_of v request.number) ≡ true)
 -- 13: RS# is not idle at c, and no live request is left to respond
 Holds m v c (NothingToAnswer number) = (responds_at v c ≡ true) × IsNone v c number
@@ -174,17 +183,27 @@ Holds m v c (ResponseEarly request wait earliest) =
 -- 14: RS# is neither idle nor a hard failure at c but this, and no live request is left to respond
 Holds m v c (CodeForNone number code) =
     (responds_soundly v c ≡ true) × (response_code_at v c ≡ code) × IsNone v c number
+-- 14: RS# is neither idle nor a hard failure at c but this; the next request has no snoop end, and this is not what it is
+-- to be told without a snoop line
+Holds m v c (CodeUnsettled request found expected) =
+    (responds_soundly v c ≡ true) × (response_code_at v c ≡ found) × IsNext v c request
+    × (snoop_end_of v request.number ≡ None) × (expected_of v request.number ≡ expected)
+    × (nat_eq found (response_code_of expected) ≡ false)
 -- 14: RS# is neither idle nor a hard failure at c but this, and not what the next request is to be told
 Holds m v c (CodeWrong request snoop_end found expected may_defer) =
     (responds_soundly v c ≡ true) × (response_code_at v c ≡ found) × IsNext v c request
-    × (snoop_end_of v request.number ≡ snoop_end) × (expected_of v request.number ≡ expected)
+    × (snoop_end_of v request.number ≡ Some snoop_end) × (expected_of v request.number ≡ expected)
     × (may_defer_of v request.number ≡ may_defer) × (nat_eq found (response_code_of expected) ≡ false)
     × ((may_defer && nat_eq found (response_code_of Deferred)) ≡ false)
 -- 15: TRDY# is at c, and no live request is left to respond
 Holds m v c (ReadyForNone number) = (line_at TRDY v c ≡ true) × IsNone v c number
+-- 15: TRDY# is at c, and the next request, which is no write-back, has no snoop end
+Holds m v c (ReadyUnsettled request) =
+    (line_at TRDY v c ≡ true) × IsNext v c request × (snoop_end_of v request.number ≡ None)
+    × (is_write_back (live_request_of v request.number) ≡ false)
 -- 15: TRDY# is at c, and the next request does not take data
 Holds m v c (ReadyUnwanted request snoop_end) =
-    (line_at TRDY v c ≡ true) × IsNext v c request × (snoop_end_of v request.number ≡ snoop_end)
+    (line_at TRDY v c ≡ true) × IsNext v c request × (snoop_end_of v request.number ≡ Some snoop_end)
     × (takes v request.number ≡ false)
 -- 15: TRDY# is at c, and the next request, which takes data, waits; this is the clock from which it is answered
 Holds m v c (ReadyEarly request wait earliest) =

@@ -1,7 +1,7 @@
 -- The rule that a reason is of.
 use Rattle.std.specs.Prelude.{ℕ}
 use Rattle.fsb_reasons.specs.declared.reason.Reason.{Reason}
-use Rattle.fsb_reasons.specs.declared.reason.Reason.TheVariants.{UnknownLines, AtStart, TooSoon, UnknownBits, Unlawful, QueueFull, Blocked, NotArbitrated, Locked, NoneAsks, NoId, ReplyByOther, IdOfOther, Dropped, Held, LockAlone, ErrorAlone, SnoopsOver, SnoopEarly, SnoopBetween, WriteBackSnooped, ReplySnooped, NothingToAnswer, ResponseEarly, CodeForNone, CodeWrong, ReadyForNone, ReadyUnwanted, ReadyEarly, ReadyTwice, ResponseUnready, DataForNone, BusyMissing, BusyForNone, UnknownData, ReplyUnawaited, IdTaken, TooMany, AddressParity, RequestParity}
+use Rattle.fsb_reasons.specs.declared.reason.Reason.TheVariants.{UnknownLines, AtStart, TooSoon, UnknownBits, Unlawful, QueueFull, Blocked, NotArbitrated, Locked, NoneAsks, NoId, ReplyByOther, IdOfOther, Dropped, Held, LockAlone, ErrorAlone, SnoopsOver, SnoopEarly, SnoopBetween, WriteBackSnooped, ReplySnooped, NothingToAnswer, ResponseEarly, CodeForNone, CodeUnsettled, CodeWrong, ReadyForNone, ReadyUnsettled, ReadyUnwanted, ReadyEarly, ReadyTwice, ResponseUnready, DataForNone, BusyMissing, BusyForNone, UnknownData, ReplyUnawaited, IdTaken, TooMany, AddressParity, RequestParity}
 
 -- the number of the rule, 1 to 20
 unfoldable pub rule_of : Reason → ℕ
@@ -22,16 +22,18 @@ rule_of (Dropped who) = 8
 rule_of (Held who) = 8
 rule_of LockAlone = 9
 rule_of (ErrorAlone last) = 10
-rule_of (SnoopsOver line) = 11
-rule_of (SnoopEarly line request start) = 11
-rule_of (SnoopBetween line request start) = 11
-rule_of (WriteBackSnooped line request) = 12
-rule_of (ReplySnooped line request) = 12
+rule_of (SnoopsOver lines) = 11
+rule_of (SnoopEarly lines request start) = 11
+rule_of (SnoopBetween lines request start) = 11
+rule_of (WriteBackSnooped lines request) = 12
+rule_of (ReplySnooped lines request) = 12
 rule_of (NothingToAnswer number) = 13
 rule_of (ResponseEarly request wait earliest) = 13
 rule_of (CodeForNone number code) = 14
+rule_of (CodeUnsettled request found expected) = 14
 rule_of (CodeWrong request snoop_end found expected may_defer) = 14
 rule_of (ReadyForNone number) = 15
+rule_of (ReadyUnsettled request) = 15
 rule_of (ReadyUnwanted request snoop_end) = 15
 rule_of (ReadyEarly request wait earliest) = 15
 rule_of (ReadyTwice request ready) = 15

@@ -11,7 +11,7 @@ pub use laws::{
     answers_begin_at_the_earliest, broken_rules_have_reasons, reasons_name_broken_rules,
     verdicts_have_reasons,
 };
-pub use reason::{Concerned, Reason, Wait};
+pub use reason::{Concerned, Reason, SnoopLines, Wait};
 
 mod laws;
 mod reason;

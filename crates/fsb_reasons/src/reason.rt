@@ -16,14 +16,23 @@ pub struct Concerned {
     pub clock: u32,
 }
 
-/// Why a live request may not be answered yet.
+/// Which of the three lines that tell of a snoop are asserted at the clock.
+#[derive(Clone, Copy, Debug, PartialEq, Eq)]
+pub struct SnoopLines {
+    pub hit: bool,
+    pub hitm: bool,
+    pub defer: bool,
+}
+
+/// Why a live request may not be answered yet: the first of the two conditions that fails.
 #[derive(Clone, Copy, Debug, PartialEq, Eq)]
 pub enum Wait {
     /// Its snoop end is not reached.
     NoSnoopEnd,
     /// Its snoop end, at this clock, lies less than two clocks back.
     SnoopEnd(u32),
-    /// The live request before it has not ended below this clock; the clock at which it ends, if that is reached.
+    /// Its snoop end lies two clocks back at least, and the live request before it has not ended below this clock; the
+    /// clock at which that one ends, if it is reached.
     NotClear(Option<u32>),
 }
 
@@ -41,9 +50,9 @@ pub enum Reason {
         /// The clock of the ADS# before.
         before: u32,
         /// The earliest clock for the next.
-        earliest: u32,
+        earliest: u64,
     },
-    /// Rule 3: a bit of the address or of REQ is unknown at the first or second clock of the request.
+    /// Rule 3: a bit of the address or of REQ is unknown at the first clock of the request, or at the second alone.
     UnknownBits {
         clock: u32,
     },
@@ -97,33 +106,33 @@ pub enum Reason {
         /// The first clock of the last request before the clock.
         last: Option<u32>,
     },
-    /// Rule 11: the line is asserted, and every live request has had its snoop end.
+    /// Rule 11: one of these lines is asserted, and every live request has had its snoop end.
     SnoopsOver {
-        line: Lines,
+        lines: SnoopLines,
     },
-    /// Rule 11: the line is asserted, and the first live request without a snoop end is snooped later.
+    /// Rule 11: one of these lines is asserted, and the first live request without a snoop end is snooped later.
     SnoopEarly {
-        line: Lines,
+        lines: SnoopLines,
         request: Concerned,
         /// Its first snoop clock.
-        start: u32,
+        start: u64,
     },
-    /// Rule 11: the line is asserted, and the clock lies between two snoop clocks of the first live request without a
+    /// Rule 11: one of these lines is asserted, and the clock lies between two snoop clocks of the first live request without a
     /// snoop end.
     SnoopBetween {
-        line: Lines,
+        lines: SnoopLines,
         request: Concerned,
         /// Its first snoop clock.
-        start: u32,
+        start: u64,
     },
-    /// Rule 12: a write-back has its snoop end at the clock, with this line.
+    /// Rule 12: a write-back has its snoop end at the clock, with one of these lines.
     WriteBackSnooped {
-        line: Lines,
+        lines: SnoopLines,
         request: Concerned,
     },
-    /// Rule 12: a reply has its snoop end at the clock, with this line.
+    /// Rule 12: a reply has its snoop end at the clock, with HITM# or DEFER#.
     ReplySnooped {
-        line: Lines,
+        lines: SnoopLines,
         request: Concerned,
     },
     /// Rule 13: RS# is not idle, and there is no live request of this number, which is next to be answered.
@@ -135,18 +144,26 @@ pub enum Reason {
         request: Concerned,
         wait: Wait,
         /// The earliest clock for its response, where its snoop end and the end before it are reached.
-        earliest: Option<u32>,
+        earliest: Option<u64>,
     },
     /// Rule 14: RS# has this code, and there is no live request of this number, which is next to be answered.
     CodeForNone {
         number: u32,
         code: u8,
     },
+    /// Rule 14: the next request has no snoop end yet, and the response code is not the one that it would have without
+    /// HITM# and DEFER#.
+    CodeUnsettled {
+        request: Concerned,
+        found: u8,
+        /// What it is to be told if neither line is asserted at its snoop end.
+        expected: Outcome,
+    },
     /// Rule 14: the response code is not the one for the next request.
     CodeWrong {
         request: Concerned,
         /// Its snoop end, whose HITM# and DEFER# count.
-        snoop_end: Option<u32>,
+        snoop_end: u32,
         found: u8,
         /// What it is to be told.
         expected: Outcome,
@@ -157,17 +174,22 @@ pub enum Reason {
     ReadyForNone {
         number: u32,
     },
+    /// Rule 15: TRDY# is asserted, and the next request, which is no write-back, has no snoop end yet, whose HITM# alone
+    /// could make it take data.
+    ReadyUnsettled {
+        request: Concerned,
+    },
     /// Rule 15: TRDY# is asserted, and the next request, which is no write-back, has no HITM# at its snoop end.
     ReadyUnwanted {
         request: Concerned,
-        snoop_end: Option<u32>,
+        snoop_end: u32,
     },
     /// Rule 15: TRDY# is asserted, and the next request may not be answered yet.
     ReadyEarly {
         request: Concerned,
         wait: Wait,
         /// The earliest clock for TRDY#, where its snoop end and the end before it are reached.
-        earliest: Option<u32>,
+        earliest: Option<u64>,
     },
     /// Rule 15: TRDY# is asserted, and the target of the next request was ready before, at this clock.
     ReadyTwice {
@@ -180,7 +202,7 @@ pub enum Reason {
         /// The clock at which the target is ready, if that is reached.
         ready: Option<u32>,
         /// The earliest clock for the response, two after that.
-        earliest: Option<u32>,
+        earliest: Option<u64>,
     },
     /// Rule 16: DRDY# is asserted, and no data are on the way.
     DataForNone {
@@ -249,8 +271,10 @@ impl Reason {
                 11,
             Reason::WriteBackSnooped { .. } | Reason::ReplySnooped { .. } => 12,
             Reason::NothingToAnswer { .. } | Reason::ResponseEarly { .. } => 13,
-            Reason::CodeForNone { .. } | Reason::CodeWrong { .. } => 14,
+            Reason::CodeForNone { .. } | Reason::CodeUnsettled { .. } | Reason::CodeWrong { .. } =>
+                14,
             Reason::ReadyForNone { .. }
+            | Reason::ReadyUnsettled { .. }
             | Reason::ReadyUnwanted { .. }
             | Reason::ReadyEarly { .. }
             | Reason::ReadyTwice { .. }

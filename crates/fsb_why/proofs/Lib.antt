@@ -1,0 +1,4 @@
+pub mod Shown
+pub mod Next
+pub mod Beginning
+pub mod Alone

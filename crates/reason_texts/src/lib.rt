@@ -1,0 +1,15 @@
+//! The sentence of a reason: one or two short sentences with the clocks and numbers that it rests on.
+//!
+//! [`Sentence`] is the reason and the clock at which it holds, and prints itself. docs/reasons.md shows one of each;
+//! rows_reasons tests their texts, and that each comes from a trace.
+//!
+//! Next: fsb_reasons, which says what each reason claims.
+#![tactic(auto)]
+
+pub use sentence::Sentence;
+
+mod answer;
+mod begin;
+mod lines;
+mod sentence;
+mod words;
