@@ -1,0 +1,4 @@
+pub mod AnyRow
+pub mod RowWords
+pub mod Closing
+pub mod Asked

@@ -1,8 +1,7 @@
 //! What one row shows of its line.
 
-ghost use Rattle.std.specs.Prelude.{◌≡◌, ◌&&◌, not, nat_lt};
+ghost use Rattle.std.specs.Prelude.{◌≡◌};
 ghost use Rattle.fsb_count.specs.Options.{is_at, is_before};
-ghost use Rattle.fsb_line.specs.States.{gets_line};
 ghost use Rattle.fsb_trace.specs.Requests.{is_upgrade, is_write_back};
 ghost use Rattle.fsb_owners.specs.Shown.{purpose_of};
 ghost use Rattle.fsb_owner_rows.specs.OfRow.{is_row_open, is_row_outstanding, is_row_turned, is_row_between, row_agent, row_asks, row_asks_other, row_names, row_purpose};
@@ -123,7 +122,7 @@ pub fn asks(row: &Row, line: u64, agent: u8) -> bool
 
 /// Whether the request names the line, and is another agent's.
 pub fn is_others(row: &Row, line: u64, agent: u8) -> bool
-    ensures { result ≡ (row_names line row.now && not (is_at (row_agent row.now) agent)) }
+    ensures { result ≡ row_asks_other line agent row.now }
 {
     names(row, line) && !is_agent(row.agent(), agent)
 }
