@@ -46,11 +46,11 @@ pub asks_ads : (v : Trace) (line a q : ℕ) → asks v line a q ≡ true → lin
 unfolding asks
 asks_ads v line a q t = names_ads v line q (and_parts _ _ t).0
 
-clock_of : (v : Trace) (q : ℕ) → (row_at v q).seen.clock ≡ q
+pub clock_of : (v : Trace) (q : ℕ) → (row_at v q).seen.clock ≡ q
 unfolding row_at seen_at
 clock_of v q = refl
 
-request_is : (v : Trace) (q : ℕ) → (row_at v q).seen.request ≡ request_at v q
+pub request_is : (v : Trace) (q : ℕ) → (row_at v q).seen.request ≡ request_at v q
 unfolding row_at seen_at
 request_is v q = refl
 

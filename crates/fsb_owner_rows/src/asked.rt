@@ -9,7 +9,7 @@ use crate::row::{asks, is_open, is_others, is_outstanding};
 use fsb_owner_table::Row;
 
 /// Whether an earlier request of the agent for the line is outstanding at the clock.
-#[tactic(auto, using(crate::proofs::Asked::still_asking))]
+#[tactic(auto, using(crate::proofs::Askers::still_asking))]
 pub fn is_still_asking(rows: &[Row], line: u64, agent: u8, clock: u32) -> bool
     ensures { (v : Trace) → AreKeptAt rows.now v clock → result ≡ is_still_asking v line agent clock }
 {
@@ -18,7 +18,7 @@ pub fn is_still_asking(rows: &[Row], line: u64, agent: u8, clock: u32) -> bool
 }
 
 /// Whether a request of another agent for the line is open at the clock: it is in flight, and has no snoop end before.
-#[tactic(auto, using(crate::proofs::Asked::held_back))]
+#[tactic(auto, using(crate::proofs::Askers::held_back))]
 pub fn is_held_back(rows: &[Row], line: u64, agent: u8, clock: u32) -> bool
     ensures { (v : Trace) → AreKeptAt rows.now v clock → result ≡ is_held_back v line agent clock }
 {

@@ -6,8 +6,12 @@
 
 pub use asked::{is_held_back, is_still_asking};
 pub use coming::{is_coming, is_upgrading, may_drop, origin_of};
+pub use found::{answered_at, begun_at, snooped_at};
+pub use lines::{is_named, named_line, unnamed_lines_are_quiet};
 pub use row::{asks, is_turned, is_write_back, names, purpose};
 
 mod asked;
 mod coming;
+mod found;
+mod lines;
 mod row;

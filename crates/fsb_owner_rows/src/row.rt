@@ -1,7 +1,7 @@
 //! What one row shows of its line.
 
-ghost use Rattle.std.specs.Prelude.{◌≡◌};
-ghost use Rattle.fsb_count.specs.Options.{is_at, is_before};
+ghost use Rattle.std.specs.Prelude.{◌≡◌, nat_eq};
+ghost use Rattle.fsb_count.specs.Options.{is_at, is_before, is_some_and};
 ghost use Rattle.fsb_trace.specs.Requests.{is_upgrade, is_write_back};
 ghost use Rattle.fsb_owners.specs.Shown.{purpose_of};
 ghost use Rattle.fsb_owner_rows.specs.OfRow.{is_row_open, is_row_outstanding, is_row_turned, is_row_between, row_agent, row_asks, row_asks_other, row_names, row_purpose};
@@ -162,6 +162,17 @@ pub fn is_turned(row: &Row) -> bool
 {
     match row.snoop {
         Some(snoop) => snoop.defer && !snoop.hitm,
+        None => false,
+    }
+}
+
+/// Whether the request has its snoop end at the clock.
+#[tactic(auto, unfolding(fsb_count::specs::Options::is_some_and))]
+pub fn is_snooped_at(row: &Row, clock: u32) -> bool
+    ensures { result ≡ is_some_and row.now.snoop (λ s. nat_eq s.clock clock) }
+{
+    match row.snoop {
+        Some(snoop) => snoop.clock == clock,
         None => false,
     }
 }

@@ -29,7 +29,7 @@ rows_pass p t rows v c k g none =
 
 -- outstanding requests
 
-outstanding_closed : (v : Trace) (c q : ℕ) → is_outstanding v c q ≡ true → is_row_closed (row_at v q) c ≡ false
+pub outstanding_closed : (v : Trace) (c q : ℕ) → is_outstanding v c q ≡ true → is_row_closed (row_at v q) c ≡ false
 unfolding is_outstanding
 outstanding_closed v c q t =
     let p = and_parts _ (not (is_finished v c q)) t in
@@ -39,7 +39,7 @@ outstanding_closed v c q t =
     open_both : (a b : Bool) → not a ≡ true → not b ≡ true → (a || b) ≡ false
     open_both a b e f = grind arith
 
-outstanding_late : (v : Trace) (c q : ℕ) → c ≤ q → is_outstanding v c q ≡ false
+pub outstanding_late : (v : Trace) (c q : ℕ) → c ≤ q → is_outstanding v c q ≡ false
 unfolding is_outstanding
 outstanding_late v c q l = rw (le-ltb c q l) (none (line_at ADS v q) _ _ _)
   where
