@@ -47,20 +47,20 @@ module _ {p : Row → Bool} {t : ℕ → Bool} {v : Trace} (g : Agrees p t v) wh
       list_any-append p (kept_below v n) (option_to_list (kept_at v n))
       ∙ ap (λ b. b || list_any p (option_to_list (kept_at v n))) (any_rows n)
       ∙ ap (λ b. any_where t n || b) (one_passes n)
-      ∙ sym (any_where-more t n) ∙ ap (any_where t) add-one
+      ∙ sym (any_where-more t n) ∙ ap (any_where t) (add-one n)
 
 -- what passes at no clock from c on passes below n where it passes below c
 pub any_below : (t : ℕ → Bool) (c n : ℕ) → c ≤ n → ((q : ℕ) → c ≤ q → t q ≡ false) → any_where t n ≡ any_where t c
 any_below t c n l none =
     elim (cases_Bool (any_where t c)) [
-      | inl yes ↦
-          let f = any_where-found t c yes in
-          any_where-at t n f.0 (omega (arith, f.1)) f.2 ∙ sym yes
-      | inr no ↦
+      | inl holds ↦
+          let f = any_where-found t c holds in
+          any_where-at t n f.0 (omega (arith, f.1)) f.2 ∙ sym holds
+      | inr fails ↦
           any_where-off t n (λ k m.
           elim (cases_lt k c) [
-            | inl less ↦ any_where-none t c no k less
+            | inl less ↦ any_where-none t c fails k less
             | inr more ↦ none k more
           ])
-          ∙ sym no
+          ∙ sym fails
     ]

@@ -82,8 +82,10 @@ module _ (v : Trace) (orderly : Orderly v) (q d : ℕ) where
   pub last_before : is_before (row_last_clock (row_at v q)) d ≡ true → is_before (reached end_of v q) d ≡ true
   last_before t =
       let p = is_before-parts (row_last_clock (row_at v q)) d t in
-      let e = sym (last_of v q) ∙ p.1 in
-      elim (cases_Bool (is_row_deferred (row_at v q))) [
-        | inl deferred ↦ ended_by_reply p.0 deferred (rw deferred at e) p.2
-        | inr plain ↦ is_before-from (reached end_of v q) p.0 d (rw plain at e) p.2
-      ]
+      by_deferral p.0 (is_row_deferred (row_at v q)) refl (sym (last_of v q) ∙ p.1) p.2
+    where
+      by_deferral : (e : ℕ) (b : Bool) → is_row_deferred (row_at v q) ≡ b
+          → cond (is_row_deferred (row_at v q)) (reached_by_reply end_of v q) (reached end_of v q) ≡ Some e → e < d
+          → is_before (reached end_of v q) d ≡ true
+      by_deferral e true b f less = ended_by_reply e b (rw b at f) less
+      by_deferral e false b f less = is_before-from (reached end_of v q) e d (rw b at f) less

@@ -33,13 +33,13 @@ use Rattle.fsb_owner_rows.proofs.RowWords.{asks_is, purpose_is, request_is, snoo
 
 -- between snoop end and end
 
+end_is : (v : Trace) (q : ℕ) → (row_at v q).end ≡ reached end_of v q
+unfolding row_at
+end_is v q = refl
+
 between_is : (v : Trace) (c q : ℕ) → is_row_between c (row_at v q)
     ≡ (is_before (reached snoop_end_of v q) c && not (is_before (reached end_of v q) c))
-between_is v c q = rw (snoop_before v c q, end_is) refl
-  where
-    end_is : (row_at v q).end ≡ reached end_of v q
-    unfolding row_at
-    end_is = refl
+between_is v c q = rw (snoop_before v c q, end_is v q) refl
 
 none_before : (c : ℕ) → is_before None c ≡ false
 unfolding is_before is_some_and
@@ -60,22 +60,20 @@ unfolding row_at snoop_at
 snoop_of_row v q t = rw (reached-live snoop_end_of v q t) refl
 
 handed_is : (v : Trace) (q : ℕ) → is_live v q ≡ true → is_row_handed (row_at v q) ≡ line_at_snoop_end HITM v (live_number_of v q)
-unfolding line_at_snoop_end
+unfolding line_at_snoop_end is_some_and snooped_by
 handed_is v q t = ap (λ o. is_some_and o (λ s. s.hitm)) (snoop_of_row v q t) ∙ by_end (snoop_end_of v (live_number_of v q))
   where
     by_end : (o : Option ℕ) → is_some_and (option_map (snooped_by v) o) (λ s. s.hitm) ≡ is_some_and o (line_at HITM v)
-    unfolding is_some_and snooped_by
     by_end None = refl
     by_end (Some s) = refl
 
 turned_is : (v : Trace) (q : ℕ) → is_live v q ≡ true → is_row_turned (row_at v q) ≡ is_turned v (live_number_of v q)
-unfolding is_turned line_at_snoop_end
+unfolding is_turned line_at_snoop_end is_some_and snooped_by
 turned_is v q t =
     ap (λ o. is_some_and o (λ s. s.defer && not s.hitm)) (snoop_of_row v q t) ∙ by_end (snoop_end_of v (live_number_of v q))
   where
     by_end : (o : Option ℕ) → is_some_and (option_map (snooped_by v) o) (λ s. s.defer && not s.hitm)
         ≡ (is_some_and o (line_at DEFER v) && not (is_some_and o (line_at HITM v)))
-    unfolding is_some_and snooped_by
     by_end None = refl
     by_end (Some s) = refl
 
@@ -129,11 +127,11 @@ module _ (rows : List Row) (v : Trace) (line a c : ℕ) (k : AreKeptAt rows v c)
           && (is_before (snoop_end_of v (live_number_of v q)) c && not (is_before (end_of v (live_number_of v q)) c)))
       when_between false f = and_right _ _ f ∙ sym (and_right _ _ f)
       when_between true f =
-          let open : is_before (reached end_of v q) c ≡ false =
+          let going : is_before (reached end_of v q) c ≡ false =
           ap (λ o. is_before o c) (reached-live end_of v q t) ∙ not_off _ (and_parts _ _ f).1 in
           ap (λ b. b && (is_before (snoop_end_of v (live_number_of v q)) c && not (is_before (end_of v (live_number_of v q)) c)))
           (ap (λ o. is_some_and o (λ origin. row_asks line a origin && row_brings (row_at v q) origin))
-          (origin_is rows v c q k t open)
+          (origin_is rows v c q k t going)
           ∙ counted_is v line a q t (origin_clock_of v (live_number_of v q)) refl)
 
   comes_is : (q : ℕ) → line_at ADS v q ≡ true
@@ -156,9 +154,9 @@ module _ (rows : List Row) (v : Trace) (line a c : ℕ) (k : AreKeptAt rows v c)
   coming_going q t =
       let p = and_parts (is_live v q) _ t in
       let parts = coming_parts (live_number_of v q) p.1 in
-      let open : is_before (reached end_of v q) c ≡ false = ap (λ o. is_before o c) (reached-live end_of v q p.0) ∙ parts.1 in
+      let going : is_before (reached end_of v q) c ≡ false = ap (λ o. is_before o c) (reached-live end_of v q p.0) ∙ parts.1 in
       closed_less (row_at v q) (length v - 3) c (omega (arith, k.late))
-      (closed_live v q c p.0 (false_from_ne_true _ (λ last. both_ways _ open (last_before v k.orderly q c last))))
+      (closed_live v q c p.0 (false_from_ne_true _ (λ last. both_ways _ going (last_before v k.orderly q c last))))
 
   coming_late : (q : ℕ) → length v - 1 ≤ q → by_number v (is_coming_by v line a c) q ≡ false
   coming_late q l =

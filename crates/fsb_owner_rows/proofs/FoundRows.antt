@@ -127,11 +127,10 @@ reached_test f v c q =
     ]
 
 snoop_test : (v : Trace) (c q : ℕ) → is_some_and (row_at v q).snoop (λ s. nat_eq s.clock c) ≡ is_at (reached snoop_end_of v q) c
-unfolding row_at snoop_at is_at
+unfolding row_at snoop_at is_at snooped_by is_some_and
 snoop_test v c q = by_clock (reached snoop_end_of v q)
   where
     by_clock : (o : Option ℕ) → is_some_and (option_map (snooped_by v) o) (λ s. nat_eq s.clock c) ≡ is_some_and o (λ m. nat_eq m c)
-    unfolding snooped_by is_some_and
     by_clock None = refl
     by_clock (Some s) = refl
 

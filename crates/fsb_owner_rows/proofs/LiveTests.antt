@@ -46,23 +46,23 @@ module _ (v : Trace) (f : ℕ → Bool) where
       → any_where (by_number v f) n ≡ any_where f (live_count v)
   any_live n size late =
       elim (cases_Bool (any_where f (live_count v))) [
-        | inl yes ↦
-            let p = any_where-found f (live_count v) yes in
+        | inl holds ↦
+            let p = any_where-found f (live_count v) holds in
             let c = live_there v p.0 p.1 in
             let there = passes_at p.0 c.0 c.1 p.2 in
             elim (cases_lt c.0 n) [
-              | inl l ↦ any_where-at (by_number v f) n c.0 l there ∙ sym yes
+              | inl l ↦ any_where-at (by_number v f) n c.0 l there ∙ sym holds
               | inr l ↦ absurd (both_ways _ (late c.0 l) there)
             ]
-        | inr no ↦
+        | inr fails ↦
             any_where-off (by_number v f) n (λ q l.
             false_from_ne_true _ (λ t.
             let p = and_parts _ _ t in
             let inside : q < length v = in_trace q p.0 in
             both_ways _
-            (any_where-none f (live_count v) no (live_number_of v q)
+            (any_where-none f (live_count v) fails (live_number_of v q)
             (live_below_count v _ q (live_clock_of-number v q inside p.0))) p.1))
-            ∙ sym no
+            ∙ sym fails
       ]
     where
       in_trace : (q : ℕ) → is_live v q ≡ true → q < length v

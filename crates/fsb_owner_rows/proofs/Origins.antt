@@ -163,7 +163,7 @@ origin_reply v i t = rw t refl
 pub origin_is : (rows : List Row) (v : Trace) (c q : ℕ) → AreKeptAt rows v c → is_live v q ≡ true
     → is_before (reached end_of v q) c ≡ false
     → row_origin rows (row_at v q) ≡ option_map (row_at v) (origin_clock_of v (live_number_of v q))
-origin_is rows v c q k live open =
+origin_is rows v c q k live going =
     let i : ℕ = live_number_of v q in
     let own = live_clock_of-number v q (ads_before_end v q (is_live-ads v q live)) live in
     let asked : is_reply (live_request_of v i) ≡ is_reply (row_at v q).seen.request =
@@ -175,7 +175,7 @@ origin_is rows v c q k live open =
       | inl reply ↦
           rw (reply, clock_of v q)
           (ap (find (λ row. is_at row.reply q)) k.kept
-          ∙ found_row (λ row. is_at row.reply q) v (λ p t there. waits_open rows v q c p k open t) (length v - 1)
+          ∙ found_row (λ row. is_at row.reply q) v (λ p t there. waits_open rows v q c p k going t) (length v - 1)
           ∙ ap (option_map (row_at v))
           (first_where-same (row_passes (λ row. is_at row.reply q) v) (by_number v (is_reply_of v i)) (length v - 1)
           (record { same = λ p l. same_test v q live p })
@@ -183,6 +183,11 @@ origin_is rows v c q k live open =
           (first_where (is_reply_of v i) (live_count v)) refl
           ∙ sym (origin_reply v i (asked ∙ reply))))
     ]
+
+pub origin_of_row : (rows : List Row) (row : Row) (v : Trace) (c q : ℕ) → AreKeptAt rows v c → row ≡ row_at v q
+    → is_live v q ≡ true → is_before (reached end_of v q) c ≡ false
+    → row_origin rows row ≡ option_map (row_at v) (origin_clock_of v (live_number_of v q))
+origin_of_row rows row v c q k e live going = rw e (origin_is rows v c q k live going)
 
 -- the request that counts begins with ADS#
 pub origin_ads : (v : Trace) (i q : ℕ) → origin_clock_of v i ≡ Some q → line_at ADS v q ≡ true

@@ -25,10 +25,10 @@ found_passes : (p n : Row → Bool) (rows : List Row) (row : Row) → find p row
 found_passes p n [] row e t = absurd (let no : ⊥ = cc in no)
 found_passes p n (x ∷ rows) row e t =
     elim (cases_Bool (p x)) [
-      | inl yes ↦
-          let k = rw yes at e in
+      | inl holds ↦
+          let k = rw holds at e in
           let same : x ≡ row = cc in or_left _ _ (ap n same ∙ t)
-      | inr no ↦ or_right _ _ (found_passes p n rows row (rw no at e) t)
+      | inr fails ↦ or_right _ _ (found_passes p n rows row (rw fails at e) t)
     ]
 
 -- what no row passes no row passes together with more
@@ -45,8 +45,8 @@ none_passes n p (x ∷ rows) imp f =
     later_passes : list_any p rows ≡ true → list_any n rows ≡ true
     later_passes t =
         elim (cases_Bool (list_any n rows)) [
-          | inl yes ↦ yes
-          | inr no ↦ absurd (both_ways _ (none_passes n p rows imp no) t)
+          | inl holds ↦ holds
+          | inr fails ↦ absurd (both_ways _ (none_passes n p rows imp no) t)
         ]
 
 -- a row passes the test of one of its requests, itself or the one that it answers

@@ -71,7 +71,6 @@ unfolding row_at snoop_at snooped_by is_before is_some_and
 snoop_before v c q = by_clock (reached snoop_end_of v q)
   where
     by_clock : (o : Option ℕ) → is_some_and (option_map (snooped_by v) o) (λ s. nat_lt s.clock c) ≡ is_before o c
-    unfolding snooped_by is_before is_some_and
     by_clock None = refl
     by_clock (Some s) = refl
 
@@ -90,25 +89,25 @@ pub snooped_below : (v : Trace) (c q : ℕ) → q < length v
     ≡ is_before (reached snoop_end_of v q) c
 snooped_below v c q l =
     elim (cases_Bool (is_before (reached snoop_end_of v q) c)) [
-      | inl yes ↦
+      | inl holds ↦
           elim (cases_Bool (is_live v q)) [
             | inl live ↦
                 let own = live_clock_of-number v q l live in
                 let j : ℕ = live_number_of v q in
                 any_where-at _ (live_count v) j (live_below_count v j q own)
-                (rw (is_at-from (live_clock_of v j) q own) (ap (λ o. is_before o c) (sym (reached-live snoop_end_of v q live)) ∙ yes))
-                ∙ sym yes
-            | inr dead ↦ absurd (both_ways _ (reached_dead_before v q c dead) yes)
+                (rw (is_at-from (live_clock_of v j) q own) (ap (λ o. is_before o c) (sym (reached-live snoop_end_of v q live)) ∙ holds))
+                ∙ sym holds
+            | inr dead ↦ absurd (both_ways _ (reached_dead_before v q c dead) holds)
           ]
-      | inr no ↦
+      | inr fails ↦
           any_where-off _ (live_count v) (λ j less.
           false_from_ne_true _ (λ t.
           let p = and_parts (is_at (live_clock_of v j) q) (is_before (snoop_end_of v j) c) t in
           let k = numbered v j q (is_at-some (live_clock_of v j) q p.0) in
           let own : reached snoop_end_of v q ≡ snoop_end_of v j =
           reached-live snoop_end_of v q k.1 ∙ ap (snoop_end_of v) k.2 in
-          both_ways _ no (ap (λ o. is_before o c) own ∙ p.1)))
-          ∙ sym no
+          both_ways _ fails (ap (λ o. is_before o c) own ∙ p.1)))
+          ∙ sym fails
     ]
 
 open_form : (l d f s : Bool) → ((l && not (d || f)) && not s) ≡ ((((true && l) && not d) && not f) && not s)

@@ -1,11 +1,14 @@
 //! Whose bytes are under way, and who may drop a copy.
 
-ghost use Rattle.std.specs.Prelude.{◌≡◌, ◌+◌, ◌<◌, ◌&&◌, not, length, Some};
-ghost use Rattle.std.specs.List.{list_any};
-ghost use Rattle.fsb_count.specs.Options.{is_some_and};
+ghost use Rattle.std.specs.Prelude.{◌≡◌, ◌+◌, ◌<◌, ℕ, true, false, length};
+ghost use Rattle.std.specs.Option.{option_map};
+ghost use Rattle.fsb_count.specs.Options.{is_before, is_some_and};
 ghost use Rattle.fsb_line.specs.States.{gets_line};
 ghost use Rattle.fsb_trace.specs.At.{Trace};
-ghost use Rattle.fsb_owners.specs.Shown.{is_coming, is_upgrading, may_drop_at};
+ghost use Rattle.fsb_trace.specs.Requests.{is_live, live_number_of};
+ghost use Rattle.fsb_trace.specs.Response.{end_of};
+ghost use Rattle.fsb_owners.specs.Shown.{is_coming, is_upgrading, may_drop_at, origin_clock_of};
+ghost use Rattle.fsb_owner_table.specs.Rows.{reached, row_at};
 ghost use Rattle.fsb_owner_rows.specs.Kept.{AreKeptAt};
 ghost use Rattle.fsb_owner_rows.specs.OfRow.{answered_by, row_brings, row_comes, row_origin, row_upgrades};
 
@@ -21,7 +24,7 @@ fn answered_by(rows: &[Row], reply: u32) -> Option<Row>
 }
 
 /// The row of the request that counts at this one: of a reply the first that it answers, else itself.
-pub fn origin_of(rows: &[Row], row: &Row) -> Option<Row>
+fn origin_row(rows: &[Row], row: &Row) -> Option<Row>
     ensures { result ≡ row_origin rows.now row.now }
 {
     if row.is_reply() {
@@ -29,6 +32,17 @@ pub fn origin_of(rows: &[Row], row: &Row) -> Option<Row>
     } else {
         Some(*row)
     }
+}
+
+/// The row of the request that counts at this one, which is live and has no end before one of the last three clocks:
+/// of a reply the first that it answers, else itself.
+#[tactic(auto, using(crate::proofs::Origins::origin_of_row))]
+pub fn origin_of(rows: &[Row], row: &Row) -> Option<Row>
+    ensures { (v : Trace) (c q : ℕ) → AreKeptAt rows.now v c → row.now ≡ row_at v q →
+        is_live v q ≡ true → is_before (reached end_of v q) c ≡ false →
+        result ≡ option_map (row_at v) (origin_clock_of v (live_number_of v q)) }
+{
+    origin_row(rows, row)
 }
 
 /// Whether a request that asks so is to have the bytes of its line from memory.
@@ -57,7 +71,7 @@ fn brings_bytes(row: &Row, origin: &Row) -> bool
 fn is_coming_by(rows: &[Row], row: &Row, line: u64, agent: u8, clock: u32) -> bool
     ensures { result ≡ row_comes rows.now line agent clock row.now }
 {
-    match origin_of(rows, row) {
+    match origin_row(rows, row) {
         Some(origin) => {
             asks(&origin, line, agent) && brings_bytes(row, &origin) && is_between(row, clock)
         }

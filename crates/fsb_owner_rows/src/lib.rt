@@ -9,9 +9,11 @@ pub use coming::{is_coming, is_upgrading, may_drop, origin_of};
 pub use found::{answered_at, begun_at, snooped_at};
 pub use lines::{is_named, named_line, unnamed_lines_are_quiet};
 pub use row::{asks, is_turned, is_write_back, names, purpose};
+pub use waits::{droppable_of, ready_of};
 
 mod asked;
 mod coming;
 mod found;
 mod lines;
 mod row;
+mod waits;
