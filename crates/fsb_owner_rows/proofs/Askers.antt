@@ -2,7 +2,7 @@
 use Rattle.std.proofs.Common.{ℕ, ◌+◌, ◌-◌, ◌<◌, ◌≤◌, ◌≡◌, Bool, true, false, cond, not, ◌&&◌, ◌||◌, nat_lt, Option, Some, None, List}
 use Rattle.std.proofs.Common.{length, refl, sym, ap, ◌∙◌, arith, inl, inr}
 use Rattle.std.specs.List.{list_any}
-use Rattle.std.proofs.lemmas.Bool.{and_left, and_parts, and_right, both_ways, cases_Bool, false_from_ne_true, le-ltb, ltb-true, or_cases}
+use Rattle.std.proofs.lemmas.Bool.{and_left, and_parts, and_right, both_ways, cases_Bool, false_from_ne_true, le-ltb, or_cases, or_left, or_right}
 use Rattle.fsb_count.specs.Clocks.{any_where}
 use Rattle.fsb_count.specs.Options.{is_at, is_before}
 use Rattle.fsb_signal.specs.declared.lines.TheConstants.Lines.{ADS}
@@ -41,7 +41,7 @@ outstanding_closed v c q t =
 
 pub outstanding_late : (v : Trace) (c q : ℕ) → c ≤ q → is_outstanding v c q ≡ false
 unfolding is_outstanding
-outstanding_late v c q l = rw (le-ltb c q l) (none (line_at ADS v q) _ _ _)
+outstanding_late v c q l = rw (le-ltb q c l) (none (line_at ADS v q) _ _ _)
   where
     none : (a r d f : Bool) → ((((a && false) && r) && d) && f) ≡ false
     none a r d f = grind arith
@@ -65,7 +65,7 @@ still_asking rows v line a c k =
 
 open_late : (v : Trace) (c q : ℕ) → c ≤ q → is_open_at v c q ≡ false
 unfolding is_open_at is_in_flight
-open_late v c q l = rw (le-ltb c q l) (none (line_at ADS v q) _ _ _)
+open_late v c q l = rw (le-ltb q c l) (none (line_at ADS v q) _ _ _)
   where
     none : (a r d f : Bool) → ((((a && false) && r) && d) && f) ≡ false
     none a r d f = grind arith
@@ -86,12 +86,9 @@ left_last : (rows : List Row) (v : Trace) (c q : ℕ) → AreKeptAt rows v c →
 unfolding row_at
 left_last rows v c q k t =
     elim (or_cases _ _ t) [
-      | inl dropped ↦ rw dropped refl
-      | inr last ↦ rw (last_before v k.orderly q c last) (either _)
+      | inl dropped ↦ or_left _ _ dropped
+      | inr last ↦ or_right _ _ (last_before v k.orderly q c last)
     ]
-  where
-    either : (a : Bool) → (a || true) ≡ true
-    either a = grind arith
 
 open_closed : (rows : List Row) (v : Trace) (c q : ℕ) → AreKeptAt rows v c → is_open_at v c q ≡ true
     → is_row_closed (row_at v q) c ≡ false

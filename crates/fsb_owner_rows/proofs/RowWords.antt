@@ -8,9 +8,9 @@ use Rattle.fsb_count.specs.Clocks.{any_where}
 use Rattle.fsb_count.proofs.Interface.{any_where-at, any_where-found, any_where-off, is_at-from, is_at-some, nth_where-found}
 use Rattle.fsb_signal.specs.declared.lines.TheConstants.Lines.{ADS}
 use Rattle.fsb_signal.specs.Samples.{line_at}
-use Rattle.fsb_trace.specs.At.{Trace}
+use Rattle.fsb_trace.specs.At.{Trace, request_at}
 use Rattle.fsb_trace.specs.Flight.{has_ended, is_dropped, is_finished, is_in_flight, is_outstanding}
-use Rattle.fsb_trace.specs.Requests.{is_live, is_reply, live_clock_of, live_count, live_number_of, request_at, seen_at}
+use Rattle.fsb_trace.specs.Requests.{is_live, is_reply, live_clock_of, live_count, live_number_of, seen_at}
 use Rattle.fsb_trace.specs.Snoop.{snoop_end_of}
 use Rattle.fsb_trace.proofs.Interface.{live_below_count, live_clock_of-number}
 use Rattle.fsb_owners.specs.Shown.{agent_at, asks, is_open_at, names, purpose_at}

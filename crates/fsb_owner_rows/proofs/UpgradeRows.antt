@@ -8,7 +8,7 @@ use Rattle.fsb_count.specs.Options.{is_before}
 use Rattle.fsb_count.proofs.Interface.{is_before-parts}
 use Rattle.fsb_trace.specs.At.{Trace, request_at}
 use Rattle.fsb_trace.specs.Flight.{is_outstanding}
-use Rattle.fsb_trace.specs.Requests.{is_upgrade, live_number_of, seen_at}
+use Rattle.fsb_trace.specs.Requests.{is_cancelled, is_upgrade, live_number_of, seen_at}
 use Rattle.fsb_trace.specs.Response.{end_of}
 use Rattle.fsb_trace.proofs.Interface.{live_clock_of-number}
 use Rattle.fsb_laws.specs.Orderly.{Orderly}
@@ -29,10 +29,10 @@ use Rattle.fsb_owner_rows.proofs.RowWords.{asks_ads, asks_is, clock_of, outstand
 -- no request is closed below its first clock
 pub closed_late : (v : Trace) (q d : ℕ) → Orderly v → d ≤ q → is_row_closed (row_at v q) d ≡ false
 closed_late v q d o l =
-    false_from_ne_true _ (λ t.
-    elim (or_cases _ _ t) [
+    false_from_ne_true (is_row_closed (row_at v q) d) (λ (t : is_row_closed (row_at v q) d ≡ true).
+    elim (or_cases (is_row_dropped (row_at v q) d) (is_before (row_last_clock (row_at v q)) d) t) [
       | inl dropped ↦
-          let p = and_parts _ (nat_lt (q + 3) d) (sym (dropped_of v q d) ∙ dropped) in
+          let p = and_parts (is_cancelled v q) (nat_lt (q + 3) d) (sym (dropped_of v q d) ∙ dropped) in
           let less : q + 3 < d = ltb-true (q + 3) d p.1 in omega (arith, less, l)
       | inr last ↦
           let e = is_before-parts (reached end_of v q) d (last_before v o q d last) in

@@ -1,6 +1,7 @@
 //! Whose bytes are under way, and who may drop a copy.
 
 ghost use Rattle.std.specs.Prelude.{◌≡◌, ◌+◌, ◌<◌, ℕ, true, false, length};
+ghost use Rattle.std.specs.List.{list_any};
 ghost use Rattle.std.specs.Option.{option_map};
 ghost use Rattle.fsb_count.specs.Options.{is_before, is_some_and};
 ghost use Rattle.fsb_line.specs.States.{gets_line};
@@ -36,7 +37,6 @@ fn origin_row(rows: &[Row], row: &Row) -> Option<Row>
 
 /// The row of the request that counts at this one, which is live and has no end before one of the last three clocks:
 /// of a reply the first that it answers, else itself.
-#[tactic(auto, using(crate::proofs::Origins::origin_of_row))]
 pub fn origin_of(rows: &[Row], row: &Row) -> Option<Row>
     ensures { (v : Trace) (c q : ℕ) → AreKeptAt rows.now v c → row.now ≡ row_at v q →
         is_live v q ≡ true → is_before (reached end_of v q) c ≡ false →
@@ -79,13 +79,19 @@ fn is_coming_by(rows: &[Row], row: &Row, line: u64, agent: u8, clock: u32) -> bo
     }
 }
 
-/// Whether bytes of the line are under way to the agent at the clock: the snoop end lies before it, and the end does not.
-#[tactic(auto, using(crate::proofs::ComingRows::coming))]
-pub fn is_coming(rows: &[Row], line: u64, agent: u8, clock: u32) -> bool
-    ensures { (v : Trace) → AreKeptAt rows.now v clock → result ≡ is_coming v line agent clock }
+/// Whether bytes of the line are under way to the agent at the clock, by the request of some row.
+fn some_coming(rows: &[Row], line: u64, agent: u8, clock: u32) -> bool
+    ensures { result ≡ list_any (row_comes rows.now line agent clock) rows.now }
 {
     rows.iter()
         .any(|row| is_coming_by(rows, row, line, agent, clock))
+}
+
+/// Whether bytes of the line are under way to the agent at the clock: the snoop end lies before it, and the end does not.
+pub fn is_coming(rows: &[Row], line: u64, agent: u8, clock: u32) -> bool
+    ensures { (v : Trace) → AreKeptAt rows.now v clock → result ≡ is_coming v line agent clock }
+{
+    some_coming(rows, line, agent, clock)
 }
 
 /// Whether the row is of an upgrade of the line by the agent, and the clock lies from its first clock to its last one as
@@ -98,15 +104,21 @@ fn is_upgrading_by(row: &Row, line: u64, agent: u8, clock: u32) -> bool
         && (row.seen.clock == clock || is_outstanding(row, clock))
 }
 
+/// Whether a row is of an upgrade of the line by the agent that is under way at the clock.
+fn some_upgrading(rows: &[Row], line: u64, agent: u8, clock: u32) -> bool
+    ensures { result ≡ list_any (row_upgrades line agent clock) rows.now }
+{
+    rows.iter()
+        .any(|row| is_upgrading_by(row, line, agent, clock))
+}
+
 /// Whether the clock, which is not the last one, lies from the first clock of an upgrade of the line by the agent to its last
 /// clock as outstanding.
-#[tactic(auto, using(crate::proofs::UpgradeRows::upgrading))]
 pub fn is_upgrading(rows: &[Row], line: u64, agent: u8, clock: u32) -> bool
     ensures { (v : Trace) → AreKeptAt rows.now v clock → clock + 1 < length v →
         result ≡ is_upgrading v line agent clock }
 {
-    rows.iter()
-        .any(|row| is_upgrading_by(row, line, agent, clock))
+    some_upgrading(rows, line, agent, clock)
 }
 
 /// Whether the agent may drop a clean copy of the line at the clock, which the other one follows.
