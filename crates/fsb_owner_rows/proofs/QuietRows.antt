@@ -31,6 +31,9 @@ found_passes p n (x ∷ rows) row e t =
       | inr fails ↦ or_right _ _ (found_passes p n rows row (rw fails at e) t)
     ]
 
+second_off : (a b : Bool) → (a || b) ≡ false → b ≡ false
+second_off a b f = grind arith
+
 -- what no row passes no row passes together with more
 none_passes : (n p : Row → Bool) (rows : List Row) → ((row : Row) → p row ≡ true → n row ≡ true ) → list_any n rows ≡ false
     → list_any p rows ≡ false
@@ -39,15 +42,8 @@ none_passes n p (x ∷ rows) imp f =
     false_from_ne_true _ (λ t.
     elim (or_cases (p x) (list_any p rows) t) [
       | inl here ↦ both_ways _ f (or_left _ _ (imp x here))
-      | inr later ↦ both_ways _ f (or_right _ _ (later_passes later))
+      | inr later ↦ both_ways _ (none_passes n p rows imp (second_off (n x) (list_any n rows) f)) later
     ])
-  where
-    later_passes : list_any p rows ≡ true → list_any n rows ≡ true
-    later_passes t =
-        elim (cases_Bool (list_any n rows)) [
-          | inl holds ↦ holds
-          | inr fails ↦ absurd (both_ways _ (none_passes n p rows imp no) t)
-        ]
 
 -- a row passes the test of one of its requests, itself or the one that it answers
 origin_named : (all : List Row) (line : ℕ) (row origin : Row) → row_origin all row ≡ Some origin → row_names line origin ≡ true

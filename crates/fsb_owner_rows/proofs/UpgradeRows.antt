@@ -58,7 +58,7 @@ upgrade_agrees : (rows : List Row) (v : Trace) (line a c : ℕ) → AreKeptAt ro
     → Agrees (row_upgrades line a c) (upgrades_at v line a c) v
 unfolding upgrades_at
 upgrade_agrees rows v line a c k = record {
-  same = λ q t. rw (asks_is v line a q t, request_is v q, clock_of v q, outstanding_is v c q t) refl;
+  same = λ q t. rw (outstanding_is v c q t, asks_is v line a q t, request_is v q, clock_of v q) refl;
   asks = λ q t. asks_ads v line a q (and_parts _ _ (and_parts _ _ t).0).0;
   going = λ q t.
       elim (or_cases (nat_eq q c) (is_outstanding v c q) (and_parts _ _ t).1) [
