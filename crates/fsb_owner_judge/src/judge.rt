@@ -200,15 +200,6 @@ impl OwnerJudge {
         }
     }
 
-    /// Whether the line is spoiled by the samples so far.
-    pub fn is_spoiled(&self, line: u64) -> bool
-        ensures { (first : List Joint) (h : Trace) → Stands self.now first h →
-            has_lacked_memory self.now ≡ false → found_by self.now ≡ None →
-            result ≡ is_spoiled h line }
-    {
-        self.lines.is_spoiled(line)
-    }
-
     /// Takes what the wires show with the next sample, and tells the least clock and rule that is broken in the samples so
     /// far. From the first finding on it is always that one, and once memory was lacking it always is.
     pub fn step(&mut self, shown: &Shown, waits: &[Waiting]) -> Result<Option<OwnerBroken>, Memory>
