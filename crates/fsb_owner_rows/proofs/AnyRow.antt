@@ -1,5 +1,5 @@
 -- Whether some row that is kept passes a test, by the requests of the trace.
-use Rattle.std.proofs.Common.{ℕ, zero, suc, ◌+◌, ◌-◌, ◌<◌, ◌≤◌, ◌≡◌, Bool, true, false, cond, not, ◌||◌, Option, Some, None}
+use Rattle.std.proofs.Common.{ℕ, zero, suc, ◌-◌, ◌≤◌, ◌≡◌, Bool, true, false, cond, not, ◌||◌, Some, None}
 use Rattle.std.proofs.Common.{length, refl, sym, ap, ◌∙◌, arith, inl, inr, add-one}
 use Rattle.std.specs.List.{list_any}
 use Rattle.std.specs.Option.{option_to_list}

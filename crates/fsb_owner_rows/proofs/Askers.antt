@@ -1,8 +1,8 @@
 -- Who asks for a line, by the rows that are kept.
-use Rattle.std.proofs.Common.{ℕ, ◌+◌, ◌-◌, ◌<◌, ◌≤◌, ◌≡◌, Bool, true, false, cond, not, ◌&&◌, ◌||◌, nat_lt, Option, Some, None, List}
-use Rattle.std.proofs.Common.{length, refl, sym, ap, ◌∙◌, arith, inl, inr}
+use Rattle.std.proofs.Common.{ℕ, ◌-◌, ◌≤◌, ◌≡◌, Bool, true, false, not, ◌&&◌, ◌||◌, List}
+use Rattle.std.proofs.Common.{length, refl, ap, ◌∙◌, arith, inl, inr}
 use Rattle.std.specs.List.{list_any}
-use Rattle.std.proofs.lemmas.Bool.{and_left, and_parts, and_right, both_ways, cases_Bool, false_from_ne_true, le-ltb, or_cases, or_left, or_right}
+use Rattle.std.proofs.lemmas.Bool.{and_parts, and_right, both_ways, false_from_ne_true, le-ltb, or_cases, or_left, or_right}
 use Rattle.fsb_count.specs.Clocks.{any_where}
 use Rattle.fsb_count.specs.Options.{is_at, is_before}
 use Rattle.fsb_signal.specs.declared.lines.TheConstants.Lines.{ADS}
@@ -12,7 +12,7 @@ use Rattle.fsb_trace.specs.Flight.{has_ended, is_dropped, is_finished, is_in_fli
 use Rattle.fsb_laws.proofs.Interface.{ads_before_end}
 use Rattle.fsb_owners.specs.Shown.{agent_at, asks, is_held_back, is_open_at, is_still_asking, names}
 use Rattle.fsb_owner_table.specs.declared.row.Row.{Row}
-use Rattle.fsb_owner_table.specs.Kept.{is_row_closed, is_row_dropped, kept_below, row_last_clock, rows_of}
+use Rattle.fsb_owner_table.specs.Kept.{is_row_closed, is_row_dropped}
 use Rattle.fsb_owner_table.specs.Rows.{row_at}
 use Rattle.fsb_owner_table.proofs.Closed.{closed_is, left_is}
 use Rattle.fsb_owner_rows.specs.Kept.{AreKeptAt}

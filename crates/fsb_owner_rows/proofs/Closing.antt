@@ -1,13 +1,13 @@
 -- A row that is closed below a clock is closed below each later one, and its request has its end.
-use Rattle.std.proofs.Common.{ℕ, ◌+◌, ◌-◌, ◌<◌, ◌≤◌, ◌≡◌, Bool, true, false, cond, not, ◌&&◌, ◌||◌, nat_lt, Option, Some, None}
-use Rattle.std.proofs.Common.{length, refl, sym, ap, ◌∙◌, arith, inl, inr}
+use Rattle.std.proofs.Common.{ℕ, ◌+◌, ◌<◌, ◌≤◌, ◌≡◌, Bool, true, false, cond, nat_lt, Option, Some, None}
+use Rattle.std.proofs.Common.{length, refl, sym, ◌∙◌, arith, inl, inr}
 use Rattle.std.specs.Option.{option_and_then}
-use Rattle.std.proofs.lemmas.Bool.{and_left, and_parts, and_right, both_ways, cases_Bool, false_from_ne_true, lt-ltb, ltb-true, or_cases, or_left, or_right}
+use Rattle.std.proofs.lemmas.Bool.{and_parts, both_ways, false_from_ne_true, lt-ltb, ltb-true, or_cases, or_left, or_right}
 use Rattle.fsb_count.specs.Options.{is_before}
 use Rattle.fsb_count.proofs.Interface.{first_where-found, is_before-from, is_before-parts}
 use Rattle.fsb_trace.specs.At.{Trace}
-use Rattle.fsb_trace.specs.Flight.{has_ended, is_dropped, is_finished, is_in_flight, is_outstanding, is_live_reply_to, is_reply_to, reply_clock_of}
-use Rattle.fsb_trace.specs.Requests.{is_live, live_clock_of, live_number_of}
+use Rattle.fsb_trace.specs.Flight.{is_live_reply_to, is_reply_to, reply_clock_of}
+use Rattle.fsb_trace.specs.Requests.{is_live, live_number_of}
 use Rattle.fsb_trace.specs.Outcome.{is_deferred, response_clock_of}
 use Rattle.fsb_trace.specs.Response.{end_of}
 use Rattle.fsb_trace.proofs.Interface.{live_clock_of-number}
@@ -17,9 +17,9 @@ use Rattle.fsb_owner_table.specs.declared.row.Row.{Row}
 use Rattle.fsb_owner_table.specs.Kept.{is_row_closed, is_row_dropped, row_last_clock}
 use Rattle.fsb_owner_table.specs.RowAfter.{is_row_deferred}
 use Rattle.fsb_owner_table.specs.Rows.{reached, reached_by_reply, reply_at, row_at}
-use Rattle.fsb_owner_table.proofs.KeptRows.{dropped_of, last_of}
+use Rattle.fsb_owner_table.proofs.KeptRows.{last_of}
 use Rattle.fsb_owner_table.proofs.Reached.{reached-live, reached-parts}
-use Rattle.fsb_owner_table.proofs.RowGoes.{deferred_is, reply_deferred, reply_plain}
+use Rattle.fsb_owner_table.proofs.RowGoes.{deferred_is, reply_deferred}
 
 before_more : (o : Option ℕ) (d c : ℕ) → d ≤ c → is_before o d ≡ true → is_before o c ≡ true
 before_more o d c l t = let p = is_before-parts o d t in is_before-from o p.0 c p.1 (omega (arith, p.2))

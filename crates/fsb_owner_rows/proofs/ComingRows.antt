@@ -1,30 +1,28 @@
 -- Whose bytes are under way, by the rows that are kept.
-use Rattle.std.proofs.Common.{ℕ, ◌+◌, ◌-◌, ◌<◌, ◌≤◌, ◌≡◌, Bool, true, false, cond, not, ◌&&◌, ◌||◌, nat_lt, Option, Some, None, List}
+use Rattle.std.proofs.Common.{ℕ, ◌-◌, ◌≤◌, ◌≡◌, Bool, true, false, not, ◌&&◌, Option, Some, None, List}
 use Rattle.std.proofs.Common.{length, refl, sym, ap, ◌∙◌, arith, inl, inr}
 use Rattle.std.specs.List.{list_any}
-use Rattle.std.specs.Option.{option_and_then, option_map}
+use Rattle.std.specs.Option.{option_map}
 use Rattle.std.proofs.lemmas.Bool.{and_parts, and_right, both_ways, cases_Bool, false_from_ne_true}
 use Rattle.fsb_count.specs.Options.{is_before, is_some_and}
 use Rattle.fsb_count.proofs.Interface.{is_before-parts}
 use Rattle.fsb_signal.specs.declared.lines.TheConstants.Lines.{ADS, DEFER, HITM}
 use Rattle.fsb_signal.specs.Samples.{line_at}
-use Rattle.fsb_line.specs.States.{gets_line}
-use Rattle.fsb_trace.specs.At.{Trace, request_at}
-use Rattle.fsb_trace.specs.Requests.{is_live, is_reply, is_write_back, live_clock_of, live_count, live_number_of, live_request_of, seen_at}
+use Rattle.fsb_trace.specs.At.{Trace}
+use Rattle.fsb_trace.specs.Requests.{is_live, live_number_of, live_request_of}
 use Rattle.fsb_trace.specs.Response.{end_of}
 use Rattle.fsb_trace.specs.Snoop.{line_at_snoop_end, snoop_end_of}
 use Rattle.fsb_trace.proofs.Interface.{live_clock_of-number, snoop_end_of-clock}
 use Rattle.fsb_laws.proofs.Interface.{ads_before_end, is_live-ads}
-use Rattle.fsb_owners.specs.Shown.{asks, brings_bytes, is_coming, is_coming_by, is_turned, origin_clock_of, purpose_at}
+use Rattle.fsb_owners.specs.Shown.{asks, brings_bytes, is_coming, is_coming_by, is_turned, origin_clock_of}
 use Rattle.fsb_owner_table.specs.declared.row.Row.{Row}
-use Rattle.fsb_owner_table.specs.declared.row.Snooped.{Snooped}
-use Rattle.fsb_owner_table.specs.Kept.{is_row_closed, row_last_clock, rows_of}
+use Rattle.fsb_owner_table.specs.Kept.{is_row_closed}
 use Rattle.fsb_owner_table.specs.RowAfter.{is_row_handed}
 use Rattle.fsb_owner_table.specs.Rows.{reached, row_at, snoop_at, snooped_by}
 use Rattle.fsb_owner_table.proofs.Reached.{reached-dead, reached-live}
 use Rattle.fsb_owner_table.proofs.RowGoes.{request_of}
 use Rattle.fsb_owner_rows.specs.Kept.{AreKeptAt}
-use Rattle.fsb_owner_rows.specs.OfRow.{is_row_between, is_row_turned, row_asks, row_brings, row_comes, row_origin, row_purpose}
+use Rattle.fsb_owner_rows.specs.OfRow.{is_row_between, is_row_turned, row_asks, row_brings, row_comes, row_origin}
 use Rattle.fsb_owner_rows.proofs.AnyRow.{Agrees, any_rows}
 use Rattle.fsb_owner_rows.proofs.Closing.{closed_less, last_before}
 use Rattle.fsb_owner_rows.proofs.LiveTests.{any_live, by_number}
@@ -54,7 +52,7 @@ between_live v c q t = between_is v c q ∙ (rw (reached-live snoop_end_of v q t
 
 -- whether it brings bytes
 
-snoop_of_row : (v : Trace) (q : ℕ) → is_live v q ≡ true
+pub snoop_of_row : (v : Trace) (q : ℕ) → is_live v q ≡ true
     → (row_at v q).snoop ≡ option_map (snooped_by v) (snoop_end_of v (live_number_of v q))
 unfolding row_at snoop_at
 snoop_of_row v q t = rw (reached-live snoop_end_of v q t) refl
@@ -67,7 +65,7 @@ handed_is v q t = ap (λ o. is_some_and o (λ s. s.hitm)) (snoop_of_row v q t) �
     by_end None = refl
     by_end (Some s) = refl
 
-turned_is : (v : Trace) (q : ℕ) → is_live v q ≡ true → is_row_turned (row_at v q) ≡ is_turned v (live_number_of v q)
+pub turned_is : (v : Trace) (q : ℕ) → is_live v q ≡ true → is_row_turned (row_at v q) ≡ is_turned v (live_number_of v q)
 unfolding is_turned line_at_snoop_end is_some_and snooped_by
 turned_is v q t =
     ap (λ o. is_some_and o (λ s. s.defer && not s.hitm)) (snoop_of_row v q t) ∙ by_end (snoop_end_of v (live_number_of v q))
@@ -77,7 +75,7 @@ turned_is v q t =
     by_end None = refl
     by_end (Some s) = refl
 
-asked_request : (v : Trace) (q : ℕ) → is_live v q ≡ true → (row_at v q).seen.request ≡ live_request_of v (live_number_of v q)
+pub asked_request : (v : Trace) (q : ℕ) → is_live v q ≡ true → (row_at v q).seen.request ≡ live_request_of v (live_number_of v q)
 asked_request v q t =
     request_is v q
     ∙ sym (request_of v (live_number_of v q) q (live_clock_of-number v q (ads_before_end v q (is_live-ads v q t)) t))

@@ -1,5 +1,5 @@
 -- The rows of the requests to which a clock belongs.
-use Rattle.std.proofs.Common.{ℕ, ◌+◌, ◌-◌, ◌<◌, ◌≤◌, ◌≡◌, Bool, true, false, cond, not, ◌&&◌, nat_eq, Option, Some, None, List}
+use Rattle.std.proofs.Common.{ℕ, ◌+◌, ◌-◌, ◌<◌, ◌≤◌, ◌≡◌, Bool, true, false, cond, ◌&&◌, nat_eq, Option, Some, None, List}
 use Rattle.std.proofs.Common.{length, refl, sym, ap, ◌∙◌, arith, inl, inr}
 use Rattle.std.specs.List.{find}
 use Rattle.std.specs.Option.{option_and_then, option_map}
@@ -11,7 +11,7 @@ use Rattle.fsb_signal.specs.declared.lines.TheConstants.Lines.{ADS}
 use Rattle.fsb_signal.specs.Samples.{line_at}
 use Rattle.fsb_trace.specs.At.{Trace}
 use Rattle.fsb_trace.specs.Outcome.{response_clock_of}
-use Rattle.fsb_trace.specs.Requests.{is_live, live_clock_of, live_count, live_number_of, seen_at}
+use Rattle.fsb_trace.specs.Requests.{is_live, live_clock_of, live_count, live_number_of}
 use Rattle.fsb_trace.specs.Response.{end_of}
 use Rattle.fsb_trace.specs.Snoop.{snoop_end_of}
 use Rattle.fsb_trace.proofs.Interface.{end_of-response, live_clock_of-number, snoop_end_of-clock}
@@ -19,9 +19,9 @@ use Rattle.fsb_laws.specs.Orderly.{Orderly}
 use Rattle.fsb_laws.proofs.Interface.{ads_before_end, has_answer, is_live-ads}
 use Rattle.fsb_owners.specs.Shown.{snooped_at}
 use Rattle.fsb_owner_table.specs.declared.row.Row.{Row}
-use Rattle.fsb_owner_table.specs.Kept.{is_row_closed, row_last_clock, rows_of}
+use Rattle.fsb_owner_table.specs.Kept.{is_row_closed}
 use Rattle.fsb_owner_table.specs.Rows.{reached, row_at, snoop_at, snooped_by}
-use Rattle.fsb_owner_table.proofs.Reached.{reached-live, reached-parts}
+use Rattle.fsb_owner_table.proofs.Reached.{reached-parts}
 use Rattle.fsb_owner_rows.specs.Kept.{AreKeptAt, answered_at}
 use Rattle.fsb_owner_rows.proofs.Closing.{closed_less, last_before}
 use Rattle.fsb_owner_rows.proofs.FindRow.{found_row, row_passes}

@@ -1,9 +1,9 @@
 -- The request that counts at a reply, by the rows that are kept.
-use Rattle.std.proofs.Common.{ℕ, ◌+◌, ◌-◌, ◌<◌, ◌≤◌, ◌≡◌, Bool, true, false, cond, not, ◌&&◌, ◌||◌, nat_eq, nat_lt, Option, Some, None, List}
+use Rattle.std.proofs.Common.{ℕ, ◌-◌, ◌<◌, ◌≤◌, ◌≡◌, Bool, true, false, not, ◌&&◌, nat_eq, Option, Some, None, List}
 use Rattle.std.proofs.Common.{length, refl, sym, ap, ◌∙◌, arith, inl, inr}
 use Rattle.std.specs.List.{find}
 use Rattle.std.specs.Option.{option_and_then, option_map}
-use Rattle.std.proofs.lemmas.Bool.{and_parts, and_right, both_ways, cases_Bool, cases_eq, eq-eqb, false_from_ne_true, ne_eqb, or_cases}
+use Rattle.std.proofs.lemmas.Bool.{and_parts, and_right, both_ways, cases_Bool, cases_eq, eq-eqb, false_from_ne_true, ne_eqb}
 use Rattle.fsb_count.specs.Clocks.{first_where}
 use Rattle.fsb_count.specs.Options.{is_at, is_before, is_some_and}
 use Rattle.fsb_count.proofs.Interface.{first_where-same, is_at-some, nth_where-found}
@@ -12,20 +12,20 @@ use Rattle.fsb_signal.specs.Samples.{line_at}
 use Rattle.fsb_trace.specs.At.{Trace, responds_at}
 use Rattle.fsb_trace.specs.Flight.{reply_clock_of, reply_number_of}
 use Rattle.fsb_trace.specs.Outcome.{is_deferred, response_clock_of}
-use Rattle.fsb_trace.specs.Requests.{is_cancelled, is_live, is_reply, live_clock_of, live_count, live_number_of, live_request_of, seen_at}
+use Rattle.fsb_trace.specs.Requests.{is_cancelled, is_live, is_reply, live_clock_of, live_count, live_number_of, live_request_of}
 use Rattle.fsb_trace.specs.Response.{end_of}
 use Rattle.fsb_trace.proofs.Interface.{live_clock_of-number}
 use Rattle.fsb_laws.specs.Orderly.{Orderly}
 use Rattle.fsb_laws.proofs.Interface.{ads_before_end, deferred_response, end_after_clock, is_live-ads, live_of_reply}
 use Rattle.fsb_owners.specs.Shown.{is_reply_of, origin_clock_of, origin_of}
 use Rattle.fsb_owner_table.specs.declared.row.Row.{Row}
-use Rattle.fsb_owner_table.specs.Kept.{is_row_closed, is_row_dropped, row_last_clock, rows_of}
+use Rattle.fsb_owner_table.specs.Kept.{is_row_closed, row_last_clock}
 use Rattle.fsb_owner_table.specs.RowAfter.{is_row_deferred}
 use Rattle.fsb_owner_table.specs.Rows.{reached, reached_by_reply, reply_at, row_at}
 use Rattle.fsb_owner_table.proofs.KeptRows.{dropped_of, last_of}
 use Rattle.fsb_owner_table.proofs.RowGoes.{deferred_is, reply_deferred, reply_plain, request_of}
 use Rattle.fsb_owner_rows.specs.Kept.{AreKeptAt}
-use Rattle.fsb_owner_rows.specs.OfRow.{answered_by, row_origin}
+use Rattle.fsb_owner_rows.specs.OfRow.{row_origin}
 use Rattle.fsb_owner_rows.proofs.Closing.{closed_less}
 use Rattle.fsb_owner_rows.proofs.FindRow.{found_row, row_passes}
 use Rattle.fsb_owner_rows.proofs.LiveTests.{by_number, first_live}

@@ -1,20 +1,16 @@
 -- A line that no row names.
-use Rattle.std.proofs.Common.{ℕ, ◌+◌, ◌-◌, ◌<◌, ◌≤◌, ◌≡◌, Bool, true, false, cond, not, ◌&&◌, ◌||◌, ◌⊎◌, nat_eq, Option, Some, None, List, [], ◌∷◌}
+use Rattle.std.proofs.Common.{ℕ, ◌+◌, ◌-◌, ◌<◌, ◌≡◌, Bool, true, false, ◌&&◌, ◌||◌, ◌⊎◌, nat_eq, Option, Some, None, List, [], ◌∷◌}
 use Rattle.std.proofs.Common.{length, refl, sym, ap, ◌∙◌, arith, inl, inr}
 use Rattle.std.specs.List.{find, list_any}
 use Rattle.std.proofs.lemmas.Bool.{and_parts, both_ways, cases_Bool, eq-eqb, eqb-true, false_from_ne_true, or_cases, or_left, or_right}
-use Rattle.fsb_count.specs.Options.{is_at, is_some_and}
+use Rattle.fsb_count.specs.Options.{is_some_and}
 use Rattle.fsb_count.proofs.Interface.{any_where-at}
-use Rattle.fsb_signal.specs.declared.lines.TheConstants.Lines.{ADS}
-use Rattle.fsb_signal.specs.Samples.{line_at}
 use Rattle.fsb_trace.specs.At.{Trace}
 use Rattle.fsb_trace.specs.Requests.{is_reply}
 use Rattle.fsb_owners.specs.Shown.{is_coming, is_upgrading, names}
 use Rattle.fsb_owner_table.specs.declared.row.Row.{Row}
-use Rattle.fsb_owner_table.specs.Kept.{is_row_closed, kept_below, rows_of}
-use Rattle.fsb_owner_table.specs.Rows.{row_at}
 use Rattle.fsb_owner_rows.specs.Kept.{AreKeptAt}
-use Rattle.fsb_owner_rows.specs.OfRow.{answered_by, is_named_line, row_asks, row_comes, row_names, row_origin, row_upgrades}
+use Rattle.fsb_owner_rows.specs.OfRow.{is_named_line, row_asks, row_comes, row_names, row_origin, row_upgrades}
 use Rattle.fsb_owner_rows.proofs.AnyRow.{Agrees, any_rows}
 use Rattle.fsb_owner_rows.proofs.ComingRows.{coming}
 use Rattle.fsb_owner_rows.proofs.UpgradeRows.{closed_late, upgrading}
@@ -35,7 +31,7 @@ second_off : (a b : Bool) → (a || b) ≡ false → b ≡ false
 second_off a b f = grind arith
 
 -- what no row passes no row passes together with more
-none_passes : (n p : Row → Bool) (rows : List Row) → ((row : Row) → p row ≡ true → n row ≡ true ) → list_any n rows ≡ false
+none_passes : (n p : Row → Bool) (rows : List Row) → ((row : Row) → p row ≡ true → n row ≡ true) → list_any n rows ≡ false
     → list_any p rows ≡ false
 none_passes n p [] imp f = refl
 none_passes n p (x ∷ rows) imp f =

@@ -1,11 +1,11 @@
 -- What a row shows of its line, and what the trace says of it.
-use Rattle.std.proofs.Common.{ℕ, ◌+◌, ◌-◌, ◌<◌, ◌≤◌, ◌≡◌, Bool, true, false, cond, not, ◌&&◌, ◌||◌, nat_lt, Option, Some, None}
+use Rattle.std.proofs.Common.{ℕ, ◌<◌, ◌≡◌, Bool, true, false, not, ◌&&◌, ◌||◌, nat_lt, Option, Some, None}
 use Rattle.std.proofs.Common.{length, refl, sym, ap, ◌∙◌, arith, inl, inr}
 use Rattle.std.specs.Option.{option_map}
-use Rattle.std.proofs.lemmas.Bool.{and_left, and_parts, and_right, both_ways, cases_Bool, false_from_ne_true}
+use Rattle.std.proofs.lemmas.Bool.{and_parts, both_ways, cases_Bool, false_from_ne_true}
 use Rattle.fsb_count.specs.Options.{is_at, is_before, is_some_and}
 use Rattle.fsb_count.specs.Clocks.{any_where}
-use Rattle.fsb_count.proofs.Interface.{any_where-at, any_where-found, any_where-off, is_at-from, is_at-some, nth_where-found}
+use Rattle.fsb_count.proofs.Interface.{any_where-at, any_where-off, is_at-from, is_at-some, nth_where-found}
 use Rattle.fsb_signal.specs.declared.lines.TheConstants.Lines.{ADS}
 use Rattle.fsb_signal.specs.Samples.{line_at}
 use Rattle.fsb_trace.specs.At.{Trace, request_at}
@@ -14,12 +14,9 @@ use Rattle.fsb_trace.specs.Requests.{is_live, is_reply, live_clock_of, live_coun
 use Rattle.fsb_trace.specs.Snoop.{snoop_end_of}
 use Rattle.fsb_trace.proofs.Interface.{live_below_count, live_clock_of-number}
 use Rattle.fsb_owners.specs.Shown.{agent_at, asks, is_open_at, names, purpose_at}
-use Rattle.fsb_owner_table.specs.declared.row.Row.{Row}
-use Rattle.fsb_owner_table.specs.declared.row.Snooped.{Snooped}
-use Rattle.fsb_owner_table.specs.Kept.{is_row_closed, is_row_dropped}
 use Rattle.fsb_owner_table.specs.Rows.{reached, row_at, snoop_at, snooped_by}
 use Rattle.fsb_owner_table.proofs.Closed.{closed_is, left_is}
-use Rattle.fsb_owner_table.proofs.Reached.{reached-live, reached-parts}
+use Rattle.fsb_owner_table.proofs.Reached.{reached-live}
 use Rattle.fsb_owner_rows.specs.OfRow.{is_row_open, is_row_outstanding, row_agent, row_asks, row_names, row_purpose}
 
 pub names_is : (v : Trace) (line q : ℕ) → line_at ADS v q ≡ true → row_names line (row_at v q) ≡ names v line q

@@ -1,26 +1,25 @@
 -- Upgrades of a line that are under way, by the rows that are kept.
-use Rattle.std.proofs.Common.{ℕ, ◌+◌, ◌-◌, ◌<◌, ◌≤◌, ◌≡◌, Bool, true, false, cond, not, ◌&&◌, ◌||◌, nat_eq, nat_lt, Option, Some, None, List}
+use Rattle.std.proofs.Common.{ℕ, ◌+◌, ◌-◌, ◌<◌, ◌≤◌, ◌≡◌, Bool, true, false, ◌&&◌, ◌||◌, nat_eq, nat_lt, List}
 use Rattle.std.proofs.Common.{length, refl, sym, ap, ◌∙◌, arith, inl, inr}
 use Rattle.std.specs.List.{list_any}
-use Rattle.std.proofs.lemmas.Bool.{and_parts, and_right, both_ways, cases_Bool, eqb-true, false_from_ne_true, ltb-true, ne_eqb, or_cases}
-use Rattle.fsb_count.specs.Clocks.{any_where}
+use Rattle.std.proofs.lemmas.Bool.{and_parts, and_right, eqb-true, false_from_ne_true, ltb-true, ne_eqb, or_cases}
 use Rattle.fsb_count.specs.Options.{is_before}
 use Rattle.fsb_count.proofs.Interface.{is_before-parts}
 use Rattle.fsb_trace.specs.At.{Trace, request_at}
 use Rattle.fsb_trace.specs.Flight.{is_outstanding}
-use Rattle.fsb_trace.specs.Requests.{is_cancelled, is_upgrade, live_number_of, seen_at}
+use Rattle.fsb_trace.specs.Requests.{is_cancelled, is_upgrade, live_number_of}
 use Rattle.fsb_trace.specs.Response.{end_of}
 use Rattle.fsb_trace.proofs.Interface.{live_clock_of-number}
 use Rattle.fsb_laws.specs.Orderly.{Orderly}
 use Rattle.fsb_laws.proofs.Interface.{ads_before_end, end_after_clock, is_live-ads}
 use Rattle.fsb_owners.specs.Shown.{asks, is_upgrading}
 use Rattle.fsb_owner_table.specs.declared.row.Row.{Row}
-use Rattle.fsb_owner_table.specs.Kept.{is_row_closed, is_row_dropped, row_last_clock, rows_of}
+use Rattle.fsb_owner_table.specs.Kept.{is_row_closed, is_row_dropped, row_last_clock}
 use Rattle.fsb_owner_table.specs.Rows.{reached, row_at}
 use Rattle.fsb_owner_table.proofs.KeptRows.{dropped_of}
 use Rattle.fsb_owner_table.proofs.Reached.{reached-parts}
 use Rattle.fsb_owner_rows.specs.Kept.{AreKeptAt}
-use Rattle.fsb_owner_rows.specs.OfRow.{row_asks, row_upgrades}
+use Rattle.fsb_owner_rows.specs.OfRow.{row_upgrades}
 use Rattle.fsb_owner_rows.proofs.AnyRow.{Agrees, any_below, any_rows}
 use Rattle.fsb_owner_rows.proofs.Askers.{outstanding_closed, outstanding_late}
 use Rattle.fsb_owner_rows.proofs.Closing.{closed_less, last_before}

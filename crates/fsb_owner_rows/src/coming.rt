@@ -13,7 +13,9 @@ ghost use Rattle.fsb_owner_table.specs.Rows.{reached, row_at};
 ghost use Rattle.fsb_owner_rows.specs.Kept.{AreKeptAt};
 ghost use Rattle.fsb_owner_rows.specs.OfRow.{answered_by, row_brings, row_comes, row_origin, row_upgrades};
 
-use crate::row::{asks, is_at, is_between, is_outstanding, is_turned, is_upgrade, is_write_back, purpose};
+use crate::row::{
+    asks, is_at, is_between, is_outstanding, is_turned, is_upgrade, is_write_back, purpose,
+};
 use fsb_line::Purpose;
 use fsb_owner_table::Row;
 

@@ -15,15 +15,23 @@ use fsb_owner_judge::Asking;
 use fsb_owner_rows::{begun_at, is_held_back, is_still_asking, named_line, purpose};
 use fsb_owner_table::Row;
 
+/// The agent, where it is one of four.
+fn one_of_four(agent: Option<u8>) -> Option<u8>
+    ensures one { IsOneOfFour result }
+    ensures same { IsOneOfFour agent → result ≡ agent }
+{
+    match agent {
+        Some(agent) => { if agent < 4 { Some(agent) } else { None } }
+        None => None,
+    }
+}
+
 /// The agent of the request, 0 to 3, where that is a symmetric one.
 pub fn known_agent(row: &Row) -> Option<u8>
     ensures one { IsOneOfFour result }
     ensures traced { (v : Trace) (q : ℕ) → row.now ≡ row_at v q → result ≡ agent_at v q }
 {
-    match row.agent() {
-        Some(agent) => { if agent < 4 { Some(agent) } else { None } }
-        None => None,
-    }
+    one_of_four(row.agent())
 }
 
 /// The request of the row, by this agent for this line.

@@ -1,5 +1,5 @@
 -- The least broken rule is the one that is broken while none before it is.
-use Rattle.std.proofs.Common.{ℕ, Bool, ◌<◌, ◌≡◌, true, false, Option, Some, None, is_some, refl, sym, ap, ◌∙◌, arith}
+use Rattle.std.proofs.Common.{ℕ, Bool, ◌<◌, ◌≡◌, true, false, Option, Some, None, refl, arith}
 use Rattle.std.specs.Option.{option_and_then, option_map}
 use Rattle.std.proofs.lemmas.Option.{some_pair_parts}
 use Rattle.fsb_count.specs.Clocks.{first_where}
