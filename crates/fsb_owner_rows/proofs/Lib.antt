@@ -1,0 +1,11 @@
+pub mod AnyRow
+pub mod FindRow
+pub mod RowWords
+pub mod Closing
+pub mod LiveTests
+pub mod Askers
+pub mod UpgradeRows
+pub mod Origins
+pub mod ComingRows
+pub mod FoundRows
+pub mod QuietRows

@@ -1,0 +1,3 @@
+pub mod AskingRows
+pub mod EndRows
+pub mod WaitLists
