@@ -3,6 +3,7 @@ use Rattle.std.specs.Prelude.{◌≡◌, ℕ, true, false, Option, None, Some, L
 use Rattle.clap.specs.Words.{App, Rule, Shape, fault_of, new_rule, subcommand_of, subcommand_rows_of}
 use Rattle.clap.specs.Simple.{new_shape}
 use Rattle.clap.specs.declared.parser.matches.ArgMatches.{ArgMatches}
+use Rattle.fsb_command.specs.declared.usage.LookVerb.{LookVerb}
 use Rattle.fsb_command.specs.Form.{Arguments, Verb, dump_alone, dump_and_trigger, dump_and_clocks, looks}
 
 -- an argument that has to be there
@@ -26,6 +27,10 @@ ids_behind dump_and_clocks = codes "from" ∷ codes "to" ∷ []
 -- a verb that looks at a dump
 abbrev pub look_verb : Verb → Shape
 look_verb look = verb_of look.name (codes "dump" ∷ ids_behind look.arguments)
+
+-- the same, as the code has it
+abbrev pub verb_told : LookVerb → Shape
+verb_told look = verb_of look.name.now (map (λ id. id.now) look.ids.now)
 
 -- the program with its verbs
 unfoldable pub usage : App

@@ -5,8 +5,7 @@ ghost use Rattle.std.specs.String.{string_bytes};
 ghost use Rattle.clap.specs.Simple.{app_of, shape_of, with_subcommand};
 ghost use Rattle.clap.specs.declared.builder.command.Command.TheViews.{out-Command as fields_of};
 ghost use Rattle.clap.specs.Walk.{rule_of};
-ghost use Rattle.fsb_command.specs.Form.{looks};
-ghost use Rattle.fsb_command.specs.Usage.{IsFound, look_verb, needed, usage, verb_of};
+ghost use Rattle.fsb_command.specs.Usage.{IsFound, needed, usage, verb_of, verb_told};
 
 use clap::error::ErrorKind;
 use clap::{Arg, ArgMatches, Command};
@@ -43,19 +42,36 @@ fn usage<'a>(alloc: Global) -> Result<Command<'a>, Memory>
         .subcommand_required(true)
         .subcommand(run)?;
     let usage = with_verb(alloc, usage, "gen", &["seed", "agents", "items"])?;
-    with_looks(alloc, usage)
+    let looks = [
+        LookVerb { name: "check", ids: &["dump"] },
+        LookVerb { name: "audit", ids: &["dump"] },
+        LookVerb { name: "show", ids: &["dump"] },
+        LookVerb { name: "find", ids: &["dump", "trigger"] },
+        LookVerb { name: "wave", ids: &["dump", "from", "to"] },
+    ];
+    with_looks(alloc, usage, &looks)
+}
+
+// A verb that looks at a dump, and the names of its arguments.
+#[derive(Clone, Copy)]
+struct LookVerb<'a> {
+    name: &'a str,
+    ids: &'a [&'a str],
 }
 
 // The verbs that look at a dump, behind those that are there.
-fn with_looks<'a>(alloc: Global, usage: Command<'a>) -> Result<Command<'a>, Memory>
+fn with_looks<'a>(
+    alloc: Global,
+    usage: Command<'a>,
+    looks: &[LookVerb<'a>],
+) -> Result<Command<'a>, Memory>
     ensures { IfOk result (λ c.
-        app_of c ≡ fold with_subcommand (app_of usage.entry) (map look_verb looks)) }
+        app_of c ≡ fold with_subcommand (app_of usage.entry) (map verb_told looks.now)) }
 {
-    let usage = with_verb(alloc, usage, "check", &["dump"])?;
-    let usage = with_verb(alloc, usage, "audit", &["dump"])?;
-    let usage = with_verb(alloc, usage, "show", &["dump"])?;
-    let usage = with_verb(alloc, usage, "find", &["dump", "trigger"])?;
-    let usage = with_verb(alloc, usage, "wave", &["dump", "from", "to"])?;
+    let mut usage = usage;
+    for look in looks {
+        usage = with_verb(alloc, usage, look.name, look.ids)?;
+    }
     Ok(usage)
 }
 
