@@ -106,10 +106,7 @@ fn task_of(verb: &str, found: &ArgMatches<'_>) -> Option<Task>
         "audit" => Some(Task::Audit),
         "show" => Some(Task::Show),
         "find" => Some(Task::Find(Trigger::read(found.get_str("trigger")?)?)),
-        "wave" => Some(Task::Wave(read_range(
-            found.get_str("from")?,
-            found.get_str("to")?,
-        )?)),
+        "wave" => Some(Task::Wave(read_range(found.get_str("from")?, found.get_str("to")?)?)),
         _ => None,
     }
 }

@@ -43,11 +43,26 @@ fn usage<'a>(alloc: Global) -> Result<Command<'a>, Memory>
         .subcommand(run)?;
     let usage = with_verb(alloc, usage, "gen", &["seed", "agents", "items"])?;
     let looks = [
-        LookVerb { name: "check", ids: &["dump"] },
-        LookVerb { name: "audit", ids: &["dump"] },
-        LookVerb { name: "show", ids: &["dump"] },
-        LookVerb { name: "find", ids: &["dump", "trigger"] },
-        LookVerb { name: "wave", ids: &["dump", "from", "to"] },
+        LookVerb {
+            name: "check",
+            ids: &["dump"],
+        },
+        LookVerb {
+            name: "audit",
+            ids: &["dump"],
+        },
+        LookVerb {
+            name: "show",
+            ids: &["dump"],
+        },
+        LookVerb {
+            name: "find",
+            ids: &["dump", "trigger"],
+        },
+        LookVerb {
+            name: "wave",
+            ids: &["dump", "from", "to"],
+        },
     ];
     with_looks(alloc, usage, &looks)
 }

@@ -10,7 +10,8 @@ use Rattle.fsb_rules.specs.declared.broken.Broken.{Broken}
 use Rattle.vcd_grammar.specs.declared.fault.VcdFault.{VcdFault}
 use Rattle.fsb_top.specs.BenchEnds.{IsOfAudit, IsOfGen, IsOfRun}
 use Rattle.fsb_top.specs.CallEnds.{DumpCall, EndsTold, IsPlayed}
-use Rattle.fsb_top.specs.Looks.{Answer, audit_status, broken_status, foul, match_status, missed, rejected, status_of, well}
+use Rattle.fsb_top.specs.Looks.{Answer, audit_status, broken_status, is_foul, is_missed, is_rejected, is_well, match_status}
+use Rattle.fsb_top.specs.Looks.{status_of}
 use Rattle.fsb_top.specs.FileRead.{FileKind, IsDumpKind, IsStopped, bench_file}
 use Rattle.fsb_top.specs.declared.status.Status.{Status}
 use Rattle.fsb_top.specs.declared.status.Status.TheVariants.{Done, Rejected, BadWords, BadBench, BadDump}
@@ -27,10 +28,10 @@ told_as out before after Of told status is fails (inr failed) = subst Of (sym fa
 -- a property of each status that answers
 pub answer_as : (Of : Status → Type 0) → Of Done → ((b : Broken) → Of (Rejected b)) → ((f : FoulAt) → Of (Foul f))
     → Of NotFound → (answer : Answer) → Of (status_of answer)
-answer_as Of done broken bad none well = done
-answer_as Of done broken bad none (rejected b) = broken b
-answer_as Of done broken bad none (foul f) = bad f
-answer_as Of done broken bad none missed = none
+answer_as Of done broken bad none is_well = done
+answer_as Of done broken bad none (is_rejected b) = broken b
+answer_as Of done broken bad none (is_foul f) = bad f
+answer_as Of done broken bad none is_missed = none
 
 pub broken_as : (Of : Status → Type 0) → Of Done → ((b : Broken) → Of (Rejected b)) → (found : Option Broken)
     → Of (broken_status found)

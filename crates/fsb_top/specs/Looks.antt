@@ -26,17 +26,17 @@ use Rattle.fsb_top.specs.declared.status.Status.TheVariants.{Done, Foul, NotFoun
 -- how a command answers that has looked at a dump: all is well, a rule is broken, a transfer is foul,
 -- or what was searched for is not there
 pub data Answer : Type 0 where
-  well : Answer
-  rejected : (broken : Broken) → Answer
-  foul : (first : FoulAt) → Answer
-  missed : Answer
+  is_well : Answer
+  is_rejected : (broken : Broken) → Answer
+  is_foul : (foul : FoulAt) → Answer
+  is_missed : Answer
 
 -- the status of an answer
 abbrev pub status_of : Answer → Status
-status_of well = Done
-status_of (rejected broken) = Rejected broken
-status_of (foul first) = Foul first
-status_of missed = NotFound
+status_of is_well = Done
+status_of (is_rejected broken) = Rejected broken
+status_of (is_foul foul) = Foul foul
+status_of is_missed = NotFound
 
 -- a command that looks at a dump: how it reads the dump, what it finds in a trace, how it answers to
 -- what it finds, and the text that it prints of the trace, where the probes have these weights
@@ -49,19 +49,19 @@ pub record Look : Type 1 where
 
 -- the answer to a first broken rule, or to none
 abbrev pub broken_answer : Option Broken → Answer
-broken_answer None = well
-broken_answer (Some broken) = rejected broken
+broken_answer None = is_well
+broken_answer (Some broken) = is_rejected broken
 
 -- the answer to what an audit finds first, or to how many chunks moved where it finds nothing
 abbrev pub audit_answer : Result ℕ Finding → Answer
-audit_answer (Ok chunks) = well
-audit_answer (Err (findings.Broken broken)) = rejected broken
-audit_answer (Err (findings.Foul first)) = foul first
+audit_answer (Ok chunks) = is_well
+audit_answer (Err (findings.Broken broken)) = is_rejected broken
+audit_answer (Err (findings.Foul foul)) = is_foul foul
 
 -- the answer to the clocks of a match, or to none
 abbrev pub match_answer : Option (List ℕ) → Answer
-match_answer None = missed
-match_answer (Some clocks) = well
+match_answer None = is_missed
+match_answer (Some clocks) = is_well
 
 -- the status of each
 abbrev pub broken_status : Option Broken → Status
@@ -120,6 +120,6 @@ look_at (to_wave from to) = record {
   Found = Unit {0};
   kind = in_pieces;
   found = λ marks w. tt;
-  answer = λ found. well;
+  answer = λ found. is_well;
   text = λ weights marks w. wave_text w from to;
 }
