@@ -112,7 +112,7 @@ fn look_file<S: Source, O: Sink>(
 ) -> Status
     requires { length name.now ≤ 4096 }
     ensures ends { LookEnds S.Source O.Sink source.old source.new out.old out.new
-        (map (λ p. weight p) probes.items) name.now (look_at (task_meant task.entry)) result }
+        (map (λ p. weight p) probes.items) name.now (look_at (task_meant task)) result }
     ensures holds_stays { IsTrue S.tells → S.holds source.new ≡ S.holds source.old }
     ensures log_name { IsTrue O.tells → O.begun_as out.new ≡ O.begun_as out.old }
 {
