@@ -1,13 +1,15 @@
 -- A call that nothing stops does all that its words ask for.
 use Rattle.std.proofs.Common.{◌≡◌, ℕ, IsTrue, List, Option, Some, refl, sym, subst, ◌∙◌}
-use Rattle.fsb_command.specs.Form.{Form, run, check, audit, show, find, wave, gen}
+use Rattle.fsb_command.specs.Form.{Form, run, ask, gen}
 use Rattle.fsb_io.specs.Faults.{Rose}
 use Rattle.fsb_io.specs.declared.sink.Sink.{Ghosts as SinkGhosts}
 use Rattle.fsb_io.specs.declared.source.Source.{Ghosts as SourceGhosts}
 use Rattle.fsb_script.specs.declared.fault.ScriptFault.{ScriptFault}
-use Rattle.fsb_calls.specs.FileSays.{FromLook, FromRun, IsBadBench, IsBadDump, IsBadTable}
+use Rattle.fsb_calls.specs.FileSays.{FromLook, FromRun, IsBadBench, IsBadDump, IsBadTable, OfKind}
 use Rattle.fsb_top.specs.BenchEnds.{IsTooLong}
-use Rattle.fsb_top.specs.Complete.{IsComplete, IsFaulty, IsReadable}
+use Rattle.fsb_top.specs.Complete.{IsComplete, IsFaulty, IsFaultyDump, IsReadable}
+use Rattle.fsb_top.specs.FileRead.{DumpKind, in_pieces, kept_whole}
+use Rattle.fsb_top.specs.Looks.{look_at}
 use Rattle.fsb_top.specs.declared.status.Status.{Status}
 use Rattle.fsb_top.specs.declared.status.Status.TheVariants.{Done, Rejected, BadWords, BadBench, BadDump}
 use Rattle.fsb_top.specs.declared.status.Status.TheVariants.{ReadFault}
@@ -40,28 +42,24 @@ faulty_bench : (form : Form) (held left : List ℕ) (begun_as : Option (List ℕ
     → FromRun (Some form) (λ name. IsBadBench name held left begun_as fault) → IsFaulty form held
 faulty_bench (run bench name) held left begun_as fault bad =
     record { short = bad.read.short; fault = fault; is_first = bad.is_bad }
-faulty_bench (check name) held left begun_as fault bad = absurd bad
-faulty_bench (audit name) held left begun_as fault bad = absurd bad
-faulty_bench (show name) held left begun_as fault bad = absurd bad
-faulty_bench (find name steps) held left begun_as fault bad = absurd bad
-faulty_bench (wave name from to) held left begun_as fault bad = absurd bad
+faulty_bench (ask name asked) held left begun_as fault bad = absurd bad
 faulty_bench (gen seed agents items) held left begun_as fault bad = absurd bad
 
 -- so is what is told of as no dump
+faulty_look : (kind : DumpKind) (name held left : List ℕ) (begun_as : Option (List ℕ)) (fault : VcdFault)
+    → OfKind kind (IsBadDump name held left begun_as fault) (IsBadTable name held left begun_as fault)
+    → IsFaultyDump kind held
+faulty_look in_pieces name held left begun_as fault bad =
+    record { short = bad.read.short; fault = fault; is_bad = bad.is_bad }
+faulty_look kept_whole name held left begun_as fault bad =
+    record { short = bad.read.short; fault = fault; is_first = bad.is_bad }
+
 faulty_dump : (form : Form) (held left : List ℕ) (begun_as : Option (List ℕ)) (fault : VcdFault)
     → FromLook (Some form) (λ name. IsBadDump name held left begun_as fault)
     (λ name. IsBadTable name held left begun_as fault) → IsFaulty form held
 faulty_dump (run bench name) held left begun_as fault bad = absurd bad
-faulty_dump (check name) held left begun_as fault bad =
-    record { short = bad.read.short; fault = fault; is_bad = bad.is_bad }
-faulty_dump (audit name) held left begun_as fault bad =
-    record { short = bad.read.short; fault = fault; is_bad = bad.is_bad }
-faulty_dump (show name) held left begun_as fault bad =
-    record { short = bad.read.short; fault = fault; is_first = bad.is_bad }
-faulty_dump (find name steps) held left begun_as fault bad =
-    record { short = bad.read.short; fault = fault; is_bad = bad.is_bad }
-faulty_dump (wave name from to) held left begun_as fault bad =
-    record { short = bad.read.short; fault = fault; is_bad = bad.is_bad }
+faulty_dump (ask name asked) held left begun_as fault bad =
+    faulty_look (look_at asked).kind name held left begun_as fault bad
 faulty_dump (gen seed agents items) held left begun_as fault bad = absurd bad
 
 -- where no file is both readable and faulty, or too long

@@ -1,6 +1,6 @@
 -- What `bench` promises of how a call ends, clause by clause, and that each follows from the relation.
 use Rattle.std.proofs.Common.{◌≡◌, ◌≢◌, ◌⊎◌, ℕ, IsTrue, List, Option, Some, None, subst}
-use Rattle.fsb_command.specs.Form.{Form, run, check, audit, show, find, wave, gen, looks_only}
+use Rattle.fsb_command.specs.Form.{Asked, Form, run, ask, check, audit, show, find, wave, gen, looks_only}
 use Rattle.fsb_io.specs.Faults.{Rose}
 use Rattle.fsb_io.specs.declared.sink.Sink.{Ghosts as SinkGhosts}
 use Rattle.fsb_io.specs.declared.source.Source.{Ghosts as SourceGhosts}
@@ -10,7 +10,7 @@ use Rattle.fsb_script.specs.declared.fault.ScriptFault.{ScriptFault}
 use Rattle.fsb_show.specs.ShowText.{show_text}
 use Rattle.fsb_signal.specs.declared.marks.Marks.{Marks}
 use Rattle.fsb_signal.specs.declared.sample.Sample.{Sample}
-use Rattle.fsb_calls.specs.FileSays.{FromLook, FromRun, HasFinding, HasLooked}
+use Rattle.fsb_calls.specs.FileSays.{FromLook, FromRun, HasFinding, HasLooked, HasLookedAs}
 use Rattle.fsb_calls.specs.StatusSays.{HasRun}
 use Rattle.fsb_top.specs.BenchEnds.{HasRunFrom}
 use Rattle.fsb_calls.specs.FileSays.{HasTable, HasVerdict, IsBadBench, IsBadDump}
@@ -19,8 +19,10 @@ use Rattle.fsb_calls.specs.FileSays.{IsBadTable}
 use Rattle.fsb_top.specs.BenchEnds.{IsDumped, IsLogged, IsOfAudit, IsOfCheck, IsOfFind}
 use Rattle.fsb_calls.specs.StatusSays.{IsSilent, IsTold}
 use Rattle.fsb_top.specs.BenchEnds.{IsOfGen, IsOfRun, IsOfWave, IsPlanOf, IsTooLong}
-use Rattle.fsb_calls.specs.StatusSays.{TellsMatch, TellsNothing}
-use Rattle.fsb_top.specs.BenchEnds.{IsWritten, finding_text, match_text}
+use Rattle.fsb_calls.specs.StatusSays.{TellsFound, TellsMatch, TellsNothing}
+use Rattle.fsb_top.specs.BenchEnds.{IsOfLook, IsWritten}
+use Rattle.fsb_top.specs.FileRead.{file_of}
+use Rattle.fsb_top.specs.Looks.{finding_text, look_at, match_text}
 use Rattle.fsb_calls.specs.FileSays.{HasBegunNoOther, HasReadSome, HasReadTooLong}
 use Rattle.fsb_top.specs.declared.status.Status.{Status}
 use Rattle.fsb_top.specs.declared.status.Status.TheVariants.{BadWords, BadBench, BadDump, ReadFault}
@@ -85,6 +87,8 @@ pub record Promised {S O D : Type 0} {source : SourceGhosts S} {out : SinkGhosts
       → IsOfRun call.status
   pub of_gen : (seed agents items : ℕ) → call.words ≡ Some (gen seed agents items)
       → IsOfGen call.status
+  pub of_look : (name : List ℕ) (asked : Asked) → call.words ≡ Some (ask name asked)
+      → IsOfLook (look_at asked) call.status
   pub of_check : (name : List ℕ) → call.words ≡ Some (check name) → IsOfCheck call.status
   pub of_audit : (name : List ℕ) → call.words ≡ Some (audit name) → IsOfAudit call.status
   pub of_show : (name : List ℕ) → call.words ≡ Some (show name) → IsOfCheck call.status
@@ -92,6 +96,9 @@ pub record Promised {S O D : Type 0} {source : SourceGhosts S} {out : SinkGhosts
       → IsOfFind call.status
   pub of_wave : (name : List ℕ) (from to : ℕ) → call.words ≡ Some (wave name from to)
       → IsOfWave call.status
+  pub looked : IsTrue source.tells → (name : List ℕ) (asked : Asked) → call.words ≡ Some (ask name asked)
+      → HasRun call.status → HasLookedAs (file_of (look_at asked).kind) (TellsFound (look_at asked)) call.status name
+      (held call) (left_of call) (named_as call)
   pub judged : IsTrue source.tells → (name : List ℕ) → call.words ≡ Some (check name)
       → HasRun call.status → HasVerdict call.status name (held call) (left_of call) (named_as call)
   pub audited : IsTrue source.tells → (name : List ℕ) → call.words ≡ Some (audit name)
@@ -109,6 +116,10 @@ pub record Promised {S O D : Type 0} {source : SourceGhosts S} {out : SinkGhosts
   pub generated : (seed agents items : ℕ) → call.words ≡ Some (gen seed agents items)
       → HasRun call.status → HasMadeAs call seed agents items call.status
   pub silent : IsSilent call.status → call.after ≡ call.before
+  pub looked_text : IsTrue source.tells → IsTrue out.tells → (m : Marks)
+      (w : List Sample) → Reads (held call) m w → (name : List ℕ) (asked : Asked)
+      → call.words ≡ Some (ask name asked)
+      → IsWritten call.status ((look_at asked).text call.weights m w) (printed_before call) (printed call)
   pub line : IsTrue source.tells → IsTrue out.tells → (m : Marks) (w : List Sample)
       → Reads (held call) m w → (name : List ℕ) → call.words ≡ Some (check name)
       → IsTold call.status m w (printed_before call) (printed call)
@@ -173,6 +184,7 @@ module _ {S O D : Type 0} {source : SourceGhosts S} {out : SinkGhosts O}
         so.of_run call name dump call.status (of_words (Some (run name dump)) e);
     of_gen = λ seed agents items e.
         so.of_gen call seed agents items call.status (of_words (Some (gen seed agents items)) e);
+    of_look = λ name asked e. so.of_look call name asked call.status (of_words (Some (ask name asked)) e);
     of_check = λ name e. so.of_check call name call.status (of_words (Some (check name)) e);
     of_audit = λ name e. so.of_audit call name call.status (of_words (Some (audit name)) e);
     of_show = λ name e. so.of_show call name call.status (of_words (Some (show name)) e);
@@ -180,6 +192,8 @@ module _ {S O D : Type 0} {source : SourceGhosts S} {out : SinkGhosts O}
         so.of_find call name steps call.status (of_words (Some (find name steps)) e);
     of_wave = λ name from to e.
         so.of_wave call name from to call.status (of_words (Some (wave name from to)) e);
+    looked = λ tells name asked e runs.
+        so.looked call name asked call.status tells runs (of_words (Some (ask name asked)) e);
     judged = λ tells name e runs.
         so.judged call name call.status tells runs (of_words (Some (check name)) e);
     audited = λ tells name e runs.
@@ -196,6 +210,8 @@ module _ {S O D : Type 0} {source : SourceGhosts S} {out : SinkGhosts O}
         so.generated call seed agents items call.status runs
         (of_words (Some (gen seed agents items)) e);
     silent = λ is. so.silent call call.words call.status ends is;
+    looked_text = λ tells prints m w reads name asked e.
+        so.looked_text call name asked m w call.status tells prints reads (of_words (Some (ask name asked)) e);
     line = λ tells prints m w reads name e.
         so.told_text call name m w call.status tells prints reads (of_words (Some (check name)) e);
     audited_text = λ tells prints m w reads name e.

@@ -1,5 +1,5 @@
 -- What the statuses of a call say by themselves: which are behind a run, which behind what stopped it, and what they tell.
-use Rattle.std.proofs.Common.{◌≡◌, ◌≢◌, ℕ, IsTrue, List, Option, Some, None, Result, Ok, Err, is_some, refl, subst, sym}
+use Rattle.std.proofs.Common.{◌≡◌, ◌≢◌, ℕ, IsTrue, List, Option, Some, None, Result, Ok, Err, inl, inr, is_some, refl, subst, sym}
 use Rattle.std.proofs.Common.{true}
 use Rattle.fsb_audit.specs.declared.finding.Finding.{Finding}
 use Rattle.fsb_audit.specs.declared.finding.Finding.TheVariants as findings
@@ -15,14 +15,16 @@ use Rattle.fsb_signal.specs.declared.sample.Sample.{Sample}
 use Rattle.fsb_trace.specs.Verdict.{verdict}
 use Rattle.fsb_trigger.specs.Match.{least_match}
 use Rattle.fsb_trigger.specs.TriggerSteps.{StepView}
-use Rattle.fsb_top.proofs.Statuses.{audit_as, broken_as, match_as}
-use Rattle.fsb_top.specs.BenchEnds.{IsWritten}
-use Rattle.fsb_top.specs.CallEnds.{DumpCall, IsPlayed, audit_status, broken_status, match_status}
+use Rattle.fsb_top.proofs.Statuses.{answer_as}
+use Rattle.fsb_top.specs.BenchEnds.{IsLookStop, IsOfLook, IsWritten}
+use Rattle.fsb_top.specs.CallEnds.{DumpCall, IsPlayed}
+use Rattle.fsb_top.specs.Looks.{Answer, Look, audit_status, broken_status, match_status, status_of}
 use Rattle.fsb_top.specs.FileRead.{FileKind, IsStopped}
 use Rattle.fsb_top.specs.declared.status.Status.{Status}
 use Rattle.fsb_top.specs.declared.status.Status.TheVariants.{Done, Rejected, BadWords, BadBench, BadDump}
 use Rattle.fsb_top.specs.declared.status.Status.TheVariants.{ReadFault, WriteFault, DumpFault, OutOfMemory}
 use Rattle.fsb_top.specs.declared.status.Status.TheVariants.{TooLong, Foul, NotFound}
+use Rattle.vcd_grammar.specs.declared.fault.VcdFault.{VcdFault}
 use Rattle.fsb_calls.specs.StatusSays.{HasRun, IsSilent, IsTold, TellsFinding, TellsMatch, TellsVerdict}
 
 -- no call both was stopped and came to what it is for
@@ -39,10 +41,6 @@ run_is_not_silent OutOfMemory runs silent = runs
 run_is_not_silent TooLong runs silent = runs
 run_is_not_silent (Foul foul) runs silent = silent
 run_is_not_silent NotFound runs silent = silent
-
-pub audit_runs : (f : Finding) → HasRun (audit_status (Err f))
-audit_runs (findings.Broken broken) = tt
-audit_runs (findings.Foul foul) = tt
 
 -- ---- what a status tells of a trace
 
@@ -92,15 +90,12 @@ module _ {S : Type 0} (source : SourceGhosts S) (kind : FileKind) (name : List �
   stopped_silent (Foul foul) stopped = stopped
   stopped_silent NotFound stopped = stopped
 
-pub audit_writes : (found : Result ℕ Finding) → audit_status found ≢ WriteFault
-audit_writes (Ok chunks) e = cc
-audit_writes (Err (findings.Broken broken)) e = cc
-audit_writes (Err (findings.Foul foul)) e = cc
+-- no answer is that the sink of what is printed failed, or that of the dump
+pub answer_writes : (answer : Answer) → status_of answer ≢ WriteFault
+answer_writes = answer_as (λ s. s ≢ WriteFault) (λ e. cc) (λ b e. cc) (λ f e. cc) (λ e. cc)
 
-pub audit_dumps : (found : Result ℕ Finding) → audit_status found ≢ DumpFault
-audit_dumps (Ok chunks) e = cc
-audit_dumps (Err (findings.Broken broken)) e = cc
-audit_dumps (Err (findings.Foul foul)) e = cc
+pub answer_dumps : (answer : Answer) → status_of answer ≢ DumpFault
+answer_dumps = answer_as (λ s. s ≢ DumpFault) (λ e. cc) (λ b e. cc) (λ f e. cc) (λ e. cc)
 
 -- nothing is said of what a call wrote that was stopped
 pub unwritten : (text before held : List ℕ) (status : Status) → IsSilent status → IsWritten status text before held
@@ -132,14 +127,33 @@ told_line marks w before held TooLong written = tt
 told_line marks w before held (Foul foul) written = tt
 told_line marks w before held NotFound written = tt
 
-pub broken_runs : (found : Option Broken) → HasRun (broken_status found)
-broken_runs = broken_as HasRun tt (λ b. tt)
+-- a call that answers came to what it is for
+pub answer_runs : (answer : Answer) → HasRun (status_of answer)
+answer_runs = answer_as HasRun tt (λ b. tt) (λ f. tt) tt
 
-pub found_runs : (found : Result ℕ Finding) → HasRun (audit_status found)
-found_runs = audit_as HasRun tt audit_runs
+-- what is so of each status of a look
+pub stop_as : (Of : Status → Type 0) → ((f : VcdFault) → Of (BadDump f)) → Of ReadFault → Of WriteFault
+    → Of OutOfMemory → Of TooLong → (status : Status) → IsLookStop status → Of status
+stop_as Of bad read write memory long Done stop = absurd stop
+stop_as Of bad read write memory long (Rejected broken) stop = absurd stop
+stop_as Of bad read write memory long BadWords stop = absurd stop
+stop_as Of bad read write memory long (BadBench fault) stop = absurd stop
+stop_as Of bad read write memory long (BadDump fault) stop = bad fault
+stop_as Of bad read write memory long ReadFault stop = read
+stop_as Of bad read write memory long WriteFault stop = write
+stop_as Of bad read write memory long DumpFault stop = absurd stop
+stop_as Of bad read write memory long OutOfMemory stop = memory
+stop_as Of bad read write memory long TooLong stop = long
+stop_as Of bad read write memory long (Foul foul) stop = absurd stop
+stop_as Of bad read write memory long NotFound stop = absurd stop
 
-pub match_runs : (found : Option (List ℕ)) → HasRun (match_status found)
-match_runs = match_as HasRun tt tt
+pub look_as : (Of : Status → Type 0) (look : Look) → ((f : VcdFault) → Of (BadDump f)) → Of ReadFault → Of WriteFault
+    → Of OutOfMemory → Of TooLong → ((found : look.Found) → Of (status_of (look.answer found))) → (status : Status)
+    → IsOfLook look status → Of status
+look_as Of look bad read write memory long answers status (inl stop) =
+    stop_as Of bad read write memory long status stop
+look_as Of look bad read write memory long answers status (inr found) =
+    subst Of (sym found.1) (answers found.0)
 
 -- a run that was made came to what it is for
 module _ (Failed : Type 0) (dump : DumpCall) (name : Option (List ℕ)) where

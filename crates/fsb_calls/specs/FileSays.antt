@@ -1,6 +1,6 @@
 -- What was read of the file of a call, and what it is, by the form of the words.
-use Rattle.std.specs.Prelude.{◌≤◌, ◌+◌, ◌^◌, ℕ, List, Option, Some, length}
-use Rattle.fsb_command.specs.Form.{Form, run, check, audit, show, find, wave, gen}
+use Rattle.std.specs.Prelude.{◌≤◌, ℕ, List, Option, Some, length}
+use Rattle.fsb_command.specs.Form.{Form, run, ask, gen}
 use Rattle.fsb_script.specs.Drafts.{FirstBad}
 use Rattle.fsb_script.specs.declared.fault.ScriptFault.{ScriptFault}
 use Rattle.fsb_signal.specs.declared.marks.Marks.{Marks}
@@ -10,7 +10,9 @@ use Rattle.vcd_grammar.specs.declared.fault.VcdFault.{VcdFault}
 use Rattle.vcd_grammar.specs.Reading.{Reads}
 use Rattle.fsb_top.specs.FileRead.{FileKind, HasReadAll, HasReadAtMost, HasReadPast}
 use Rattle.fsb_top.specs.FileRead.{HasReadTooMuch, IsFaultOfDump, bench_file, dump_in_pieces}
+use Rattle.fsb_top.specs.FileRead.{DumpKind, file_of, in_pieces, kept_whole, most_read}
 use Rattle.fsb_top.specs.FileRead.{whole_dump, sample_limit}
+use Rattle.fsb_top.specs.Looks.{look_at}
 use Rattle.fsb_top.specs.declared.status.Status.{Status}
 use Rattle.fsb_calls.specs.StatusSays.{TellsVerdict, TellsFinding}
 
@@ -69,34 +71,29 @@ abbrev pub FromRun : Option Form → (List ℕ → Type 0) → Type 0
 FromRun (Some (run bench dump)) P = P bench
 FromRun _ P = ⊥
 
+-- the one of what reads a dump in pieces, or the other of what keeps it whole
+abbrev pub OfKind : DumpKind → Type 0 → Type 0 → Type 0
+OfKind in_pieces P Q = P
+OfKind kept_whole P Q = Q
+
 -- the same of the words of a command that only reads a dump: `P` of one that reads it in pieces, `Q` of one that keeps it whole
 abbrev pub FromLook : Option Form → (List ℕ → Type 0) → (List ℕ → Type 0) → Type 0
-FromLook (Some (check dump)) P Q = P dump
-FromLook (Some (audit dump)) P Q = P dump
-FromLook (Some (show dump)) P Q = Q dump
-FromLook (Some (find dump steps)) P Q = P dump
-FromLook (Some (wave dump from to)) P Q = P dump
+FromLook (Some (ask dump asked)) P Q = OfKind (look_at asked).kind (P dump) (Q dump)
 FromLook _ P Q = ⊥
 
 -- what was read of a file that is too long, by the form of the words
 abbrev pub HasReadTooLong : Form → List ℕ → List ℕ → Option (List ℕ) → Type 0
 HasReadTooLong (run bench dump) held left begun_as = HasReadPast 4194304 bench held left begun_as
-HasReadTooLong (check dump) held left begun_as = HasReadTooMuch dump_in_pieces dump held left begun_as
-HasReadTooLong (audit dump) held left begun_as = HasReadTooMuch dump_in_pieces dump held left begun_as
-HasReadTooLong (show dump) held left begun_as = HasReadTooMuch whole_dump dump held left begun_as
-HasReadTooLong (find dump steps) held left begun_as = HasReadTooMuch dump_in_pieces dump held left begun_as
-HasReadTooLong (wave dump from to) held left begun_as = HasReadTooMuch dump_in_pieces dump held left begun_as
+HasReadTooLong (ask dump asked) held left begun_as =
+    HasReadTooMuch (file_of (look_at asked).kind) dump held left begun_as
 HasReadTooLong (gen seed agents items) held left begun_as = ⊥
 
 -- what was read of the file that the words name, where memory lacked once it was opened: at most one byte past the
 -- limit; of a bench file no byte past it
 abbrev pub HasReadSome : Form → List ℕ → List ℕ → Option (List ℕ) → Type 0
 HasReadSome (run bench dump) held left begun_as = HasReadAtMost 4194304 bench held left begun_as
-HasReadSome (check dump) held left begun_as = HasReadAtMost (2 ^ 40 + 1) dump held left begun_as
-HasReadSome (audit dump) held left begun_as = HasReadAtMost (2 ^ 40 + 1) dump held left begun_as
-HasReadSome (show dump) held left begun_as = HasReadAtMost (268435456 + 1) dump held left begun_as
-HasReadSome (find dump steps) held left begun_as = HasReadAtMost (2 ^ 40 + 1) dump held left begun_as
-HasReadSome (wave dump from to) held left begun_as = HasReadAtMost (2 ^ 40 + 1) dump held left begun_as
+HasReadSome (ask dump asked) held left begun_as =
+    HasReadAtMost (most_read (file_of (look_at asked).kind)) dump held left begun_as
 HasReadSome (gen seed agents items) held left begun_as = ⊥
 
 -- the source that failed was begun under the name of the words, or could not be begun, and then neither its name nor
@@ -104,14 +101,6 @@ HasReadSome (gen seed agents items) held left begun_as = ⊥
 abbrev pub HasBegunNoOther : Form → Option (List ℕ) → Option (List ℕ) → List ℕ → List ℕ → Type 0
 HasBegunNoOther (run bench dump) was_begun_as begun_as before left =
     IsBegunOrStays bench was_begun_as begun_as before left
-HasBegunNoOther (check dump) was_begun_as begun_as before left =
-    IsBegunOrStays dump was_begun_as begun_as before left
-HasBegunNoOther (audit dump) was_begun_as begun_as before left =
-    IsBegunOrStays dump was_begun_as begun_as before left
-HasBegunNoOther (show dump) was_begun_as begun_as before left =
-    IsBegunOrStays dump was_begun_as begun_as before left
-HasBegunNoOther (find dump steps) was_begun_as begun_as before left =
-    IsBegunOrStays dump was_begun_as begun_as before left
-HasBegunNoOther (wave dump from to) was_begun_as begun_as before left =
+HasBegunNoOther (ask dump asked) was_begun_as begun_as before left =
     IsBegunOrStays dump was_begun_as begun_as before left
 HasBegunNoOther (gen seed agents items) was_begun_as begun_as before left = ⊥

@@ -1,5 +1,5 @@
 -- What a status says of a call, and of the trace that it looked at.
-use Rattle.std.specs.Prelude.{◌≡◌, ◌++◌, ℕ, IsTrue, List, Some, None, is_some}
+use Rattle.std.specs.Prelude.{◌≡◌, ◌⊎◌, ◌++◌, ℕ, IsTrue, List, Some, None, is_some}
 use Rattle.fsb_audit.specs.declared.finding.Finding.TheVariants as findings
 use Rattle.fsb_audit.specs.Fouls.{finding_of}
 use Rattle.fsb_io.specs.Appends.{AppendsPart}
@@ -10,6 +10,7 @@ use Rattle.fsb_signal.specs.declared.sample.Sample.{Sample}
 use Rattle.fsb_trace.specs.Verdict.{verdict}
 use Rattle.fsb_trigger.specs.Match.{least_match}
 use Rattle.fsb_trigger.specs.TriggerSteps.{StepView}
+use Rattle.fsb_top.specs.Looks.{Look, status_of}
 use Rattle.fsb_top.specs.declared.status.Status.{Status}
 use Rattle.fsb_top.specs.declared.status.Status.TheVariants.{Done, Rejected, BadWords, BadBench}
 use Rattle.fsb_top.specs.declared.status.Status.TheVariants.{BadDump, ReadFault, WriteFault}
@@ -97,3 +98,8 @@ TellsFinding (Rejected broken) marks w = finding_of marks w ≡ Some (findings.B
 TellsFinding (Foul foul) marks w = finding_of marks w ≡ Some (findings.Foul foul)
 TellsFinding WriteFault marks w = Unit {0}
 TellsFinding _ marks w = ⊥
+
+-- the status is that of the answer to what the command finds in the trace; where the sink failed, it tells nothing
+abbrev pub TellsFound : Look → Status → Marks → List Sample → Type 0
+TellsFound look status marks w =
+    (status ≡ status_of (look.answer (look.found marks w))) ⊎ (status ≡ WriteFault)

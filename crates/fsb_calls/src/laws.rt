@@ -2,8 +2,8 @@
 //! but the law that one of them rests on.
 
 ghost use Rattle.std.specs.Prelude.{◌≡◌, ◌≢◌, ◌⊎◌, ℕ, IsTrue, List, None, Option, Some};
-ghost use Rattle.fsb_command.specs.Form.{Form, audit, check, find, gen, looks_only, run, show};
-ghost use Rattle.fsb_command.specs.Form.{wave};
+ghost use Rattle.fsb_command.specs.Form.{Asked, Form, ask, audit, check, find, gen, looks_only};
+ghost use Rattle.fsb_command.specs.Form.{run, show, wave};
 ghost use Rattle.fsb_io.specs.Faults.{Rose};
 ghost use Rattle.fsb_top.specs.Printed.{run_dump, run_log, run_summary};
 ghost use Rattle.fsb_script.specs.Made.{made_plan};
@@ -12,17 +12,20 @@ ghost use Rattle.fsb_show.specs.ShowText.{show_text};
 ghost use Rattle.fsb_signal.specs.declared.marks.Marks.{Marks};
 ghost use Rattle.fsb_signal.specs.declared.sample.Sample.{Sample};
 ghost use Rattle.fsb_calls.specs.FileSays.{FromLook, FromRun, HasFinding, HasLooked};
+ghost use Rattle.fsb_calls.specs.FileSays.{HasLookedAs};
 ghost use Rattle.fsb_calls.specs.StatusSays.{HasRun};
 ghost use Rattle.fsb_calls.specs.FileSays.{HasTable, HasVerdict, IsBadBench};
 ghost use Rattle.fsb_top.specs.BenchEnds.{HasRunFrom, HasRunOf};
 ghost use Rattle.fsb_calls.specs.FileSays.{IsBadDump, IsBadTable};
 ghost use Rattle.fsb_top.specs.BenchEnds.{IsDumped, IsLogged, IsOfAudit};
-ghost use Rattle.fsb_top.specs.BenchEnds.{IsOfCheck, IsOfFind, IsOfGen, IsOfRun, IsOfWave};
+ghost use Rattle.fsb_top.specs.BenchEnds.{IsOfCheck, IsOfFind, IsOfGen, IsOfLook, IsOfRun};
+ghost use Rattle.fsb_top.specs.BenchEnds.{IsOfWave};
 ghost use Rattle.fsb_top.specs.BenchEnds.{IsPlanOf};
 ghost use Rattle.fsb_calls.specs.StatusSays.{IsSilent, IsTold, TellsMatch};
 ghost use Rattle.fsb_top.specs.BenchEnds.{IsTooLong, IsWritten};
-ghost use Rattle.fsb_calls.specs.StatusSays.{TellsNothing};
-ghost use Rattle.fsb_top.specs.BenchEnds.{finding_text, match_text};
+ghost use Rattle.fsb_calls.specs.StatusSays.{TellsFound, TellsNothing};
+ghost use Rattle.fsb_top.specs.FileRead.{file_of};
+ghost use Rattle.fsb_top.specs.Looks.{finding_text, look_at, match_text};
 ghost use Rattle.fsb_top.specs.Complete.{IsComplete, IsReadable};
 ghost use Rattle.fsb_calls.specs.FileSays.{HasBegunNoOther, HasReadSome, HasReadTooLong};
 ghost use Rattle.fsb_top.specs.declared.status.Status.TheVariants.{BadBench, BadDump, BadWords};
@@ -84,6 +87,9 @@ pub fn statuses_have_causes<S: Source, O: Sink, D: Sink>()
     ensures of_gen { (call : Call S.Source O.Sink D.Sink) → EndsSo call →
         (seed agents items : ℕ) → call.words ≡ Some (gen seed agents items) →
         IsOfGen call.status }
+    ensures of_look { (call : Call S.Source O.Sink D.Sink) → EndsSo call →
+        (name : List ℕ) (asked : Asked) → call.words ≡ Some (ask name asked) →
+        IsOfLook (look_at asked) call.status }
     ensures of_check { (call : Call S.Source O.Sink D.Sink) → EndsSo call →
         (name : List ℕ) → call.words ≡ Some (check name) → IsOfCheck call.status }
     ensures of_audit { (call : Call S.Source O.Sink D.Sink) → EndsSo call →
@@ -104,6 +110,11 @@ pub fn statuses_have_causes<S: Source, O: Sink, D: Sink>()
 /// at its dump, and then the status tells of its trace what it is to tell; else as far as the call
 /// came before it was stopped.
 pub fn files_are_read_as_told<S: Source, O: Sink, D: Sink>()
+    ensures looked { (call : Call S.Source O.Sink D.Sink) → EndsSo call →
+        IsTrue S.tells → (name : List ℕ) (asked : Asked) → call.words ≡ Some (ask name asked) →
+        HasRun call.status →
+        HasLookedAs (file_of (look_at asked).kind) (TellsFound (look_at asked)) call.status name
+        (held call) (left_of call) (named_as call) }
     ensures judged { (call : Call S.Source O.Sink D.Sink) → EndsSo call →
         IsTrue S.tells → (name : List ℕ) → call.words ≡ Some (check name) →
         HasRun call.status →
@@ -165,6 +176,12 @@ pub fn runs_leave_log_and_dump<S: Source, O: Sink, D: Sink>()
 /// What a command prints that looks at a dump: the line of the verdict, of the audit or of the
 /// search, the table, or the wave, of whatever trace the dump is.
 pub fn looks_print_what_they_find<S: Source, O: Sink, D: Sink>()
+    ensures looked_text { (call : Call S.Source O.Sink D.Sink) → EndsSo call →
+        IsTrue S.tells → IsTrue O.tells → (m : Marks) (w : List Sample) →
+        Reads (held call) m w → (name : List ℕ) (asked : Asked) →
+        call.words ≡ Some (ask name asked) →
+        IsWritten call.status ((look_at asked).text call.weights m w) (printed_before call)
+        (printed call) }
     ensures told { (call : Call S.Source O.Sink D.Sink) → EndsSo call →
         IsTrue S.tells → IsTrue O.tells → (m : Marks) (w : List Sample) →
         Reads (held call) m w → (name : List ℕ) → call.words ≡ Some (check name) →

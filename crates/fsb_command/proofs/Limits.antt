@@ -1,16 +1,14 @@
 -- What the words of a form keep to.
-use Rattle.std.proofs.Common.{◌≡◌, ◌≤◌, ◌&&◌, ℕ, Bool, true, false, not, ◌==◌, cond, List, [], ◌∷◌, length, Option}
+use Rattle.std.proofs.Common.{◌≡◌, ◌≤◌, ◌&&◌, ℕ, Bool, true, false, not, ◌==◌, cond, List, [], ◌∷◌, codes, length, Option}
 use Rattle.std.proofs.Common.{None, Some, refl, sym, subst, arith, true≢false}
 use Rattle.std.specs.Prelude.{nat_le, IfSome, option_and_then, option_map}
 use Rattle.std.specs.List.{list_all}
+use Rattle.std.specs.Str.{bytes_eq}
 use Rattle.std.proofs.lemmas.Bool.Decides.{nat_tests}
 use Rattle.clap.proofs.WalkLemmas.{both}
-use Rattle.fsb_trigger.specs.Grammar.{trigger_of}
-use Rattle.fsb_trigger.specs.TriggerSteps.{StepView}
-use Rattle.fsb_command.specs.Form.{Form, KeepsLimits, check, audit, show, find, wave, find_of, form_behind, form_of}
-use Rattle.fsb_command.specs.Form.{form_of_all, gen_of, is_word, look_of, plan_named, run_of, wave_of}
+use Rattle.fsb_command.specs.Form.{Arguments, Asked, Form, KeepsLimits, Verb, fits, form_behind, form_of}
+use Rattle.fsb_command.specs.Form.{form_of_all, gen_of, is_word, ask, look_behind, look_of, looks, plan_named, run_of}
 use Rattle.fsb_command.specs.Number.{agents_named, items_named, seed_named, up_to}
-use Rattle.fsb_command.specs.Range.{range_of}
 use Rattle.fsb_command.specs.Command.{IsCommand, form_meant}
 use Rattle.fsb_command.specs.declared.command.Command.{Command}
 
@@ -32,32 +30,18 @@ run_keeps (a ∷ []) e = (short a (both _ _ e).0, tt)
 run_keeps (a ∷ b ∷ []) e = (short a (both _ _ e).0, short b (both _ _ (both _ _ e).1).0)
 run_keeps (a ∷ b ∷ c ∷ rest) e = tt
 
-look_keeps : (form : List ℕ → Form) → ((a : List ℕ) → length a ≤ 4096 → KeepsLimits (form a))
-    → (words : List (List ℕ)) → AreWords words → Kept (look_of form words)
-look_keeps form keeps [] e = tt
-look_keeps form keeps (a ∷ []) e = keeps a (short a (both _ _ e).0)
-look_keeps form keeps (a ∷ b ∷ rest) e = tt
+asked_keeps : (dump : List ℕ) → length dump ≤ 4096 → (asked : Option Asked) → Kept (option_map (ask dump) asked)
+asked_keeps dump few None = tt
+asked_keeps dump few (Some asked) = few
 
-find_keeps : (words : List (List ℕ)) → AreWords words → Kept (find_of words)
-find_keeps [] e = tt
-find_keeps (a ∷ []) e = tt
-find_keeps (a ∷ b ∷ []) e = go (trigger_of b)
+look_keeps : (arguments : Arguments) (asked : List (List ℕ) → Option Asked) (words : List (List ℕ)) → AreWords words
+    → Kept (look_of arguments asked words)
+look_keeps arguments asked [] e = tt
+look_keeps arguments asked (dump ∷ words) e = go (fits arguments words)
   where
-    go : (o : Option (List StepView)) → Kept (option_map (find a) o)
-    go None = tt
-    go (Some steps) = short a (both _ _ e).0
-find_keeps (a ∷ b ∷ c ∷ rest) e = tt
-
-wave_keeps : (words : List (List ℕ)) → AreWords words → Kept (wave_of words)
-wave_keeps [] e = tt
-wave_keeps (a ∷ []) e = tt
-wave_keeps (a ∷ b ∷ []) e = tt
-wave_keeps (a ∷ b ∷ c ∷ []) e = go (range_of b c)
-  where
-    go : (o : Option (ℕ × ℕ)) → Kept (option_map (λ range. wave a range.0 range.1) o)
-    go None = tt
-    go (Some range) = short a (both _ _ e).0
-wave_keeps (a ∷ b ∷ c ∷ d ∷ rest) e = tt
+    go : (b : Bool) → Kept (cond b (option_map (ask dump) (asked words)) None)
+    go true = asked_keeps dump (short dump (both _ _ e).0) (asked words)
+    go false = tt
 
 -- a number from 1 to the most
 abbrev IsUpTo : ℕ → ℕ → Type 0
@@ -90,25 +74,26 @@ gen_keeps (a ∷ b ∷ c ∷ []) = plan_keeps (seed_named a) (agents_named b) (i
     (up_to_keeps 4096 _)
 gen_keeps (a ∷ b ∷ c ∷ d ∷ rest) = tt
 
--- what holds of the words behind each verb, and of no form, holds of the form
+-- what holds of two forms holds of the one that is chosen
 module _ (P : Option Form → Type 0) where
   of_cond : (b : Bool) (x y : Option Form) → P x → P y → P (cond b x y)
   of_cond true x y p q = p
   of_cond false x y p q = q
 
-  behind_cases : (verb : List ℕ) (words : List (List ℕ)) → P (run_of words) → P (look_of check words)
-      → P (look_of audit words) → P (look_of show words)
-      → P (find_of words) → P (wave_of words) → P (gen_of words) → P None → P (form_behind verb words)
-  unfolding form_behind
-  behind_cases verb words r c a s f w g none =
-      of_cond _ _ _ r (of_cond _ _ _ c (of_cond _ _ _ a
-      (of_cond _ _ _ s (of_cond _ _ _ f (of_cond _ _ _ w (of_cond _ _ _ g none))))))
+looks_keep : (verbs : List Verb) (name : List ℕ) (words : List (List ℕ)) → AreWords words
+    → Kept (look_behind verbs name words)
+looks_keep [] name words e = tt
+looks_keep (verb ∷ verbs) name words e =
+    of_cond Kept (bytes_eq name verb.name) (look_of verb.arguments verb.asked words) (look_behind verbs name words)
+    (look_keeps verb.arguments verb.asked words e) (looks_keep verbs name words e)
 
 behind_keeps : (verb : List ℕ) (words : List (List ℕ)) → AreWords words → Kept (form_behind verb words)
+unfolding form_behind
 behind_keeps verb words e =
-    behind_cases Kept verb words (run_keeps words e) (look_keeps check (λ a few. few) words e)
-    (look_keeps audit (λ a few. few) words e)
-    (look_keeps show (λ a few. few) words e) (find_keeps words e) (wave_keeps words e) (gen_keeps words) tt
+    let looked : Kept (look_behind looks verb words) = looks_keep looks verb words e in
+    of_cond Kept (bytes_eq verb (codes "run")) (run_of words)
+    (cond (bytes_eq verb (codes "gen")) (gen_of words) (look_behind looks verb words)) (run_keeps words e)
+    (of_cond Kept (bytes_eq verb (codes "gen")) (gen_of words) (look_behind looks verb words) (gen_keeps words) looked)
 
 all_keep : (words : List (List ℕ)) → AreWords words → Kept (form_of_all words)
 all_keep [] e = tt

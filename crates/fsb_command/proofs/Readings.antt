@@ -1,7 +1,7 @@
 -- What `clap` finds in words that may stand in a command line is the form that they have.
 use Rattle.std.proofs.Common.{◌≡◌, ◌∙◌, ◌⊎◌, ℕ, Bool, true, false, List, [], ◌∷◌, Option, None, Some, codes, refl, sym}
 use Rattle.std.proofs.Common.{ap, subst, inl, inr, ⊎_elim, true≢false}
-use Rattle.std.specs.Prelude.{cond, option_and_then}
+use Rattle.std.specs.Prelude.{cond, option_and_then, option_map}
 use Rattle.std.specs.List.{list_all}
 use Rattle.std.specs.Str.{bytes_eq}
 use Rattle.std.proofs.lemmas.Bool.{cases_Bool}
@@ -13,18 +13,19 @@ use Rattle.clap.specs.Faults.{defaults_fault, fault_of, walk_fault}
 use Rattle.clap.specs.declared.error.kind.ErrorKind.{ErrorKind}
 use Rattle.clap.specs.declared.error.kind.ErrorKind.TheVariants as kind
 use Rattle.clap.proofs.WalkLemmas.{both}
-use Rattle.fsb_command.specs.Form.{Form, check, audit, show, form_behind, form_of, form_of_all, is_word, look_of}
-use Rattle.fsb_command.specs.Found.{form_found, form_in}
+use Rattle.fsb_command.specs.Form.{Arguments, Asked, Form, Verb, dump_alone, dump_and_clocks, dump_and_trigger}
+use Rattle.fsb_command.specs.Form.{form_behind, form_of, form_of_all, is_word, ask, look_behind, look_of, looks}
+use Rattle.fsb_command.specs.Found.{asked_found, form_found, form_in, words_found}
 use Rattle.fsb_command.specs.Usage.{usage}
 use Rattle.fsb_command.proofs.Turns.{IsPlain, plain_word}
-use Rattle.fsb_command.proofs.Leaves.{fault_behind, found, look, look_of_more, look_of_none, look_of_one, look_rows}
+use Rattle.fsb_command.proofs.Leaves.{fault_behind, found, look_of_more, look_of_none, look_of_one, look_rows}
 use Rattle.fsb_command.proofs.Leaves.{pair_of_more, pair_of_none, pair_of_one, pair_of_two, pair_rows, pair_rows_of_one}
 use Rattle.fsb_command.proofs.Leaves.{search_of_more, search_of_none, search_of_one, search_of_two, search_rows}
 use Rattle.fsb_command.proofs.LongLeaves.{drawn_of_more, drawn_of_none, drawn_of_one, drawn_of_three, drawn_of_two}
 use Rattle.fsb_command.proofs.LongLeaves.{drawn_rows, made_of_more, made_of_none, made_of_one, made_of_three}
 use Rattle.fsb_command.proofs.LongLeaves.{made_of_two, made_rows}
-use Rattle.fsb_command.proofs.Verbs.{Enters, IsNoVerb, audit_enters, check_enters, fault_is, find_enters, gen_enters}
-use Rattle.fsb_command.proofs.Verbs.{other_fault_is, rows_are, run_enters, show_enters, wave_enters}
+use Rattle.fsb_command.proofs.Verbs.{Enters, IsNoRun, Meets, Misses, differ, fault_is, gen_enters, look_enters}
+use Rattle.fsb_command.proofs.Verbs.{look_leaf, met_or_missed, other_fault_is, rows_are, run_enters}
 
 -- the usage has no fault in the words, and what is found in them is the form; or it has one, and they have no form
 abbrev pub ReadsAs : List Text → Option Form → Type 0
@@ -61,46 +62,35 @@ run_reads (a ∷ b ∷ []) p = read_as _ _ run_enters (a ∷ b ∷ []) _ _ (pair
 run_reads (a ∷ b ∷ c ∷ rest) p = refused_as _ _ run_enters (a ∷ b ∷ c ∷ rest) _ _ _
     (pair_of_more (codes "run") a p.0 b p.1.0 c p.1.1.0 rest) refl
 
-module _ (name : Text) (enters : Enters name (look name)) (form : List ℕ → Form)
-    (is_form : (a : Text) → form_in (name, found (codes "dump") a ∷ []) ≡ Some (form a)) where
-  look_reads : (words : List Text) → ArePlain words → ReadsAs (name ∷ words) (look_of form words)
-  look_reads [] p = refused_as _ _ enters [] _ _ _ (look_of_none name) refl
-  look_reads (a ∷ []) p = read_as _ _ enters (a ∷ []) _ _ (look_of_one name a p.0) (look_rows name a p.0) (is_form a)
-  look_reads (a ∷ b ∷ rest) p = refused_as _ _ enters (a ∷ b ∷ rest) _ _ _ (look_of_more name a p.0 b p.1.0 rest) refl
-
-check_reads : (words : List Text) → ArePlain words → ReadsAs (codes "check" ∷ words) (form_behind (codes "check") words)
-unfolding form_behind form_found
-check_reads = look_reads (codes "check") check_enters check (λ a. refl)
-
-audit_reads : (words : List Text) → ArePlain words → ReadsAs (codes "audit" ∷ words) (form_behind (codes "audit") words)
-unfolding form_behind form_found
-audit_reads = look_reads (codes "audit") audit_enters audit (λ a. refl)
-
-show_reads : (words : List Text) → ArePlain words → ReadsAs (codes "show" ∷ words) (form_behind (codes "show") words)
-unfolding form_behind form_found
-show_reads = look_reads (codes "show") show_enters show (λ a. refl)
-
-find_reads : (words : List Text) → ArePlain words → ReadsAs (codes "find" ∷ words) (form_behind (codes "find") words)
-unfolding form_behind form_found
-find_reads [] p = refused_as _ _ find_enters [] _ _ _ (search_of_none (codes "find")) refl
-find_reads (a ∷ []) p = refused_as _ _ find_enters (a ∷ []) _ _ _ (search_of_one (codes "find") a p.0) refl
-find_reads (a ∷ b ∷ []) p = read_as _ _ find_enters (a ∷ b ∷ []) _ _ (search_of_two (codes "find") a p.0 b p.1.0)
-    (search_rows (codes "find") a p.0 b p.1.0) refl
-find_reads (a ∷ b ∷ c ∷ rest) p = refused_as _ _ find_enters (a ∷ b ∷ c ∷ rest) _ _ _
-    (search_of_more (codes "find") a p.0 b p.1.0 c p.1.1.0 rest) refl
-
-wave_reads : (words : List Text) → ArePlain words → ReadsAs (codes "wave" ∷ words) (form_behind (codes "wave") words)
-unfolding form_behind form_found
-wave_reads [] p = refused_as _ _ wave_enters [] _ _ _ (drawn_of_none (codes "wave")) refl
-wave_reads (a ∷ []) p = refused_as _ _ wave_enters (a ∷ []) _ _ _ (drawn_of_one (codes "wave") a p.0) refl
-wave_reads (a ∷ b ∷ []) p = refused_as _ _ wave_enters (a ∷ b ∷ []) _ _ _
-    (drawn_of_two (codes "wave") a p.0 b p.1.0) refl
-wave_reads (a ∷ b ∷ c ∷ []) p =
-    read_as _ _ wave_enters (a ∷ b ∷ c ∷ []) _ _ (drawn_of_three (codes "wave") a p.0 b p.1.0 c p.1.1.0)
-    (drawn_rows (codes "wave") a p.0 b p.1.0 c p.1.1.0) refl
-wave_reads (a ∷ b ∷ c ∷ d ∷ rest) p =
-    refused_as _ _ wave_enters (a ∷ b ∷ c ∷ d ∷ rest) _ _ _
-    (drawn_of_more (codes "wave") a p.0 b p.1.0 c p.1.1.0 d p.1.1.1.0 rest) refl
+-- the words behind a verb that looks at a dump, by its arguments
+look_reads : (name : Text) (arguments : Arguments) (asked : List Text → Option Asked)
+    → Enters name (look_leaf name arguments)
+    → ((given : Text → Option Text) → form_found name given ≡ option_and_then
+    (λ dump. option_map (ask dump) (option_and_then asked (words_found arguments given))) (given (codes "dump")))
+    → (words : List Text) → ArePlain words → ReadsAs (name ∷ words) (look_of arguments asked words)
+look_reads name dump_alone asked enters is_form [] p = refused_as _ _ enters [] _ _ _ (look_of_none name) refl
+look_reads name dump_alone asked enters is_form (a ∷ []) p =
+    read_as _ _ enters (a ∷ []) _ _ (look_of_one name a p.0) (look_rows name a p.0) (is_form _)
+look_reads name dump_alone asked enters is_form (a ∷ b ∷ rest) p =
+    refused_as _ _ enters (a ∷ b ∷ rest) _ _ _ (look_of_more name a p.0 b p.1.0 rest) refl
+look_reads name dump_and_trigger asked enters is_form [] p = refused_as _ _ enters [] _ _ _ (search_of_none name) refl
+look_reads name dump_and_trigger asked enters is_form (a ∷ []) p =
+    refused_as _ _ enters (a ∷ []) _ _ _ (search_of_one name a p.0) refl
+look_reads name dump_and_trigger asked enters is_form (a ∷ b ∷ []) p =
+    read_as _ _ enters (a ∷ b ∷ []) _ _ (search_of_two name a p.0 b p.1.0) (search_rows name a p.0 b p.1.0) (is_form _)
+look_reads name dump_and_trigger asked enters is_form (a ∷ b ∷ c ∷ rest) p =
+    refused_as _ _ enters (a ∷ b ∷ c ∷ rest) _ _ _ (search_of_more name a p.0 b p.1.0 c p.1.1.0 rest) refl
+look_reads name dump_and_clocks asked enters is_form [] p = refused_as _ _ enters [] _ _ _ (drawn_of_none name) refl
+look_reads name dump_and_clocks asked enters is_form (a ∷ []) p =
+    refused_as _ _ enters (a ∷ []) _ _ _ (drawn_of_one name a p.0) refl
+look_reads name dump_and_clocks asked enters is_form (a ∷ b ∷ []) p =
+    refused_as _ _ enters (a ∷ b ∷ []) _ _ _ (drawn_of_two name a p.0 b p.1.0) refl
+look_reads name dump_and_clocks asked enters is_form (a ∷ b ∷ c ∷ []) p =
+    read_as _ _ enters (a ∷ b ∷ c ∷ []) _ _ (drawn_of_three name a p.0 b p.1.0 c p.1.1.0)
+    (drawn_rows name a p.0 b p.1.0 c p.1.1.0) (is_form _)
+look_reads name dump_and_clocks asked enters is_form (a ∷ b ∷ c ∷ d ∷ rest) p =
+    refused_as _ _ enters (a ∷ b ∷ c ∷ d ∷ rest) _ _ _
+    (drawn_of_more name a p.0 b p.1.0 c p.1.1.0 d p.1.1.1.0 rest) refl
 
 gen_reads : (words : List Text) → ArePlain words → ReadsAs (codes "gen" ∷ words) (form_behind (codes "gen") words)
 unfolding form_behind form_found
@@ -119,42 +109,50 @@ by_verb : (P : Text → Type 0) (name word : Text) → P name → (bytes_eq name
 by_verb P name word here other =
     ⊎_elim (λ t. subst P ((bytes_eq-Decides name word).0 t) here) other (cases_Bool (bytes_eq name word))
 
--- texts that differ differ in either order
-differ : (name word : Text) → bytes_eq name word ≡ false → bytes_eq word name ≡ false
-differ name word e = ⊎_elim
-    (λ t. absurd (true≢false (sym ((bytes_eq-Decides name word).1 (sym ((bytes_eq-Decides word name).0 t))) ∙ e)))
-    (λ f. f) (cases_Bool (bytes_eq word name))
+-- a word that is neither `run` nor `gen`: its form is that of the verbs that look at a dump
+module _ (word : Text) (none : IsNoRun word) where
+  behind_looks : (words : List Text) → form_behind word words ≡ look_behind looks word words
+  unfolding form_behind
+  behind_looks words = rw (differ (codes "run") word none.0, differ (codes "gen") word none.1) refl
 
-other_reads : (word : Text) (words : List Text) → IsNoVerb word → IsPlain word
-    → ReadsAs (word ∷ words) (form_behind word words)
-unfolding form_behind
-other_reads word words none plain = inr (
-  kind.UnknownArgument,
-  kind.InvalidSubcommand ∷ [],
-  other_fault_is word words none plain,
-  rw (
-    differ (codes "run") word none.0,
-    differ (codes "check") word none.1,
-    differ (codes "audit") word none.2,
-    differ (codes "show") word none.3,
-    differ (codes "find") word none.4,
-    differ (codes "wave") word none.5,
-    differ (codes "gen") word none.6,
-  ) refl,
-)
+  found_looks : (given : Text → Option Text) → form_found word given ≡ option_and_then
+      (λ dump. option_map (ask dump) (asked_found looks word given)) (given (codes "dump"))
+  unfolding form_found
+  found_looks given = rw (differ (codes "run") word none.0, differ (codes "gen") word none.1) refl
+
+  one_reads : (verb : Verb) → Meets looks word verb → (words : List Text) → ArePlain words
+      → ReadsAs (word ∷ words) (form_behind word words)
+  one_reads verb m words plain =
+      subst (ReadsAs (word ∷ words)) (sym (behind_looks words ∙ m.behind words))
+      (look_reads word verb.arguments verb.asked
+      (subst (λ (n : Text). Enters word (look_leaf n verb.arguments)) m.named (look_enters word none verb m))
+      (λ given. found_looks given ∙ ap (λ (o : Option Asked).
+      option_and_then (λ dump. option_map (ask dump) o) (given (codes "dump"))) (m.asked given))
+      words plain)
+
+  other_reads : Misses looks word → IsPlain word → (words : List Text) → ReadsAs (word ∷ words) (form_behind word words)
+  other_reads m plain words = inr (
+    kind.UnknownArgument,
+    kind.InvalidSubcommand ∷ [],
+    other_fault_is word words none m plain,
+    behind_looks words ∙ m.behind words,
+  )
+
+  look_or_other_reads : IsPlain word → (words : List Text) → ArePlain words
+      → ReadsAs (word ∷ words) (form_behind word words)
+  look_or_other_reads plain words are =
+      elim (met_or_missed looks word) [
+        | inl m ↦ one_reads m.0 m.1 words are
+        | inr m ↦ other_reads m plain words
+      ]
 
 verb_reads : (word : Text) (words : List Text) → IsPlain word → ArePlain words
     → ReadsAs (word ∷ words) (form_behind word words)
 verb_reads word words plain rest =
     let P : Text → Type 0 = λ w. ReadsAs (w ∷ words) (form_behind w words) in
     by_verb P (codes "run") word (run_reads words rest) (λ r.
-    by_verb P (codes "check") word (check_reads words rest) (λ c.
-    by_verb P (codes "audit") word (audit_reads words rest) (λ a.
-    by_verb P (codes "show") word (show_reads words rest) (λ s.
-    by_verb P (codes "find") word (find_reads words rest) (λ f.
-    by_verb P (codes "wave") word (wave_reads words rest) (λ w.
     by_verb P (codes "gen") word (gen_reads words rest) (λ g.
-    other_reads word words (r, c, a, s, f, w, g) plain)))))))
+    look_or_other_reads word (r, g) plain words rest))
 
 none_read : ReadsAs [] None
 unfolding usage walk_fault defaults_fault

@@ -1,32 +1,36 @@
 -- The form of what `clap` found in the words.
-use Rattle.std.specs.Prelude.{ℕ, Option, None, option_map, option_and_then, List, codes, if◌then◌else◌}
+use Rattle.std.specs.Prelude.{ℕ, Option, None, Some, option_map, option_and_then, List, [], ◌∷◌, codes, if◌then◌else◌}
 use Rattle.std.specs.Str.{bytes_eq}
 use Rattle.clap.specs.Words.{Row, first_of}
-use Rattle.fsb_trigger.specs.Grammar.{trigger_of}
-use Rattle.fsb_command.specs.Form.{Form, run, check, audit, show, find, wave, plan_named}
+use Rattle.fsb_command.specs.Form.{Arguments, dump_alone, dump_and_trigger, dump_and_clocks}
+use Rattle.fsb_command.specs.Form.{Asked, Form, Verb, ask, run, looks, plan_named}
 use Rattle.fsb_command.specs.Number.{agents_named, items_named, seed_named}
-use Rattle.fsb_command.specs.Range.{range_of}
+
+-- the words that were found for the arguments behind the dump
+abbrev pub words_found : Arguments → (List ℕ → Option (List ℕ)) → Option (List (List ℕ))
+words_found dump_alone word = Some []
+words_found dump_and_trigger word = option_map (λ trigger. trigger ∷ []) (word (codes "trigger"))
+words_found dump_and_clocks word =
+    option_and_then (λ from. option_map (λ to. from ∷ to ∷ []) (word (codes "to"))) (word (codes "from"))
+
+-- what the words that were found ask, by the first of these verbs that has the name
+abbrev pub asked_found : List Verb → List ℕ → (List ℕ → Option (List ℕ)) → Option Asked
+asked_found [] name word = None
+asked_found (verb ∷ verbs) name word =
+    if bytes_eq name verb.name then option_and_then verb.asked (words_found verb.arguments word)
+    else asked_found verbs name word
 
 -- the form of a verb and of the words that were found for its arguments, by their names
 unfoldable pub form_found : List ℕ → (List ℕ → Option (List ℕ)) → Option Form
 form_found verb word =
     if bytes_eq verb (codes "run")
     then option_map (λ bench. run bench (word (codes "dump"))) (word (codes "bench"))
-    else (if bytes_eq verb (codes "check") then option_map check (word (codes "dump"))
-    else (if bytes_eq verb (codes "audit") then option_map audit (word (codes "dump"))
-    else (if bytes_eq verb (codes "show") then option_map show (word (codes "dump"))
-    else (if bytes_eq verb (codes "find")
-    then option_and_then (λ dump. option_map (find dump)
-    (option_and_then trigger_of (word (codes "trigger")))) (word (codes "dump"))
-    else (if bytes_eq verb (codes "wave")
-    then option_and_then (λ dump. option_and_then (λ from. option_and_then (λ to.
-    option_map (λ range. wave dump range.0 range.1) (range_of from to))
-    (word (codes "to"))) (word (codes "from"))) (word (codes "dump"))
     else (if bytes_eq verb (codes "gen")
     then plan_named (option_and_then seed_named (word (codes "seed")))
     (option_and_then agents_named (word (codes "agents")))
     (option_and_then items_named (word (codes "items")))
-    else None))))))
+    else option_and_then (λ dump. option_map (ask dump) (asked_found looks verb word))
+    (word (codes "dump")))
 
 -- the same, of the rows that a parse has
 abbrev pub form_in : List ℕ × List Row → Option Form

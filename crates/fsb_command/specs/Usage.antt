@@ -3,6 +3,8 @@ use Rattle.std.specs.Prelude.{◌≡◌, ℕ, true, false, Option, None, Some, L
 use Rattle.clap.specs.Words.{App, Rule, Shape, fault_of, new_rule, subcommand_of, subcommand_rows_of}
 use Rattle.clap.specs.Simple.{new_shape}
 use Rattle.clap.specs.declared.parser.matches.ArgMatches.{ArgMatches}
+use Rattle.fsb_command.specs.declared.usage.LookVerb.{LookVerb}
+use Rattle.fsb_command.specs.Form.{Arguments, Verb, dump_alone, dump_and_trigger, dump_and_clocks, looks}
 
 -- an argument that has to be there
 abbrev pub needed : List ℕ → Rule
@@ -16,7 +18,21 @@ verb name rules = record (new_shape name) { rules = rules }
 abbrev pub verb_of : List ℕ → List (List ℕ) → Shape
 verb_of name ids = verb name (map needed ids)
 
--- the program with its seven verbs
+-- the names of the arguments behind the dump
+abbrev pub ids_behind : Arguments → List (List ℕ)
+ids_behind dump_alone = []
+ids_behind dump_and_trigger = codes "trigger" ∷ []
+ids_behind dump_and_clocks = codes "from" ∷ codes "to" ∷ []
+
+-- a verb that looks at a dump
+abbrev pub look_verb : Verb → Shape
+look_verb look = verb_of look.name (codes "dump" ∷ ids_behind look.arguments)
+
+-- the same, as the code has it
+abbrev pub verb_told : LookVerb → Shape
+verb_told look = verb_of look.name.now (map (λ id. id.now) look.ids.now)
+
+-- the program with its verbs
 unfoldable pub usage : App
 usage = record {
   top = record (new_shape (codes "p6bench")) {
@@ -27,12 +43,8 @@ usage = record {
     subcommand_required = true;
   };
   subs = verb (codes "run") (needed (codes "bench") ∷ new_rule (codes "dump") ∷ [])
-      ∷ verb_of (codes "check") (codes "dump" ∷ [])
-      ∷ verb_of (codes "audit") (codes "dump" ∷ [])
-      ∷ verb_of (codes "show") (codes "dump" ∷ [])
-      ∷ verb_of (codes "find") (codes "dump" ∷ codes "trigger" ∷ [])
-      ∷ verb_of (codes "wave") (codes "dump" ∷ codes "from" ∷ codes "to" ∷ [])
-      ∷ verb_of (codes "gen") (codes "seed" ∷ codes "agents" ∷ codes "items" ∷ []) ∷ [];
+      ∷ verb_of (codes "gen") (codes "seed" ∷ codes "agents" ∷ codes "items" ∷ [])
+      ∷ map look_verb looks;
 }
 
 -- `clap` refuses exactly the words in which the usage has a fault, and finds in others what it has

@@ -1,10 +1,10 @@
 //! The command that the words of a command line are.
-ghost use Rattle.std.specs.Prelude.{◌≡◌, IfOk, IfSome, OnOk, option_and_then};
+ghost use Rattle.std.specs.Prelude.{◌≡◌, IfOk, IfSome, OnOk, option_and_then, option_map};
 ghost use Rattle.clap.specs.Matches.{first_value, found_of};
 ghost use Rattle.clap.specs.Simple.{subcommand_rows_of};
-ghost use Rattle.fsb_command.specs.Form.{KeepsLimits, form_of};
-ghost use Rattle.fsb_command.specs.Command.{IsCommand, form_meant};
-ghost use Rattle.fsb_command.specs.Found.{form_found, form_in};
+ghost use Rattle.fsb_command.specs.Form.{KeepsLimits, form_of, looks};
+ghost use Rattle.fsb_command.specs.Command.{IsCommand, form_meant, task_meant};
+ghost use Rattle.fsb_command.specs.Found.{asked_found, form_found, form_in};
 
 use crate::number::{read_agents, read_items, read_seed};
 use crate::range::read_range;
@@ -16,6 +16,21 @@ use fsb_trigger::Trigger;
 use fsb_wave::ClockRange;
 use std::alloc::Global;
 
+/// What is asked of a dump.
+#[derive(Drop)]
+pub enum Task {
+    /// To judge it.
+    Check,
+    /// To audit it.
+    Audit,
+    /// To tell it as a table.
+    Show,
+    /// To search it for a trigger.
+    Find(Trigger),
+    /// To draw a range of its clocks.
+    Wave(ClockRange),
+}
+
 /// What the words of a command line ask for.
 #[derive(Drop)]
 pub enum Command<'a> {
@@ -24,27 +39,10 @@ pub enum Command<'a> {
         bench: &'a str,
         dump: Option<&'a str>,
     },
-    /// To judge a dump.
-    Check {
+    /// To look at a dump.
+    Look {
         dump: &'a str,
-    },
-    /// To audit a dump.
-    Audit {
-        dump: &'a str,
-    },
-    /// To tell a dump as a table.
-    Show {
-        dump: &'a str,
-    },
-    /// To search a dump for a trigger.
-    Find {
-        dump: &'a str,
-        trigger: Trigger,
-    },
-    /// To draw a range of clocks of a dump.
-    Wave {
-        dump: &'a str,
-        range: ClockRange,
+        task: Task,
     },
     /// To run the plan that is made from a seed, for so many agents with so many items each.
     Gen {
@@ -86,28 +84,29 @@ fn command_of<'a>(verb: &str, found: &ArgMatches<'a>) -> Option<Command<'a>>
             bench: found.get_str("bench")?,
             dump: found.get_str("dump"),
         }),
-        "check" => Some(Command::Check {
-            dump: found.get_str("dump")?,
-        }),
-        "audit" => Some(Command::Audit {
-            dump: found.get_str("dump")?,
-        }),
-        "show" => Some(Command::Show {
-            dump: found.get_str("dump")?,
-        }),
-        "find" => Some(Command::Find {
-            dump: found.get_str("dump")?,
-            trigger: Trigger::read(found.get_str("trigger")?)?,
-        }),
-        "wave" => Some(Command::Wave {
-            dump: found.get_str("dump")?,
-            range: read_range(found.get_str("from")?, found.get_str("to")?)?,
-        }),
         "gen" => Some(Command::Gen {
             seed: read_seed(found.get_str("seed")?)?,
             agents: read_agents(found.get_str("agents")?)?,
             items: read_items(found.get_str("items")?)?,
         }),
+        _ => Some(Command::Look {
+            dump: found.get_str("dump")?,
+            task: task_of(verb, found)?,
+        }),
+    }
+}
+
+// What a verb asks of a dump, by what was found for the arguments behind it.
+fn task_of(verb: &str, found: &ArgMatches<'_>) -> Option<Task>
+    ensures { option_map task_meant result ≡
+        asked_found looks verb.now (first_value (found_of found.now)) }
+{
+    match verb {
+        "check" => Some(Task::Check),
+        "audit" => Some(Task::Audit),
+        "show" => Some(Task::Show),
+        "find" => Some(Task::Find(Trigger::read(found.get_str("trigger")?)?)),
+        "wave" => Some(Task::Wave(read_range(found.get_str("from")?, found.get_str("to")?)?)),
         _ => None,
     }
 }

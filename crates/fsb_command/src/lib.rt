@@ -2,7 +2,7 @@
 //! one definition of the forms that a command line has.
 #![tactic(auto)]
 
-pub use command::{Command, read_words};
+pub use command::{Command, Task, read_words};
 pub use words::Words;
 
 mod command;

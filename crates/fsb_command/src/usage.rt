@@ -1,10 +1,11 @@
 //! The command line as `clap` is told of it.
 ghost use Rattle.std.specs.Prelude.{◌≡◌, IfOk, false, map};
+ghost use Rattle.std.specs.List.{fold};
 ghost use Rattle.std.specs.String.{string_bytes};
-ghost use Rattle.clap.specs.Simple.{app_of, shape_of};
+ghost use Rattle.clap.specs.Simple.{app_of, shape_of, with_subcommand};
 ghost use Rattle.clap.specs.declared.builder.command.Command.TheViews.{out-Command as fields_of};
 ghost use Rattle.clap.specs.Walk.{rule_of};
-ghost use Rattle.fsb_command.specs.Usage.{IsFound, needed, usage, verb_of};
+ghost use Rattle.fsb_command.specs.Usage.{IsFound, needed, usage, verb_of, verb_told};
 
 use clap::error::ErrorKind;
 use clap::{Arg, ArgMatches, Command};
@@ -27,7 +28,7 @@ pub(crate) fn find_words<'a>(
     }
 }
 
-// The program with its seven verbs.
+// The program with its verbs.
 fn usage<'a>(alloc: Global) -> Result<Command<'a>, Memory>
     ensures { IfOk result (λ c. app_of c ≡ usage) }
 {
@@ -39,14 +40,67 @@ fn usage<'a>(alloc: Global) -> Result<Command<'a>, Memory>
         .disable_help_flag(true)
         .disable_help_subcommand(true)
         .subcommand_required(true)
-        .subcommand(run)?
-        .subcommand(verb(alloc, "check", &["dump"])?)?
-        .subcommand(verb(alloc, "audit", &["dump"])?)?
-        .subcommand(verb(alloc, "show", &["dump"])?)?
-        .subcommand(verb(alloc, "find", &["dump", "trigger"])?)?
-        .subcommand(verb(alloc, "wave", &["dump", "from", "to"])?)?
-        .subcommand(verb(alloc, "gen", &["seed", "agents", "items"])?)?;
+        .subcommand(run)?;
+    let usage = with_verb(alloc, usage, "gen", &["seed", "agents", "items"])?;
+    let looks = [
+        LookVerb {
+            name: "check",
+            ids: &["dump"],
+        },
+        LookVerb {
+            name: "audit",
+            ids: &["dump"],
+        },
+        LookVerb {
+            name: "show",
+            ids: &["dump"],
+        },
+        LookVerb {
+            name: "find",
+            ids: &["dump", "trigger"],
+        },
+        LookVerb {
+            name: "wave",
+            ids: &["dump", "from", "to"],
+        },
+    ];
+    with_looks(alloc, usage, &looks)
+}
+
+// A verb that looks at a dump, and the names of its arguments.
+#[derive(Clone, Copy)]
+struct LookVerb<'a> {
+    name: &'a str,
+    ids: &'a [&'a str],
+}
+
+// The verbs that look at a dump, behind those that are there.
+fn with_looks<'a>(
+    alloc: Global,
+    usage: Command<'a>,
+    looks: &[LookVerb<'a>],
+) -> Result<Command<'a>, Memory>
+    ensures { IfOk result (λ c.
+        app_of c ≡ fold with_subcommand (app_of usage.entry) (map verb_told looks.now)) }
+{
+    let mut usage = usage;
+    for look in looks {
+        usage = with_verb(alloc, usage, look.name, look.ids)?;
+    }
     Ok(usage)
+}
+
+// One verb more, whose arguments all have to be there.
+fn with_verb<'a>(
+    alloc: Global,
+    usage: Command<'a>,
+    name: &'a str,
+    ids: &[&'a str],
+) -> Result<Command<'a>, Memory>
+    ensures { IfOk result (λ c. app_of c ≡ with_subcommand (app_of usage.entry)
+        (verb_of name.entry.now (map (λ s. s.now) ids.now))) }
+{
+    Ok(usage.subcommand(verb(alloc, name, ids)?)?)
 }
 
 // A verb whose arguments all have to be there.

@@ -1,30 +1,47 @@
 -- What is so of each command that reads a dump in pieces.
-use Rattle.std.proofs.Common.{◌≡◌, ℕ, List, Option, Some, subst}
-use Rattle.fsb_command.specs.Form.{Form, run, check, audit, show, find, wave, gen}
-use Rattle.fsb_calls.specs.FileSays.{FromLook}
-use Rattle.fsb_trigger.specs.TriggerSteps.{StepView}
-use Rattle.fsb_headline.specs.Refusals.{IsReadInPieces}
+use Rattle.std.proofs.Common.{◌≡◌, ◌-◌, ◌^◌, ℕ, List, Option, subst}
+use Rattle.fsb_command.specs.Form.{Form, ask, gen, run}
+use Rattle.fsb_calls.specs.FileSays.{FromLook, HasLookedAs, OfKind}
+use Rattle.fsb_command.specs.Form.{Asked}
+use Rattle.fsb_signal.specs.declared.marks.Marks.{Marks}
+use Rattle.fsb_signal.specs.declared.sample.Sample.{Sample}
+use Rattle.fsb_top.specs.Complete.{IsDumpWithin}
+use Rattle.fsb_top.specs.FileRead.{DumpKind, file_of, in_pieces, kept_whole}
+use Rattle.fsb_top.specs.Looks.{look_at}
+use Rattle.fsb_top.specs.declared.status.Status.{Status}
+use Rattle.fsb_headline.specs.Refusals.{IsNamedInPieces, IsReadInPieces, WasReadWhole}
+use Rattle.std.proofs.Common.{Some}
+
+of_kind : (kind : DumpKind) (dump name : List ℕ) (P Q : List ℕ → Type 0) → IsNamedInPieces kind dump name
+    → OfKind kind (P dump) (Q dump) → P name
+of_kind in_pieces dump name P Q same h = subst P same h
+of_kind kept_whole dump name P Q same h = absurd same
 
 pub pieces-of : (form : Form) (name : List ℕ) (P Q : List ℕ → Type 0) → IsReadInPieces form name
     → FromLook (Some form) P Q → P name
 pieces-of (run bench dump) name P Q same h = absurd same
-pieces-of (check dump) name P Q same h = subst P same h
-pieces-of (audit dump) name P Q same h = subst P same h
-pieces-of (show dump) name P Q same h = absurd same
-pieces-of (find dump steps) name P Q same h = subst P same h
-pieces-of (wave dump from to) name P Q same h = subst P same h
+pieces-of (ask dump asked) name P Q same h = of_kind (look_at asked).kind dump name P Q same h
 pieces-of (gen seed agents items) name P Q same h = absurd same
 
--- what is so of each such command by itself
-pub by-command : (R : List ℕ → Type 0) (words : Option Form) (form : Form) (name : List ℕ)
-    → ((n : List ℕ) → words ≡ Some (check n) → R n) → ((n : List ℕ) → words ≡ Some (audit n) → R n)
-    → ((n : List ℕ) (steps : List StepView) → words ≡ Some (find n steps) → R n)
-    → ((n : List ℕ) (from to : ℕ) → words ≡ Some (wave n from to) → R n)
-    → IsReadInPieces form name → words ≡ Some form → R name
-by-command R words (run bench dump) name checks audits finds waves same e = absurd same
-by-command R words (check dump) name checks audits finds waves same e = subst R same (checks dump e)
-by-command R words (audit dump) name checks audits finds waves same e = subst R same (audits dump e)
-by-command R words (show dump) name checks audits finds waves same e = absurd same
-by-command R words (find dump steps) name checks audits finds waves same e = subst R same (finds dump steps e)
-by-command R words (wave dump from to) name checks audits finds waves same e = subst R same (waves dump from to e)
-by-command R words (gen seed agents items) name checks audits finds waves same e = absurd same
+-- a dump that was looked at in pieces was read whole
+whole_by : (kind : DumpKind) (Tells : Status → Marks → List Sample → Type 0) (status : Status)
+    (dump name held left : List ℕ) (begun_as : Option (List ℕ)) → IsNamedInPieces kind dump name
+    → HasLookedAs (file_of kind) Tells status dump held left begun_as
+    → WasReadWhole (2 ^ 40) name held left begun_as × IsDumpWithin (2 ^ 40) (2 ^ 32 - 1) held
+whole_by in_pieces Tells status dump name held left begun_as same h = (
+  subst (λ (n : List ℕ). WasReadWhole (2 ^ 40) n held left begun_as) same
+      (record { named = h.read.named; all = h.read.all; short = h.read.short }),
+  record { short = h.read.short; marks = h.marks; trace = h.trace; reads = h.reads; few = h.few },
+)
+whole_by kept_whole Tells status dump name held left begun_as same h = absurd same
+
+pub whole-of : (words : Option Form) (form : Form) (name held left : List ℕ) (begun_as : Option (List ℕ))
+    (status : Status) (Tells : Asked → Status → Marks → List Sample → Type 0)
+    → ((dump : List ℕ) (asked : Asked) → words ≡ Some (ask dump asked)
+    → HasLookedAs (file_of (look_at asked).kind) (Tells asked) status dump held left begun_as)
+    → IsReadInPieces form name → words ≡ Some form
+    → WasReadWhole (2 ^ 40) name held left begun_as × IsDumpWithin (2 ^ 40) (2 ^ 32 - 1) held
+whole-of words (run bench dump) name held left begun_as status Tells looked same e = absurd same
+whole-of words (ask dump asked) name held left begun_as status Tells looked same e =
+    whole_by (look_at asked).kind (Tells asked) status dump name held left begun_as same (looked dump asked e)
+whole-of words (gen seed agents items) name held left begun_as status Tells looked same e = absurd same

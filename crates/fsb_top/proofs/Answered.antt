@@ -2,7 +2,7 @@
 use Rattle.std.proofs.Common.{◌≡◌, ◌≤◌, ◌<◌, ◌-◌, ◌^◌, ◌⊎◌, ℕ, List, length, Option, Some, None, refl, sym, ap, ◌∙◌}
 use Rattle.std.proofs.Common.{arith, inl, inr}
 use Rattle.std.proofs.lemmas.Bool.{cases_lt}
-use Rattle.fsb_command.specs.Form.{Form, run, check, audit, show, find, wave, gen}
+use Rattle.fsb_command.specs.Form.{Form, ask, gen, run}
 use Rattle.fsb_script.specs.Drafts.{BenchText, FirstBad}
 use Rattle.fsb_script.specs.Plans.{PlanView}
 use Rattle.fsb_script.specs.declared.fault.ScriptFault.{ScriptFault}
@@ -11,8 +11,10 @@ use Rattle.fsb_watch.specs.Watched.{HasManySamples}
 use Rattle.vcd_grammar.specs.Reading.{first_fault, marks_of, samples_before_end, samples_of}
 use Rattle.vcd_grammar.specs.declared.fault.VcdFault.{VcdFault}
 use Rattle.fsb_top.specs.BenchEnds.{IsTooLong}
-use Rattle.fsb_top.specs.Complete.{IsBenchFile, IsDumpWithin, IsFaulty, IsFaultyBench, IsFaultyPieces, IsFaultyWhole}
-use Rattle.fsb_top.specs.Complete.{IsReadable}
+use Rattle.fsb_top.specs.Complete.{IsBenchFile, IsDumpWithin, IsFaulty, IsFaultyBench, IsFaultyDump, IsFaultyPieces}
+use Rattle.fsb_top.specs.Complete.{IsFaultyWhole, IsReadable, IsReadableDump}
+use Rattle.fsb_top.specs.FileRead.{DumpKind, IsTooLongFor, file_of, in_pieces, kept_whole}
+use Rattle.fsb_top.specs.Looks.{look_at}
 use Rattle.fsb_top.proofs.Completing.{no-fault, not-long, not-long-shown}
 
 -- each text is a bench file, or has a first bad line
@@ -85,14 +87,15 @@ whole-some held =
       | inr short ↦ whole-by held (first_fault held) refl short
     ]
 
+dump-some : (kind : DumpKind) (held : List ℕ)
+    → IsReadableDump kind held ⊎ (IsFaultyDump kind held ⊎ IsTooLongFor (file_of kind) held)
+dump-some in_pieces held = pieces-some held
+dump-some kept_whole held = whole-some held
+
 pub some-answer : EachAnswers → (form : Form) (held : List ℕ)
     → IsReadable form held ⊎ (IsFaulty form held ⊎ IsTooLong form held)
 some-answer either (run bench dump) held = bench-some either held
-some-answer either (check dump) held = pieces-some held
-some-answer either (audit dump) held = pieces-some held
-some-answer either (show dump) held = whole-some held
-some-answer either (find dump steps) held = pieces-some held
-some-answer either (wave dump from to) held = pieces-some held
+some-answer either (ask dump asked) held = dump-some (look_at asked).kind held
 some-answer either (gen seed agents items) held = inl tt
 
 -- no text is a bench file and has a first bad line
@@ -103,24 +106,23 @@ pieces-faultless : (held : List ℕ) → IsDumpWithin (2 ^ 40) (2 ^ 32 - 1) held
 pieces-faultless held within faulty =
     no-fault (2 ^ 40) (2 ^ 32 - 1) held faulty.fault within faulty.is_bad.first
 
+dump-faultless : (kind : DumpKind) (held : List ℕ) → IsReadableDump kind held → IsFaultyDump kind held → ⊥
+dump-faultless in_pieces held within faulty = pieces-faultless held within faulty
+dump-faultless kept_whole held within faulty = no-fault 268435456 200000 held faulty.fault within faulty.is_first
+
 pub never-faulty : NotBoth → (form : Form) (held : List ℕ) → IsReadable form held → IsFaulty form held → ⊥
 never-faulty not (run bench dump) held file faulty =
     not held file.plan faulty.fault file.is_bench faulty.is_first
-never-faulty not (check dump) held within faulty = pieces-faultless held within faulty
-never-faulty not (audit dump) held within faulty = pieces-faultless held within faulty
-never-faulty not (show dump) held within faulty =
-    no-fault 268435456 200000 held faulty.fault within faulty.is_first
-never-faulty not (find dump steps) held within faulty = pieces-faultless held within faulty
-never-faulty not (wave dump from to) held within faulty = pieces-faultless held within faulty
+never-faulty not (ask dump asked) held within faulty = dump-faultless (look_at asked).kind held within faulty
 never-faulty not (gen seed agents items) held readable faulty = faulty
+
+dump-not-long : (kind : DumpKind) (held : List ℕ) → IsReadableDump kind held → IsTooLongFor (file_of kind) held → ⊥
+dump-not-long in_pieces held within long = not-long held within long
+dump-not-long kept_whole held within long = not-long-shown held within long
 
 pub never-long : (form : Form) (held : List ℕ) → IsReadable form held → IsTooLong form held → ⊥
 never-long (run bench dump) held file long = let h = file.short in omega (arith, h, long)
-never-long (check dump) held within long = not-long held within long
-never-long (audit dump) held within long = not-long held within long
-never-long (show dump) held within long = not-long-shown held within long
-never-long (find dump steps) held within long = not-long held within long
-never-long (wave dump from to) held within long = not-long held within long
+never-long (ask dump asked) held within long = dump-not-long (look_at asked).kind held within long
 never-long (gen seed agents items) held readable long = long
 
 pieces-short : (held : List ℕ) → IsFaultyPieces held → (2 ^ 40 < length held) ⊎ HasManySamples held → ⊥
@@ -133,11 +135,11 @@ whole-short : (held : List ℕ) → IsFaultyWhole held → (268435456 < length h
 whole-short held faulty (inl long) = let h = faulty.short in omega (arith, h, long)
 whole-short held faulty (inr many) = let e = sym many.readable ∙ faulty.is_first in let no : ⊥ = cc in no
 
+dump-short : (kind : DumpKind) (held : List ℕ) → IsFaultyDump kind held → IsTooLongFor (file_of kind) held → ⊥
+dump-short in_pieces held faulty long = pieces-short held faulty long
+dump-short kept_whole held faulty long = whole-short held faulty long
+
 pub never-both : (form : Form) (held : List ℕ) → IsFaulty form held → IsTooLong form held → ⊥
 never-both (run bench dump) held faulty long = let h = faulty.short in omega (arith, h, long)
-never-both (check dump) held faulty long = pieces-short held faulty long
-never-both (audit dump) held faulty long = pieces-short held faulty long
-never-both (show dump) held faulty long = whole-short held faulty long
-never-both (find dump steps) held faulty long = pieces-short held faulty long
-never-both (wave dump from to) held faulty long = pieces-short held faulty long
+never-both (ask dump asked) held faulty long = dump-short (look_at asked).kind held faulty long
 never-both (gen seed agents items) held faulty long = faulty

@@ -1,10 +1,8 @@
 -- What follows from how a call ends (`CallEnds`), for proofs elsewhere: that a call that nothing stops is complete, and
 -- that each command ends in a status of its own.
-use Rattle.std.proofs.Common.{◌≡◌, ◌≢◌, ◌≤◌, ◌<◌, ◌⊎◌, ℕ, IsTrue, List, Option, Some, None, Err, inl, inr, length, refl}
+use Rattle.std.proofs.Common.{◌≡◌, ◌≢◌, ◌≤◌, ◌<◌, ◌⊎◌, ℕ, IsTrue, List, Option, Some, None, inl, inr, length, refl}
 use Rattle.std.proofs.Common.{subst, sym}
-use Rattle.fsb_audit.specs.declared.finding.Finding.{Finding}
-use Rattle.fsb_audit.specs.declared.finding.Finding.TheVariants as findings
-use Rattle.fsb_command.specs.Form.{Form, run, check, audit, show, find, wave, gen}
+use Rattle.fsb_command.specs.Form.{Form, ask, gen, run}
 use Rattle.fsb_hazard.specs.Told.{Told}
 use Rattle.fsb_io.specs.Faults.{Rose}
 use Rattle.fsb_io.specs.declared.sink.Sink.{Ghosts as SinkGhosts}
@@ -12,14 +10,15 @@ use Rattle.fsb_io.specs.declared.source.Source.{Ghosts as SourceGhosts}
 use Rattle.fsb_script.specs.Plans.{PlanView}
 use Rattle.fsb_script.specs.declared.fault.ScriptFault.{ScriptFault}
 use Rattle.fsb_signal.specs.declared.sample.Sample.{Sample}
-use Rattle.fsb_top.proofs.Statuses.{audit_as, audit_ends, broken_as, match_as, played_made, played_ends, stopped_look}
-use Rattle.fsb_top.proofs.Statuses.{stopped_run, told_as}
-use Rattle.fsb_top.specs.BenchEnds.{IsOfAudit, IsOfCheck, IsOfFind, IsOfGen, IsOfWave, IsTooLong, MayEnd}
-use Rattle.fsb_top.specs.CallEnds.{CallEnds, DumpCall, IsPlayed, Look, LookEnds, RowEnds, audit_look, audit_status}
-use Rattle.fsb_top.specs.CallEnds.{check_look, find_look, show_look, wave_look}
-use Rattle.fsb_top.specs.Complete.{IsComplete, IsFaulty, IsFaultyBench, IsFaultyPieces, IsFaultyWhole, IsReadable}
-use Rattle.fsb_top.specs.FileRead.{FileKind, HasReadTooMuch, HasTooManySamples, IsDumpKind, IsFaultOfBench}
-use Rattle.fsb_top.specs.FileRead.{IsFaultOfDump, IsStopped, bench_file, byte_limit, dump_in_pieces, whole_dump}
+use Rattle.fsb_top.proofs.Statuses.{answer_as, played_made, played_ends, stopped_look, stopped_run}
+use Rattle.fsb_top.specs.BenchEnds.{IsLookStop, IsOfGen, IsOfLook, IsTooLong, MayEnd}
+use Rattle.fsb_top.specs.CallEnds.{CallEnds, DumpCall, IsPlayed, LookEnds, RowEnds}
+use Rattle.fsb_top.specs.Complete.{IsComplete, IsFaulty, IsFaultyBench, IsFaultyDump, IsFaultyPieces, IsFaultyWhole}
+use Rattle.fsb_top.specs.Complete.{IsReadable}
+use Rattle.fsb_top.specs.FileRead.{DumpKind, FileKind, HasReadTooMuch, IsDumpKind, IsFaultOfBench, IsFaultOfDump}
+use Rattle.fsb_top.specs.FileRead.{IsStopped, IsTooLongFor, bench_file, byte_limit, dump_in_pieces, file_of, in_pieces}
+use Rattle.fsb_top.specs.FileRead.{kept_whole, whole_dump}
+use Rattle.fsb_top.specs.Looks.{Look, look_at}
 use Rattle.fsb_top.specs.declared.status.Status.{Status}
 use Rattle.fsb_top.specs.declared.status.Status.TheVariants.{Done, Rejected, BadWords, BadBench, BadDump}
 use Rattle.fsb_top.specs.declared.status.Status.TheVariants.{ReadFault, WriteFault, DumpFault, OutOfMemory}
@@ -59,10 +58,6 @@ IsFaultyAs bench_file held = IsFaultyBench held
 IsFaultyAs dump_in_pieces held = IsFaultyPieces held
 IsFaultyAs whole_dump held = IsFaultyWhole held
 
--- the text is longer than such a file may be
-abbrev IsLongAs : FileKind → List ℕ → Type 0
-IsLongAs kind held = (byte_limit kind < length held) ⊎ HasTooManySamples kind held
-
 faulty_bench : (kind : FileKind) (held : List ℕ) (fault : ScriptFault) → length held ≤ byte_limit kind
     → IsFaultOfBench kind held fault → IsFaultyAs kind held
 faulty_bench bench_file held fault short first = record { short = short; fault = fault; is_first = first }
@@ -76,14 +71,14 @@ faulty_dump dump_in_pieces held fault short bad = record { short = short; fault 
 faulty_dump whole_dump held fault short bad = record { short = short; fault = fault; is_first = bad }
 
 too_much : (kind : FileKind) (name held left : List ℕ) (begun_as : Option (List ℕ))
-    → HasReadTooMuch kind name held left begun_as → IsLongAs kind held
+    → HasReadTooMuch kind name held left begun_as → IsTooLongFor kind held
 too_much kind name held left begun_as (inl past) = inl past.long
 too_much kind name held left begun_as (inr both) = inr both.1
 
 module _ {S : Type 0} (source : SourceGhosts S) (was now : S) (tells : IsTrue source.tells)
     (read : Rose (source.faults was) (source.faults now) → ⊥) where
   stopped_completes : (kind : FileKind) (name : List ℕ) (status : Status)
-      → (IsFaultyAs kind (source.holds was) → ⊥) → (IsLongAs kind (source.holds was) → ⊥)
+      → (IsFaultyAs kind (source.holds was) → ⊥) → (IsTooLongFor kind (source.holds was) → ⊥)
       → IsStopped source kind name was now status → IsComplete status
   stopped_completes kind name Done faulty long stopped = tt
   stopped_completes kind name (Rejected broken) faulty long stopped = tt
@@ -116,9 +111,10 @@ played_completes Failed dump name (BadDump fault) write sink played = played
 played_completes Failed dump name ReadFault write sink played = played
 played_completes Failed dump name TooLong write sink played = played
 
-audit_completes : (f : Finding) → IsComplete (audit_status (Err f))
-audit_completes (findings.Broken broken) = tt
-audit_completes (findings.Foul foul) = tt
+-- a faulty file of a command that looks at a dump is a faulty dump
+faulty_as : (kind : DumpKind) (held : List ℕ) → IsFaultyAs (file_of kind) held → IsFaultyDump kind held
+faulty_as in_pieces held faulty = faulty
+faulty_as kept_whole held faulty = faulty
 
 module _ {S O : Type 0} (source : SourceGhosts S) (out : SinkGhosts O) (dump : DumpCall) (was now : S)
     (before after : O) (told : PlanView → List (Option Told)) (weights : List (Sample → ℕ))
@@ -126,14 +122,15 @@ module _ {S O : Type 0} (source : SourceGhosts S) (out : SinkGhosts O) (dump : D
     (not_long : (form : Form) (held : List ℕ) → IsReadable form held → IsTooLong form held → ⊥)
     (tells : IsTrue source.tells) (read : Rose (source.faults was) (source.faults now) → ⊥)
     (write : Rose (out.faults before) (out.faults after) → ⊥) (sink : dump.Fails → ⊥) where
-  look_completes : {F : Type 0} (look : Look F) (status : Status) → ((found : F) → IsComplete (look.status found))
-      → (IsFaultyAs look.kind (source.holds was) → ⊥) → (IsLongAs look.kind (source.holds was) → ⊥)
-      → LookEnds source out was now before after look status → IsComplete status
-  look_completes look status complete faulty long (inl stopped) =
-      stopped_completes source was now tells read look.kind look.name status faulty long stopped.0
-  look_completes look status complete faulty long (inr looked) =
+  look_completes : (name : List ℕ) (row : Look) (status : Status) → (IsFaultyDump row.kind (source.holds was) → ⊥)
+      → (IsTooLongFor (file_of row.kind) (source.holds was) → ⊥)
+      → LookEnds source out was now before after weights name row status → IsComplete status
+  look_completes name row status faulty long (inl stopped) =
+      stopped_completes source was now tells read (file_of row.kind) name status
+      (λ bad. faulty (faulty_as row.kind (source.holds was) bad)) long stopped.0
+  look_completes name row status faulty long (inr looked) =
       elim looked.ends [
-        | inl same ↦ subst IsComplete (sym same) (complete looked.found)
+        | inl same ↦ subst IsComplete (sym same) (answer_as IsComplete tt (λ b. tt) (λ f. tt) tt (row.answer looked.found))
         | inr failed ↦ absurd (write failed.1)
       ]
 
@@ -148,23 +145,9 @@ module _ {S O : Type 0} (source : SourceGhosts S) (out : SinkGhosts O) (dump : D
       ]) stopped.0
   row_completes (run bench name) status readable (unnamed, inr played) =
       played_completes _ dump name status write sink played.0
-  row_completes (check name) status readable row =
-      look_completes (check_look name) status (broken_as IsComplete tt (λ b. tt))
-      (not_faulty (check name) (source.holds was) readable) (not_long (check name) (source.holds was) readable) row.1
-  row_completes (audit name) status readable row =
-      look_completes (audit_look name) status (audit_as IsComplete tt audit_completes)
-      (not_faulty (audit name) (source.holds was) readable) (not_long (audit name) (source.holds was) readable) row.1
-  row_completes (show name) status readable row =
-      look_completes (show_look weights name) status (broken_as IsComplete tt (λ b. tt))
-      (not_faulty (show name) (source.holds was) readable) (not_long (show name) (source.holds was) readable) row.1
-  row_completes (find name steps) status readable row =
-      look_completes (find_look name steps) status (match_as IsComplete tt tt)
-      (not_faulty (find name steps) (source.holds was) readable)
-      (not_long (find name steps) (source.holds was) readable) row.1
-  row_completes (wave name from to) status readable row =
-      look_completes (wave_look name from to) status (λ found. tt)
-      (not_faulty (wave name from to) (source.holds was) readable)
-      (not_long (wave name from to) (source.holds was) readable) row.1
+  row_completes (ask name asked) status readable row =
+      look_completes name (look_at asked) status (not_faulty (ask name asked) (source.holds was) readable)
+      (not_long (ask name asked) (source.holds was) readable) row.1
   row_completes (gen seed agents items) status readable (same, (stays, inl lacks)) = subst IsComplete (sym lacks.0) tt
   row_completes (gen seed agents items) status readable (same, (stays, inr played)) =
       played_completes _ dump None status write sink played.0
@@ -175,6 +158,11 @@ module _ {S O : Type 0} (source : SourceGhosts S) (out : SinkGhosts O) (dump : D
   completes form status readable (inr row) = row_completes form status readable row
 
 -- ---- the statuses that a command may end in
+
+-- what is looked at is a dump
+pub is_dump : (kind : DumpKind) → IsDumpKind (file_of kind)
+is_dump in_pieces = tt
+is_dump kept_whole = tt
 
 not_dumped : (Failed : Type 0) (dump : DumpCall) (status : Status) → IsPlayed Failed dump None status
     → status ≢ DumpFault
@@ -190,13 +178,16 @@ stopped_not_dumped source name was now status stopped e =
 
 module _ {S O : Type 0} (source : SourceGhosts S) (out : SinkGhosts O) (dump : DumpCall) (was now : S)
     (before after : O) (told : PlanView → List (Option Told)) (weights : List (Sample → ℕ)) where
-  look_of : {F : Type 0} (look : Look F) (Of : Status → Type 0) (status : Status) → IsDumpKind look.kind
-      → ((found : F) → Of (look.status found)) → Of WriteFault → ((f : VcdFault) → Of (BadDump f)) → Of ReadFault
-      → Of TooLong → Of OutOfMemory → LookEnds source out was now before after look status → Of status
-  look_of look Of status kind found write bad read long memory (inl stopped) =
-      stopped_look source look.kind look.name was now Of kind bad read long memory status stopped.0
-  look_of look Of status kind found write bad read long memory (inr looked) =
-      told_as out before after Of (look.status looked.found) status (found looked.found) write looked.ends
+  look_may_end : (name : List ℕ) (row : Look) (status : Status)
+      → LookEnds source out was now before after weights name row status → IsOfLook row status
+  look_may_end name row status (inl stopped) =
+      inl (stopped_look source (file_of row.kind) name was now IsLookStop (is_dump row.kind) (λ f. tt) tt tt tt status
+      stopped.0)
+  look_may_end name row status (inr looked) =
+      elim looked.ends [
+        | inl same ↦ inr (looked.found, same)
+        | inr failed ↦ inl (subst IsLookStop (sym failed.0) tt)
+      ]
 
   -- each command ends in a status of its own
   pub may_end : (form : Form) (status : Status)
@@ -211,15 +202,6 @@ module _ {S O : Type 0} (source : SourceGhosts S) (out : SinkGhosts O) (dump : D
       stopped_run source bench was now status stopped.0
   may_end (run bench (Some name)) status (unnamed, inr played) =
       played_ends _ dump (Some name) status played.0
-  may_end (check name) status row =
-      look_of (check_look name) IsOfCheck status tt (broken_as IsOfCheck tt (λ b. tt)) tt (λ f. tt) tt tt tt row.1
-  may_end (audit name) status row =
-      look_of (audit_look name) IsOfAudit status tt (audit_as IsOfAudit tt audit_ends) tt (λ f. tt) tt tt tt row.1
-  may_end (show name) status row =
-      look_of (show_look weights name) IsOfCheck status tt (broken_as IsOfCheck tt (λ b. tt)) tt (λ f. tt) tt tt tt row.1
-  may_end (find name steps) status row =
-      look_of (find_look name steps) IsOfFind status tt (match_as IsOfFind tt tt) tt (λ f. tt) tt tt tt row.1
-  may_end (wave name from to) status row =
-      look_of (wave_look name from to) IsOfWave status tt (λ found. tt) tt (λ f. tt) tt tt tt row.1
+  may_end (ask name asked) status row = look_may_end name (look_at asked) status row.1
   may_end (gen seed agents items) status (same, (stays, inl lacks)) = subst IsOfGen (sym lacks.0) tt
   may_end (gen seed agents items) status (same, (stays, inr played)) = played_made _ dump status played.0

@@ -1,6 +1,7 @@
 -- What the statuses of a call say by themselves: how a command may end, out of what it found, what stopped it, or the run
 -- that it made.
 use Rattle.std.proofs.Common.{◌≡◌, ℕ, List, Option, Some, None, Result, Ok, Err, inl, inr, refl, subst, sym}
+use Rattle.fsb_audit.specs.declared.finding.FoulAt.{FoulAt}
 use Rattle.fsb_audit.specs.declared.finding.Finding.{Finding}
 use Rattle.fsb_audit.specs.declared.finding.Finding.TheVariants as findings
 use Rattle.fsb_io.specs.declared.sink.Sink.{Ghosts as SinkGhosts}
@@ -8,7 +9,9 @@ use Rattle.fsb_io.specs.declared.source.Source.{Ghosts as SourceGhosts}
 use Rattle.fsb_rules.specs.declared.broken.Broken.{Broken}
 use Rattle.vcd_grammar.specs.declared.fault.VcdFault.{VcdFault}
 use Rattle.fsb_top.specs.BenchEnds.{IsOfAudit, IsOfGen, IsOfRun}
-use Rattle.fsb_top.specs.CallEnds.{DumpCall, EndsTold, IsPlayed, audit_status, broken_status, match_status}
+use Rattle.fsb_top.specs.CallEnds.{DumpCall, EndsTold, IsPlayed}
+use Rattle.fsb_top.specs.Looks.{Answer, audit_status, broken_status, is_foul, is_missed, is_rejected, is_well, match_status}
+use Rattle.fsb_top.specs.Looks.{status_of}
 use Rattle.fsb_top.specs.FileRead.{FileKind, IsDumpKind, IsStopped, bench_file}
 use Rattle.fsb_top.specs.declared.status.Status.{Status}
 use Rattle.fsb_top.specs.declared.status.Status.TheVariants.{Done, Rejected, BadWords, BadBench, BadDump}
@@ -22,10 +25,18 @@ pub told_as : {O : Type 0} (out : SinkGhosts O) (before after : O) (Of : Status 
 told_as out before after Of told status is fails (inl same) = subst Of (sym same) is
 told_as out before after Of told status is fails (inr failed) = subst Of (sym failed.0) fails
 
+-- a property of each status that answers
+pub answer_as : (Of : Status → Type 0) → Of Done → ((b : Broken) → Of (Rejected b)) → ((f : FoulAt) → Of (Foul f))
+    → Of NotFound → (answer : Answer) → Of (status_of answer)
+answer_as Of done broken bad none is_well = done
+answer_as Of done broken bad none (is_rejected b) = broken b
+answer_as Of done broken bad none (is_foul f) = bad f
+answer_as Of done broken bad none is_missed = none
+
 pub broken_as : (Of : Status → Type 0) → Of Done → ((b : Broken) → Of (Rejected b)) → (found : Option Broken)
     → Of (broken_status found)
-broken_as Of done rejected None = done
-broken_as Of done rejected (Some broken) = rejected broken
+broken_as Of done bad None = done
+broken_as Of done bad (Some broken) = bad broken
 
 pub audit_as : (Of : Status → Type 0) → Of Done → ((f : Finding) → Of (audit_status (Err f)))
     → (found : Result ℕ Finding)
@@ -34,8 +45,8 @@ audit_as Of done bad (Ok chunks) = done
 audit_as Of done bad (Err finding) = bad finding
 
 pub match_as : (Of : Status → Type 0) → Of Done → Of NotFound → (found : Option (List ℕ)) → Of (match_status found)
-match_as Of done missed None = missed
-match_as Of done missed (Some clocks) = done
+match_as Of done none None = none
+match_as Of done none (Some clocks) = done
 
 pub audit_ends : (f : Finding) → IsOfAudit (audit_status (Err f))
 audit_ends (findings.Broken broken) = tt

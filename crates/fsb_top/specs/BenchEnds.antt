@@ -1,24 +1,15 @@
 -- What a call of `bench` leaves behind, by its status, and in which statuses each command may end.
-use Rattle.std.specs.Prelude.{◌≡◌, ◌≢◌, ◌<◌, ◌^◌, ◌⊎◌, ◌++◌, ℕ, List, Option, Some, None, length}
-use Rattle.fsb_audit.specs.Fouls.{finding_of}
-use Rattle.fsb_audit_dump.specs.Audited.{audited_as}
-use Rattle.fsb_audit_dump.specs.AuditText.{audit_text}
-use Rattle.fsb_command.specs.Form.{Form, run, check, audit, show, find, wave, gen}
+use Rattle.std.specs.Prelude.{◌≡◌, ◌≢◌, ◌<◌, ◌⊎◌, ◌++◌, ℕ, List, Option, Some, None, length}
+use Rattle.fsb_command.specs.Form.{Form, run, ask, gen}
 use Rattle.fsb_hazard.specs.Told.{Told}
 use Rattle.fsb_io.specs.Appends.{AppendsPart}
-use Rattle.fsb_look.specs.SearchText.{search_text}
 use Rattle.fsb_play.specs.RunOf.{IsRunOf}
 use Rattle.fsb_play.specs.Writing.{HasDump, HasDumpPart}
 use Rattle.fsb_script.specs.Drafts.{BenchText}
 use Rattle.fsb_script.specs.Plans.{PlanView}
-use Rattle.fsb_show.specs.ShownDump.{IsLongDump}
-use Rattle.fsb_signal.specs.declared.marks.Marks.{Marks}
-use Rattle.fsb_signal.specs.declared.sample.Sample.{Sample}
 use Rattle.fsb_timely.specs.Runs.{Run}
-use Rattle.fsb_trigger.specs.Match.{least_match}
-use Rattle.fsb_trigger.specs.TriggerSteps.{StepView}
-use Rattle.fsb_watch.specs.Watched.{HasManySamples}
-use Rattle.fsb_top.specs.FileRead.{HasReadAll, bench_file}
+use Rattle.fsb_top.specs.FileRead.{HasReadAll, IsTooLongFor, bench_file, file_of}
+use Rattle.fsb_top.specs.Looks.{Look, look_at, status_of}
 use Rattle.fsb_top.specs.declared.status.Status.{Status}
 use Rattle.fsb_top.specs.declared.status.Status.TheVariants.{Done, Rejected, BadWords, BadBench}
 use Rattle.fsb_top.specs.declared.status.Status.TheVariants.{BadDump, ReadFault, WriteFault}
@@ -78,10 +69,6 @@ IsOfGen WriteFault = Unit {0}
 IsOfGen OutOfMemory = Unit {0}
 IsOfGen _ = ⊥
 
--- the text of the search of a trace for these steps
-abbrev pub match_text : List StepView → List Sample → List ℕ
-match_text steps w = search_text (least_match steps w) (length w)
-
 -- the log's sink has the text behind what it held, or a first part of it where it failed
 abbrev pub IsWritten : Status → List ℕ → List ℕ → List ℕ → Type 0
 IsWritten Done text before held = held ≡ before ++ text
@@ -107,10 +94,6 @@ abbrev pub IsOfWave : Status → Type 0
 IsOfWave NotFound = ⊥
 IsOfWave status = IsOfFind status
 
--- the text of the audit of a trace, of a dump with these marks
-abbrev pub finding_text : Marks → List Sample → List ℕ
-finding_text marks w = audit_text (length w) (audited_as (finding_of marks w) w)
-
 -- an audit ends in one of these
 abbrev pub IsOfAudit : Status → Type 0
 IsOfAudit Done = Unit {0}
@@ -123,16 +106,25 @@ IsOfAudit OutOfMemory = Unit {0}
 IsOfAudit TooLong = Unit {0}
 IsOfAudit _ = ⊥
 
+-- a call that looks at a dump was stopped, or its sink failed
+abbrev pub IsLookStop : Status → Type 0
+IsLookStop (BadDump fault) = Unit {0}
+IsLookStop ReadFault = Unit {0}
+IsLookStop WriteFault = Unit {0}
+IsLookStop OutOfMemory = Unit {0}
+IsLookStop TooLong = Unit {0}
+IsLookStop _ = ⊥
+
+-- a call that looks at a dump ends in one of these, or in the answer to what it may find
+abbrev pub IsOfLook : Look → Status → Type 0
+IsOfLook look status = IsLookStop status ⊎ ((found : look.Found) × (status ≡ status_of (look.answer found)))
+
 -- how a call with words of this form may end
 abbrev pub MayEnd : Option Form → Status → Type 0
 MayEnd None status = (status ≡ BadWords) ⊎ (status ≡ OutOfMemory)
 MayEnd (Some (run bench None)) status = IsOfRun status × (status ≢ DumpFault)
 MayEnd (Some (run bench (Some dump))) status = IsOfRun status
-MayEnd (Some (check dump)) status = IsOfCheck status
-MayEnd (Some (audit dump)) status = IsOfAudit status
-MayEnd (Some (show dump)) status = IsOfCheck status
-MayEnd (Some (find dump steps)) status = IsOfFind status
-MayEnd (Some (wave dump from to)) status = IsOfWave status
+MayEnd (Some (ask dump asked)) status = IsOfLook (look_at asked) status
 MayEnd (Some (gen seed agents items)) status = IsOfGen status
 
 -- there is one run of the plan, where objects stand that tell this, of which the call leaves behind what is said
@@ -161,9 +153,5 @@ pub record HasRunFrom (IsPlan : PlanView → Type 0) (told : PlanView → List (
 -- 200,000 samples; another dump more than 2^40, or too many samples; nothing is read of a plan that is made
 abbrev pub IsTooLong : Form → List ℕ → Type 0
 IsTooLong (run bench dump) held = 4194304 < length held
-IsTooLong (check dump) held = (2 ^ 40 < length held) ⊎ HasManySamples held
-IsTooLong (audit dump) held = (2 ^ 40 < length held) ⊎ HasManySamples held
-IsTooLong (show dump) held = (268435456 < length held) ⊎ IsLongDump held
-IsTooLong (find dump steps) held = (2 ^ 40 < length held) ⊎ HasManySamples held
-IsTooLong (wave dump from to) held = (2 ^ 40 < length held) ⊎ HasManySamples held
+IsTooLong (ask dump asked) held = IsTooLongFor (file_of (look_at asked).kind) held
 IsTooLong (gen seed agents items) held = ⊥

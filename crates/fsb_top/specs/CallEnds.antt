@@ -1,150 +1,64 @@
 -- What a call of `bench` leaves behind: a row for each form of its words. It says what was read and
 -- under which name, what that means, what was printed and dumped, and what stayed as it was.
 use Rattle.std.specs.Prelude.{◌≡◌, ◌≢◌, ◌≤◌, ◌⊎◌, ℕ, IsTrue, List, Option, Some, None, length}
-use Rattle.std.specs.Prelude.{Result, Ok, Err}
-use Rattle.fsb_audit.specs.declared.finding.Finding.{Finding}
-use Rattle.fsb_audit.specs.declared.finding.Finding.TheVariants as findings
-use Rattle.fsb_audit.specs.Fouls.{finding_of}
-use Rattle.fsb_audit_dump.specs.Audited.{audited_as}
-use Rattle.fsb_command.specs.Form.{Form, run, check, audit, show, find, wave, gen}
+use Rattle.fsb_command.specs.Form.{Form, run, ask, gen}
 use Rattle.fsb_hazard.specs.Told.{Told}
 use Rattle.fsb_io.specs.Faults.{Rose}
 use Rattle.fsb_io.specs.declared.sink.Sink.{Ghosts as SinkGhosts}
 use Rattle.fsb_io.specs.declared.source.Source.{Ghosts as SourceGhosts}
 use Rattle.fsb_play.specs.Printed.{run_dump, run_log, run_summary}
-use Rattle.fsb_report.specs.VerdictText.{trace_text}
-use Rattle.fsb_rules.specs.Checker.{as_broken}
-use Rattle.fsb_rules.specs.declared.broken.Broken.{Broken}
 use Rattle.fsb_script.specs.Made.{made_plan}
 use Rattle.fsb_script.specs.Plans.{PlanView}
-use Rattle.fsb_show.specs.ShowText.{show_text}
 use Rattle.fsb_signal.specs.declared.marks.Marks.{Marks}
 use Rattle.fsb_signal.specs.declared.sample.Sample.{Sample}
 use Rattle.fsb_timely.specs.Runs.{Run}
 use Rattle.fsb_top.specs.BenchEnds.{HasRunFrom, HasRunOf, IsDumped, IsLogged, IsPlanOf, IsWritten}
-use Rattle.fsb_top.specs.BenchEnds.{finding_text, match_text}
 use Rattle.fsb_top.specs.declared.status.Status.{Status}
-use Rattle.fsb_top.specs.declared.status.Status.TheVariants.{BadWords, Done, DumpFault, Foul}
-use Rattle.fsb_top.specs.declared.status.Status.TheVariants.{NotFound, OutOfMemory, Rejected}
-use Rattle.fsb_top.specs.declared.status.Status.TheVariants.{WriteFault}
-use Rattle.fsb_trace.specs.Verdict.{verdict}
-use Rattle.fsb_trigger.specs.Match.{least_match}
-use Rattle.fsb_trigger.specs.TriggerSteps.{StepView}
-use Rattle.fsb_wave.specs.WaveText.{wave_text}
+use Rattle.fsb_top.specs.declared.status.Status.TheVariants.{BadWords, Done, DumpFault}
+use Rattle.fsb_top.specs.declared.status.Status.TheVariants.{OutOfMemory, WriteFault}
 use Rattle.vcd_grammar.specs.Reading.{Reads}
-use Rattle.fsb_top.specs.FileRead.{FileKind, bench_file, dump_in_pieces, whole_dump}
+use Rattle.fsb_top.specs.FileRead.{bench_file, file_of}
 use Rattle.fsb_top.specs.FileRead.{IsReadAll, IsStopped, sample_limit}
+use Rattle.fsb_top.specs.Looks.{Look, look_at, status_of}
 
 -- ---- commands that look at a dump
 
--- a command that looks at a dump: how it reads the dump, the name of the dump, what it finds in a
--- trace, the status of what it finds, and the text that it prints of the trace
-pub record Look (F : Type 0) : Type 0 where
-  pub kind : FileKind
-  pub name : List ℕ
-  pub found : Marks → List Sample → F
-  pub status : F → Status
-  pub text : Marks → List Sample → List ℕ
-
--- the status of a first broken rule, or of none
-abbrev pub broken_status : Option Broken → Status
-broken_status None = Done
-broken_status (Some broken) = Rejected broken
-
--- the status of what an audit finds first, or of how many chunks moved where it finds nothing
-abbrev pub audit_status : Result ℕ Finding → Status
-audit_status (Ok chunks) = Done
-audit_status (Err (findings.Broken broken)) = Rejected broken
-audit_status (Err (findings.Foul foul)) = Foul foul
-
--- the status of the clocks of a match, or of none
-abbrev pub match_status : Option (List ℕ) → Status
-match_status None = NotFound
-match_status (Some clocks) = Done
-
--- `check` finds the first broken rule, and prints the line of the verdict
-abbrev pub check_look : List ℕ → Look (Option Broken)
-check_look name = record {
-  kind = dump_in_pieces;
-  name = name;
-  found = λ marks w. as_broken (verdict marks w);
-  status = broken_status;
-  text = trace_text;
-}
-
--- `audit` finds the first broken rule or foul transfer, and prints its line
-abbrev pub audit_look : List ℕ → Look (Result ℕ Finding)
-audit_look name = record {
-  kind = dump_in_pieces;
-  name = name;
-  found = λ marks w. audited_as (finding_of marks w) w;
-  status = audit_status;
-  text = finding_text;
-}
-
--- `show` finds the first broken rule, and prints the table with the totals of the probes
-abbrev pub show_look : List (Sample → ℕ) → List ℕ → Look (Option Broken)
-show_look weights name = record {
-  kind = whole_dump;
-  name = name;
-  found = λ marks w. as_broken (verdict marks w);
-  status = broken_status;
-  text = show_text weights;
-}
-
--- `find` finds the least match of the steps, and prints its line
-abbrev pub find_look : List ℕ → List StepView → Look (Option (List ℕ))
-find_look name steps = record {
-  kind = dump_in_pieces;
-  name = name;
-  found = λ marks w. least_match steps w;
-  status = match_status;
-  text = λ marks w. match_text steps w;
-}
-
--- `wave` finds nothing, and prints the wave of the clocks from `from` to `to`
-abbrev pub wave_look : List ℕ → ℕ → ℕ → Look (Unit {0})
-wave_look name from to = record {
-  kind = dump_in_pieces;
-  name = name;
-  found = λ marks w. tt;
-  status = λ found. Done;
-  text = λ marks w. wave_text w from to;
-}
-
 -- the dump was read whole, this was found in its trace, and the sink has the text behind what it
 -- held, or a first part of the text where it failed
-pub record HasTold {F S O : Type 0} (look : Look F) (source : SourceGhosts S) (was now : S)
-    (out : SinkGhosts O) (before after : O) (found : F) (status : Status)
+pub record HasTold {S O : Type 0} (weights : List (Sample → ℕ)) (name : List ℕ) (look : Look)
+    (source : SourceGhosts S) (was now : S) (out : SinkGhosts O) (before after : O) (found : look.Found)
+    (status : Status)
     : Type 0 where
   pub marks : Marks
   pub trace : List Sample
-  pub read : IsReadAll source look.kind look.name was now
+  pub read : IsReadAll source (file_of look.kind) name was now
   pub reads : Reads (source.holds was) marks trace
-  pub few : length trace ≤ sample_limit look.kind
+  pub few : length trace ≤ sample_limit (file_of look.kind)
   pub is_found : found ≡ look.found marks trace
   pub printed : IsTrue out.tells
-      → IsWritten status (look.text marks trace) (out.holds before) (out.holds after)
+      → IsWritten status (look.text weights marks trace) (out.holds before) (out.holds after)
 
 -- the status is this one, or the sink of what is printed failed
 abbrev pub EndsTold : {O : Type 0} → SinkGhosts O → O → O → Status → Status → Type 0
 EndsTold out before after told status =
     (status ≡ told) ⊎ ((status ≡ WriteFault) × Rose (out.faults before) (out.faults after))
 
--- something was found, and the status is that of what was found, or the sink failed
-pub record HasLookedAt {F S O : Type 0} (look : Look F) (source : SourceGhosts S) (was now : S)
-    (out : SinkGhosts O) (before after : O) (status : Status)
+-- something was found, and the status is that of the answer to what was found, or the sink failed
+pub record HasLookedAt {S O : Type 0} (weights : List (Sample → ℕ)) (name : List ℕ) (look : Look)
+    (source : SourceGhosts S) (was now : S) (out : SinkGhosts O) (before after : O) (status : Status)
     : Type 0 where
-  pub found : F
-  pub ends : EndsTold out before after (look.status found) status
-  pub told : IsTrue source.tells → HasTold look source was now out before after found status
+  pub found : look.Found
+  pub ends : EndsTold out before after (status_of (look.answer found)) status
+  pub told : IsTrue source.tells
+      → HasTold weights name look source was now out before after found status
 
 -- a dump was looked at, or the call was stopped before, and then nothing was printed
 abbrev pub LookEnds
-    : {F S O : Type 0} → SourceGhosts S → SinkGhosts O → S → S → O → O → Look F → Status → Type 0
-LookEnds source out was now before after look status =
-    (IsStopped source look.kind look.name was now status × (after ≡ before))
-    ⊎ HasLookedAt look source was now out before after status
+    : {S O : Type 0} → SourceGhosts S → SinkGhosts O → S → S → O → O → List (Sample → ℕ) → List ℕ
+    → Look → Status → Type 0
+LookEnds source out was now before after weights name look status =
+    (IsStopped source (file_of look.kind) name was now status × (after ≡ before))
+    ⊎ HasLookedAt weights name look source was now out before after status
 
 -- ---- the whole call
 
@@ -200,8 +114,9 @@ module _ {S O : Type 0} (source : SourceGhosts S) (out : SinkGhosts O) (dump : D
   IsSilentCall = (after ≡ before) × dump.Stays
 
   -- a dump was looked at, and nothing is dumped
-  abbrev pub LookRow : {F : Type 0} → Look F → Status → Type 0
-  LookRow look status = dump.Stays × LookEnds source out was now before after look status
+  abbrev pub LookRow : List (Sample → ℕ) → List ℕ → Look → Status → Type 0
+  LookRow weights name look status =
+      dump.Stays × LookEnds source out was now before after weights name look status
 
   -- a bench file was run, or the call was stopped before; the log and the dump are of one run of
   -- the file's plan; without a name for a dump nothing is dumped
@@ -221,11 +136,7 @@ module _ {S O : Type 0} (source : SourceGhosts S) (out : SinkGhosts O) (dump : D
   abbrev pub RowEnds
       : (PlanView → List (Option Told)) → List (Sample → ℕ) → Form → Status → Type 0
   RowEnds told weights (run bench name) status = RunEnds told bench name status
-  RowEnds told weights (check name) status = LookRow (check_look name) status
-  RowEnds told weights (audit name) status = LookRow (audit_look name) status
-  RowEnds told weights (show name) status = LookRow (show_look weights name) status
-  RowEnds told weights (find name steps) status = LookRow (find_look name steps) status
-  RowEnds told weights (wave name from to) status = LookRow (wave_look name from to) status
+  RowEnds told weights (ask name asked) status = LookRow weights name (look_at asked) status
   RowEnds told weights (gen seed agents items) status =
       (now ≡ was) × GenEnds out dump before after told seed agents items status
 

@@ -23,6 +23,15 @@ pub data FileKind : Type 0 where
   -- a dump that is kept whole
   whole_dump : FileKind
 
+-- how a command reads the dump that it looks at
+pub data DumpKind : Type 0 where
+  in_pieces : DumpKind
+  kept_whole : DumpKind
+
+abbrev pub file_of : DumpKind → FileKind
+file_of in_pieces = dump_in_pieces
+file_of kept_whole = whole_dump
+
 -- the most bytes that it may have
 abbrev pub byte_limit : FileKind → ℕ
 byte_limit bench_file = 4194304
@@ -72,6 +81,10 @@ abbrev pub HasReadTooMuch : FileKind → List ℕ → List ℕ → List ℕ → 
 HasReadTooMuch kind name held left begun_as =
     HasReadPast (byte_limit kind) name held left begun_as
     ⊎ (HasReadAll kind name held left begun_as × HasTooManySamples kind held)
+
+-- it is longer than such a file may be, or has more samples
+abbrev pub IsTooLongFor : FileKind → List ℕ → Type 0
+IsTooLongFor kind held = (byte_limit kind < length held) ⊎ HasTooManySamples kind held
 
 -- it is no bench file, and this is its first fault
 abbrev pub IsFaultOfBench : FileKind → List ℕ → ScriptFault → Type 0

@@ -2,6 +2,7 @@ pub mod BenchEnds
 pub mod CallEnds
 pub mod Complete
 pub mod FileRead
+pub mod Looks
 pub mod StatusText
 pub mod StopStatus
 pub use Rattle.fsb_play.specs.Printed

@@ -1,6 +1,8 @@
 //! The audit of a dump, and the line of what it finds.
-ghost use Rattle.std.specs.Prelude.{◌≡◌, ◌≤◌, IsTrue, length};
-ghost use Rattle.fsb_top.specs.CallEnds.{LookEnds, audit_look, audit_status};
+ghost use Rattle.std.specs.Prelude.{◌≡◌, ◌≤◌, IsTrue, [], length};
+ghost use Rattle.fsb_command.specs.Form.{to_audit};
+ghost use Rattle.fsb_top.specs.CallEnds.{LookEnds};
+ghost use Rattle.fsb_top.specs.Looks.{audit_status, look_at};
 
 use crate::status::Status;
 use crate::told::tell_line;
@@ -18,7 +20,7 @@ pub fn audit_file<S: Source, O: Sink>(
 ) -> Status
     requires { length name.now ≤ 4096 }
     ensures ends { LookEnds S.Source O.Sink source.old source.new out.old out.new
-        (audit_look name.now) result }
+        [] name.now (look_at to_audit) result }
     ensures holds_stays { IsTrue S.tells → S.holds source.new ≡ S.holds source.old }
     ensures log_name { IsTrue O.tells → O.begun_as out.new ≡ O.begun_as out.old }
 {

@@ -1,6 +1,8 @@
 //! The check of a dump, and the line of its verdict.
-ghost use Rattle.std.specs.Prelude.{◌≡◌, ◌≤◌, IsTrue, length};
-ghost use Rattle.fsb_top.specs.CallEnds.{LookEnds, check_look};
+ghost use Rattle.std.specs.Prelude.{◌≡◌, ◌≤◌, IsTrue, [], length};
+ghost use Rattle.fsb_command.specs.Form.{to_check};
+ghost use Rattle.fsb_top.specs.CallEnds.{LookEnds};
+ghost use Rattle.fsb_top.specs.Looks.{look_at};
 
 use crate::status::Status;
 use crate::stop::status_of_broken;
@@ -19,7 +21,7 @@ pub fn check_file<S: Source, O: Sink>(
 ) -> Status
     requires { length name.now ≤ 4096 }
     ensures ends { LookEnds S.Source O.Sink source.old source.new out.old out.new
-        (check_look name.now) result }
+        [] name.now (look_at to_check) result }
     ensures holds_stays { IsTrue S.tells → S.holds source.new ≡ S.holds source.old }
     ensures log_name { IsTrue O.tells → O.begun_as out.new ≡ O.begun_as out.old }
 {

@@ -1,7 +1,9 @@
 //! The search of a dump, and the line of what it has given.
-ghost use Rattle.std.specs.Prelude.{◌≡◌, ◌≤◌, IsTrue, length, option_map};
+ghost use Rattle.std.specs.Prelude.{◌≡◌, ◌≤◌, IsTrue, [], length, option_map};
 ghost use Rattle.fsb_trigger.specs.Hunt.{steps_in};
-ghost use Rattle.fsb_top.specs.CallEnds.{LookEnds, find_look, match_status};
+ghost use Rattle.fsb_command.specs.Form.{to_find};
+ghost use Rattle.fsb_top.specs.CallEnds.{LookEnds};
+ghost use Rattle.fsb_top.specs.Looks.{look_at, match_status};
 
 use crate::status::Status;
 use crate::told::tell_line;
@@ -20,7 +22,7 @@ pub fn find_file<S: Source, O: Sink>(
 ) -> Status
     requires { length name.now ≤ 4096 }
     ensures ends { LookEnds S.Source O.Sink source.old source.new out.old out.new
-        (find_look name.now (steps_in trigger)) result }
+        [] name.now (look_at (to_find (steps_in trigger))) result }
     ensures holds_stays { IsTrue S.tells → S.holds source.new ≡ S.holds source.old }
     ensures log_name { IsTrue O.tells → O.begun_as out.new ≡ O.begun_as out.old }
 {

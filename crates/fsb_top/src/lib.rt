@@ -6,7 +6,7 @@
 //! from the relation, and fsb_headline for the sentence of the README.
 #![tactic(auto)]
 
-pub use fsb_command::{Command, Words, read_words};
+pub use fsb_command::{Command, Task, Words, read_words};
 pub use fsb_hazard::{
     Ask, Choice, Hazard, HazardLine, HazardLines, QuietHazard, ScriptHazard, SeedHazard, Turn,
     quiet_choice,

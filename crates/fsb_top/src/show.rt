@@ -2,7 +2,9 @@
 ghost use Rattle.std.specs.Prelude.{◌≡◌, ◌≤◌, IsTrue, length, map};
 ghost use Rattle.fsb_show.specs.ShowText.{told_text};
 ghost use Rattle.fsb_top.specs.BenchEnds.{IsWritten};
-ghost use Rattle.fsb_top.specs.CallEnds.{EndsTold, LookEnds, broken_status, show_look};
+ghost use Rattle.fsb_command.specs.Form.{to_show};
+ghost use Rattle.fsb_top.specs.CallEnds.{EndsTold, LookEnds};
+ghost use Rattle.fsb_top.specs.Looks.{broken_status, look_at};
 
 use crate::status::Status;
 use crate::stop::status_of_broken;
@@ -23,7 +25,7 @@ pub fn show_file<S: Source, O: Sink>(
 ) -> Status
     requires { length name.now ≤ 4096 }
     ensures ends { LookEnds S.Source O.Sink source.old source.new out.old out.new
-        (show_look (map (λ p. weight p) probes.old) name.now) result }
+        (map (λ p. weight p) probes.old) name.now (look_at to_show) result }
     ensures holds_stays { IsTrue S.tells → S.holds source.new ≡ S.holds source.old }
     ensures log_name { IsTrue O.tells → O.begun_as out.new ≡ O.begun_as out.old }
 {

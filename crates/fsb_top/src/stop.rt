@@ -1,6 +1,6 @@
 //! The status of what stopped a call, and of what was told of a dump.
 ghost use Rattle.std.specs.Prelude.{◌≡◌};
-ghost use Rattle.fsb_top.specs.CallEnds.{broken_status};
+ghost use Rattle.fsb_top.specs.Looks.{broken_status};
 
 use crate::read::Refusal;
 use crate::status::Status;

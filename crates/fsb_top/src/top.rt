@@ -1,11 +1,12 @@
 //! The top call.
-ghost use Rattle.std.specs.Prelude.{◌≡◌, IsTrue, Some, map};
-ghost use Rattle.fsb_command.specs.Command.{form_meant};
+ghost use Rattle.std.specs.Prelude.{◌≡◌, ◌≤◌, IsTrue, Some, length, map};
+ghost use Rattle.fsb_command.specs.Command.{form_meant, task_meant};
 ghost use Rattle.fsb_command.specs.Form.{Form, KeepsLimits, form_of};
 ghost use Rattle.fsb_hazard.specs.Told.{told_after};
 ghost use Rattle.fsb_io.specs.Faults.{Rose};
-ghost use Rattle.fsb_top.specs.CallEnds.{CallEnds, RowEnds, dump_call};
+ghost use Rattle.fsb_top.specs.CallEnds.{CallEnds, LookEnds, RowEnds, dump_call};
 ghost use Rattle.fsb_top.specs.Complete.{IsComplete, IsReadable};
+ghost use Rattle.fsb_top.specs.Looks.{look_at};
 
 use crate::audit::audit_file;
 use crate::check::check_file;
@@ -15,7 +16,7 @@ use crate::run::{run_file, run_made};
 use crate::show::show_file;
 use crate::status::Status;
 use crate::wave::wave_file;
-use fsb_command::{Command, Words, read_words};
+use fsb_command::{Command, Task, Words, read_words};
 use fsb_hazard::Hazard;
 use fsb_io::{Sink, Source};
 use fsb_probe::Probe;
@@ -96,16 +97,33 @@ pub fn carry_out<S: Source, O: Sink, D: Sink>(
             agents,
             items,
         } => run_made(alloc, seed, agents, items, out, dump, hazards),
-        Command::Check { dump: name } => check_file(alloc, name, source, out),
-        Command::Audit { dump: name } => audit_file(alloc, name, source, out),
-        Command::Show { dump: name } => {
+        Command::Look { dump: name, task } => look_file(alloc, name, task, source, out, probes),
+    }
+}
+
+// Does a task over the dump that the source holds under the name, and writes what is told of it to `out`.
+fn look_file<S: Source, O: Sink>(
+    alloc: Global,
+    name: &str,
+    task: Task,
+    source: &mut S,
+    out: &mut O,
+    probes: Vec<Box<dyn Probe>>,
+) -> Status
+    requires { length name.now ≤ 4096 }
+    ensures ends { LookEnds S.Source O.Sink source.old source.new out.old out.new
+        (map (λ p. weight p) probes.items) name.now (look_at (task_meant task)) result }
+    ensures holds_stays { IsTrue S.tells → S.holds source.new ≡ S.holds source.old }
+    ensures log_name { IsTrue O.tells → O.begun_as out.new ≡ O.begun_as out.old }
+{
+    match task {
+        Task::Check => check_file(alloc, name, source, out),
+        Task::Audit => audit_file(alloc, name, source, out),
+        Task::Show => {
             let mut probes = probes;
             show_file(alloc, name, source, out, &mut probes)
         }
-        Command::Find {
-            dump: name,
-            trigger,
-        } => find_file(alloc, name, trigger, source, out),
-        Command::Wave { dump: name, range } => wave_file(alloc, name, &range, source, out),
+        Task::Find(trigger) => find_file(alloc, name, trigger, source, out),
+        Task::Wave(range) => wave_file(alloc, name, &range, source, out),
     }
 }

@@ -1,10 +1,12 @@
 //! The wave of a range of clocks of a dump.
-ghost use Rattle.std.specs.Prelude.{◌≡◌, ◌≤◌, ℕ, IsTrue, List, length};
+ghost use Rattle.std.specs.Prelude.{◌≡◌, ◌≤◌, ℕ, IsTrue, List, [], length};
 ghost use Rattle.fsb_signal.specs.declared.sample.Sample.{Sample};
 ghost use Rattle.fsb_wave.specs.Wave.{Stands};
 ghost use Rattle.fsb_wave.specs.WaveText.{wave_text};
 ghost use Rattle.fsb_top.specs.BenchEnds.{IsWritten};
-ghost use Rattle.fsb_top.specs.CallEnds.{EndsTold, LookEnds, wave_look};
+ghost use Rattle.fsb_command.specs.Form.{to_wave};
+ghost use Rattle.fsb_top.specs.CallEnds.{EndsTold, LookEnds};
+ghost use Rattle.fsb_top.specs.Looks.{look_at};
 
 use crate::status::Status;
 use crate::told::told;
@@ -23,7 +25,7 @@ pub fn wave_file<S: Source, O: Sink>(
 ) -> Status
     requires { length name.now ≤ 4096 }
     ensures ends { LookEnds S.Source O.Sink source.old source.new out.old out.new
-        (wave_look name.now range.now.from range.now.to) result }
+        [] name.now (look_at (to_wave range.now.from range.now.to)) result }
     ensures holds_stays { IsTrue S.tells → S.holds source.new ≡ S.holds source.old }
     ensures log_name { IsTrue O.tells → O.begun_as out.new ≡ O.begun_as out.old }
 {

@@ -6,22 +6,23 @@ use Rattle.fsb_io.specs.declared.refusal.Memory.{Memory}
 use Rattle.std.proofs.lemmas.List.{append-nil, append_assoc}
 use Rattle.fsb_gather.specs.GatherView.{GatherView}
 use Rattle.fsb_gather.specs.HandsOn.{HandsOn}
-use Rattle.fsb_command.specs.Form.{Form, run, check, audit, show, find, wave, gen}
+use Rattle.fsb_command.specs.Form.{Form, run, ask, gen}
 use Rattle.fsb_hazard.specs.Told.{Told}
 use Rattle.fsb_io.specs.declared.sink.Sink.{Ghosts as SinkGhosts}
 use Rattle.fsb_io.specs.declared.source.Source.{Ghosts as SourceGhosts}
 use Rattle.fsb_top.specs.Printed.{run_dump, run_log, run_summary}
 use Rattle.fsb_script.specs.Made.{made_plan}
 use Rattle.fsb_signal.specs.declared.sample.Sample.{Sample}
-use Rattle.fsb_top.specs.CallEnds.{DumpCall, GenEnds, IsPlayed, Look, LookEnds, RowEnds, RunEnds, audit_look}
-use Rattle.fsb_top.specs.CallEnds.{check_look, find_look, show_look, wave_look}
+use Rattle.fsb_top.proofs.Statuses.{answer_as}
+use Rattle.fsb_top.specs.CallEnds.{DumpCall, GenEnds, IsPlayed, LookEnds, RowEnds, RunEnds}
+use Rattle.fsb_top.specs.Looks.{Answer, Look, look_at, status_of}
 use Rattle.fsb_top.specs.FileRead.{IsStopped, bench_file}
 use Rattle.fsb_top.specs.RunOf.{IsRunOf}
 use Rattle.fsb_top.specs.Writing.{HasDump, HasDumpPart, HasPart}
 use Rattle.fsb_script.specs.Plans.{PlanView}
 use Rattle.fsb_timely.specs.Runs.{Run}
 use Rattle.fsb_io.specs.Faults.{Rose}
-use Rattle.fsb_top.specs.BenchEnds.{HasRunFrom, HasRunOf, IsDumped, IsLogged, MayEnd}
+use Rattle.fsb_top.specs.BenchEnds.{HasRunFrom, HasRunOf, IsDumped, IsLogged, IsOfLook, MayEnd}
 use Rattle.fsb_top.specs.declared.status.Status.{Status}
 use Rattle.fsb_top.specs.declared.status.Status.TheVariants.{Done, Rejected, BadWords, BadBench, BadDump}
 use Rattle.fsb_top.specs.declared.status.Status.TheVariants.{ReadFault, WriteFault, DumpFault, OutOfMemory}
@@ -274,11 +275,12 @@ module _ {S O : Type 0} (source : SourceGhosts S) (out : SinkGhosts O) (up down 
         λ none. faulty_named name unnamed played lost.1 none,
       )
 
-  look_below : {F : Type 0} (look : Look F) → up.Stays × LookEnds source out was now before after look called
-      → down.Stays × LookEnds source out was now before after look status
-  look_below look row =
+  look_below : (weights : List (Sample → ℕ)) (name : List ℕ) (look : Look)
+      → up.Stays × LookEnds source out was now before after weights name look called
+      → down.Stays × LookEnds source out was now before after weights name look status
+  look_below weights name look row =
       let s = still row.0 in
-      (s.1, subst (λ (it : Status). LookEnds source out was now before after look it) (sym s.0) row.1)
+      (s.1, subst (λ (it : Status). LookEnds source out was now before after weights name look it) (sym s.0) row.1)
 
   made_below : (seed agents items : ℕ) → GenEnds out up before after told seed agents items called
       → GenEnds out down before after below seed agents items status
@@ -324,35 +326,31 @@ module _ {S O : Type 0} (source : SourceGhosts S) (out : SinkGhosts O) (up down 
       → RowEnds source out up was now before after told weights form called
       → RowEnds source out down was now before after below same form status
   row_below weights same (run bench name) e row = ran_below bench name row
-  row_below weights same (check name) e row = look_below (check_look name) row
-  row_below weights same (audit name) e row = look_below (audit_look name) row
-  row_below weights same (show name) e row =
-      subst (λ (w : List (Sample → ℕ)). RowEnds source out down was now before after below w (show name) status) e
-      (look_below (show_look weights name) row)
-  row_below weights same (find name steps) e row = look_below (find_look name steps) row
-  row_below weights same (wave name from to) e row = look_below (wave_look name from to) row
+  row_below weights same (ask name asked) e row =
+      subst (λ (w : List (Sample → ℕ)). RowEnds source out down was now before after below w (ask name asked) status) e
+      (look_below weights name (look_at asked) row)
   row_below weights same (gen seed agents items) e row = (row.0, made_below seed agents items row.1)
+
+-- no answer is that the words have no form
+no_answer : (answer : Answer) → status_of answer ≢ BadWords
+no_answer = answer_as (λ s. s ≢ BadWords) (λ e. cc) (λ b e. cc) (λ f e. cc) (λ e. cc)
+
+no_look : (look : Look) → IsOfLook look BadWords → ⊥
+no_look look (inl stop) = stop
+no_look look (inr found) = no_answer (look.answer found.0) (sym found.1)
 
 -- no command ends as words of no form do
 has_form : (form : Form) → MayEnd (Some form) BadWords → ⊥
 has_form (run bench None) ends = ends.0
 has_form (run bench (Some dump)) ends = ends
-has_form (check dump) ends = ends
-has_form (audit dump) ends = ends
-has_form (show dump) ends = ends
-has_form (find dump steps) ends = ends
-has_form (wave dump from to) ends = ends
+has_form (ask dump asked) ends = no_look (look_at asked) ends
 has_form (gen seed agents items) ends = ends
 
 -- a call that writes a dump may end with a fault of it
 may_fault : (form : Form) → is_some (name_written form) ≡ true → MayEnd (Some form) DumpFault
 may_fault (run bench None) e = let no : ⊥ = cc in absurd no
 may_fault (run bench (Some dump)) e = tt
-may_fault (check dump) e = let no : ⊥ = cc in absurd no
-may_fault (audit dump) e = let no : ⊥ = cc in absurd no
-may_fault (show dump) e = let no : ⊥ = cc in absurd no
-may_fault (find dump steps) e = let no : ⊥ = cc in absurd no
-may_fault (wave dump from to) e = let no : ⊥ = cc in absurd no
+may_fault (ask dump asked) e = let no : ⊥ = cc in absurd no
 may_fault (gen seed agents items) e = let no : ⊥ = cc in absurd no
 
 -- a call whose dump was stored, or refused, ends as one of its form may

@@ -1,6 +1,6 @@
 -- What the program hands to a call, and what is left of it once the end of the dump is handed on.
 use Rattle.std.specs.Prelude.{◌≡◌, ◌⊎◌, ◌++◌, ℕ, IsTrue, List, [], ◌∷◌, Option, Some, None, Result, Ok, Err, codes}
-use Rattle.fsb_command.specs.Form.{Form, run, check, audit, show, find, wave, gen}
+use Rattle.fsb_command.specs.Form.{Form, run, ask, gen}
 use Rattle.fsb_gather.specs.GatherView.{GatherView}
 use Rattle.fsb_hazard.specs.Told.{Told, by_lines}
 use Rattle.fsb_io.specs.Faults.{Rose}
@@ -59,21 +59,13 @@ dump_below sink was now = record {
 -- the name of the file that a command of this form reads, where it reads one
 abbrev pub name_read : Form → Option (List ℕ)
 name_read (run bench dump) = Some bench
-name_read (check dump) = Some dump
-name_read (audit dump) = Some dump
-name_read (show dump) = Some dump
-name_read (find dump steps) = Some dump
-name_read (wave dump from to) = Some dump
+name_read (ask dump asked) = Some dump
 name_read (gen seed agents items) = None
 
 -- the name of the dump that a command of this form writes, where it writes one
 abbrev pub name_written : Form → Option (List ℕ)
 name_written (run bench dump) = dump
-name_written (check dump) = None
-name_written (audit dump) = None
-name_written (show dump) = None
-name_written (find dump steps) = None
-name_written (wave dump from to) = None
+name_written (ask dump asked) = None
 name_written (gen seed agents items) = None
 
 -- the status of a call that came to its end, or lacked memory before it began

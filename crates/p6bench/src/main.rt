@@ -128,11 +128,7 @@ fn file_read<'a>(command: &Command<'a>) -> Option<&'a str>
 {
     match command {
         Command::Run { bench, .. } => Some(*bench),
-        Command::Check { dump } => Some(*dump),
-        Command::Audit { dump } => Some(*dump),
-        Command::Show { dump } => Some(*dump),
-        Command::Find { dump, .. } => Some(*dump),
-        Command::Wave { dump, .. } => Some(*dump),
+        Command::Look { dump, .. } => Some(*dump),
         Command::Gen { .. } => None,
     }
 }
@@ -143,11 +139,7 @@ fn names_dump(command: &Command<'_>) -> bool
 {
     match command {
         Command::Run { dump, .. } => dump.is_some(),
-        Command::Check { .. } => false,
-        Command::Audit { .. } => false,
-        Command::Show { .. } => false,
-        Command::Find { .. } => false,
-        Command::Wave { .. } => false,
+        Command::Look { .. } => false,
         Command::Gen { .. } => false,
     }
 }

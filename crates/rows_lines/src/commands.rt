@@ -1,6 +1,6 @@
 //! Command lines, and the command that each is.
 
-use fsb_command::{Command, Words, read_words};
+use fsb_command::{Command, Task, Words, read_words};
 use fsb_io::Memory;
 use std::alloc::{AllocError, Global};
 
@@ -8,13 +8,9 @@ use std::alloc::{AllocError, Global};
 fn told(alloc: Global, command: &Command<'_>) -> Result<String, AllocError> {
     let (verb, first, second, numbers) = match command {
         Command::Run { bench, dump } => ("run", *bench, dump.unwrap_or("-"), [0, 0, 0]),
-        Command::Check { dump } => ("check", *dump, "-", [0, 0, 0]),
-        Command::Audit { dump } => ("audit", *dump, "-", [0, 0, 0]),
-        Command::Show { dump } => ("show", *dump, "-", [0, 0, 0]),
-        Command::Find { dump, .. } => ("find", *dump, "-", [0, 0, 0]),
-        Command::Wave { dump, range } => {
-            let clocks = [u64::from(range.from), u64::from(range.to), 0];
-            ("wave", *dump, "-", clocks)
+        Command::Look { dump, task } => {
+            let (verb, clocks) = asked(task);
+            (verb, *dump, "-", clocks)
         }
         Command::Gen {
             seed,
@@ -29,6 +25,17 @@ fn told(alloc: Global, command: &Command<'_>) -> Result<String, AllocError> {
     };
     let [a, b, c] = numbers;
     format!(in alloc; "{verb} {first} {second} {a} {b} {c}")
+}
+
+/// What a task asks, but for its trigger: its verb and its clocks.
+fn asked(task: &Task) -> (&'static str, [u64; 3]) {
+    match task {
+        Task::Check => ("check", [0, 0, 0]),
+        Task::Audit => ("audit", [0, 0, 0]),
+        Task::Show => ("show", [0, 0, 0]),
+        Task::Find(_) => ("find", [0, 0, 0]),
+        Task::Wave(range) => ("wave", [u64::from(range.from), u64::from(range.to), 0]),
+    }
 }
 
 /// The words of a row, with a bar between them.

@@ -24,3 +24,6 @@ returns-clause-memory_read g c = λ call ends. (promised call ends).memory_read
 
 pub returns-clause-not_read : goal.returns-clause-not_read
 returns-clause-not_read g c = λ call ends. (promised call ends).not_read
+
+pub returns-clause-looked : goal.returns-clause-looked
+returns-clause-looked g c = λ call ends. (promised call ends).looked

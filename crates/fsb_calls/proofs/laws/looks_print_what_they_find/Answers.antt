@@ -15,3 +15,6 @@ returns-clause-searched_text g c = λ call ends. (promised call ends).searched_t
 
 pub returns-clause-drawn_text : goal.returns-clause-drawn_text
 returns-clause-drawn_text g c = λ call ends. (promised call ends).drawn_text
+
+pub returns-clause-looked_text : goal.returns-clause-looked_text
+returns-clause-looked_text g c = λ call ends. (promised call ends).looked_text

@@ -54,3 +54,6 @@ returns-clause-of_find g c = λ call ends. (promised call ends).of_find
 
 pub returns-clause-of_wave : goal.returns-clause-of_wave
 returns-clause-of_wave g c = λ call ends. (promised call ends).of_wave
+
+pub returns-clause-of_look : goal.returns-clause-of_look
+returns-clause-of_look g c = λ call ends. (promised call ends).of_look

@@ -1,6 +1,9 @@
-use Rattle.std.proofs.Common.{◌≡◌, ◌∙◌, ◌∷◌, ◌||◌, [], true, ap, ap₂, codes}
-use Rattle.clap.specs.Simple.{app_of_fields, new_rule, on_top, shape_of, with_rule, with_subcommand}
-use Rattle.fsb_command.specs.Usage.{needed, usage, verb}
+use Rattle.std.proofs.Common.{◌≡◌, ◌∙◌, ◌∷◌, ◌||◌, [], true, ap, ap₂, codes, map, subst}
+use Rattle.std.specs.Prelude.{IfOk}
+use Rattle.std.specs.List.{fold}
+use Rattle.clap.specs.Simple.{App, app_of, app_of_fields, new_rule, on_top, shape_of, with_rule, with_subcommand}
+use Rattle.fsb_command.specs.Form.{looks}
+use Rattle.fsb_command.specs.Usage.{look_verb, needed, usage, verb, verb_of}
 use Rattle.fsb_command.proofs.usage.usage.Goals as goal
 
 pub returns : goal.returns
@@ -19,16 +22,9 @@ returns c =
     ∙ ap (on_top (λ s. record s { disable_help_subcommand = true })) (ap app_of_fields c.disable_help_flag.ensures
     ∙ ap (on_top (λ s. record s { disable_help_flag = true })) (ap app_of_fields c.no_binary_name.ensures
     ∙ ap (on_top (λ s. record s { no_binary_name = true })) c.new-3.ensures.app))) in
-    let with_run = c.in_ok-subcommand.ensures.shape run_local ∙ ap₂ with_subcommand no_verbs run_is in
-    let with_check = c.in_ok-subcommand-2.ensures.shape c.in_ok-verb.ensures.local
-    ∙ ap₂ with_subcommand with_run c.in_ok-verb.ensures.shape in
-    let with_audit = c.in_ok-subcommand-3.ensures.shape c.in_ok-verb-2.ensures.local
-    ∙ ap₂ with_subcommand with_check c.in_ok-verb-2.ensures.shape in
-    let with_show = c.in_ok-subcommand-4.ensures.shape c.in_ok-verb-3.ensures.local
-    ∙ ap₂ with_subcommand with_audit c.in_ok-verb-3.ensures.shape in
-    let with_find = c.in_ok-subcommand-5.ensures.shape c.in_ok-verb-4.ensures.local
-    ∙ ap₂ with_subcommand with_show c.in_ok-verb-4.ensures.shape in
-    let with_wave = c.in_ok-subcommand-6.ensures.shape c.in_ok-verb-5.ensures.local
-    ∙ ap₂ with_subcommand with_find c.in_ok-verb-5.ensures.shape in
-    c.in_ok-usage.ensures.shape c.in_ok-verb-6.ensures.local
-    ∙ ap₂ with_subcommand with_wave c.in_ok-verb-6.ensures.shape
+    let with_run = c.in_ok-usage.ensures.shape run_local ∙ ap₂ with_subcommand no_verbs run_is in
+    let with_gen = c.in_ok-usage-2.ensures
+    ∙ ap (λ (a : App). with_subcommand a (verb_of (codes "gen")
+    (codes "seed" ∷ codes "agents" ∷ codes "items" ∷ []))) with_run in
+    subst (λ (a : App). IfOk c.with_looks.result (λ made. app_of made ≡ a))
+    (ap (λ (a : App). fold with_subcommand a (map look_verb looks)) with_gen) c.with_looks.ensures
