@@ -15,7 +15,6 @@ import concurrent.futures
 import os
 import random
 import re
-import subprocess
 import sys
 import tempfile
 
@@ -23,9 +22,9 @@ sys.dont_write_bytecode = True
 from common import TOP
 from random_dumps import Traffic
 from second_dump import LINES, NEEDED, WIDTHS, Marks, Sample, sample_of
-from second_judge import decode, verdict
+from second_judge import decode, is_odd, verdict
+from second_wires import DIGITS, answer_of
 
-DIGITS = {**dict.fromkeys("0lL", "0"), **dict.fromkeys("1hH", "1"), **dict.fromkeys("zZ", "z"), **dict.fromkeys("xXuUwW-", "x")}
 NO_SECTIONS = ("$dumpvars", "$dumpall", "$dumpon", "$dumpoff", "$end")
 MOST_PARTS = 16
 Step = collections.namedtuple("Step", "sample time row")            # one sample, with the time and the text line of its edge
@@ -60,12 +59,9 @@ class Course:
         while number < len(words):
             try:
                 number = self.word(words, number, rows)
-            except Fault as fault:
-                if not is_open or number + (fault.args[0] == "code") < len(words) - 1:
+            except (Fault, EOFError) as end:
+                if isinstance(end, Fault) and not (is_open and number + (end.args[0] == "code") >= len(words) - 1):
                     raise
-                self.is_early = True
-                return
-            except EOFError:
                 self.is_early = True
                 return
         self.end_block()
@@ -160,15 +156,14 @@ def history(agent, parity):
     """Eight clocks in which the agent begins a request, which is cancelled."""
     asked = {"BREQ%d" % agent}
     lines = [asked, asked, asked | {"ADS"}, set(), set(), {"AERR"}, set(), set()]
-    words = [{}, {}, {"req": 6, "a": 0}, {"req": 2, "a": agent << 17}, {}, {}, {}, {}]
+    words = [(0, 0), (0, 0), (6, 0), (2, agent << 17)] + [(0, 0)] * 4
     found = []
     for asserted, word in zip(lines, words):
-        values = {"code": 0, "req": 0, "a": 0, "d": 0, **word}
+        req, a = word
         if parity:
-            asserted = asserted | {line for line, odd in (
-                ("AP0", bin(values["a"] & (1 << 21) - 1).count("1") % 2), ("AP1", bin(values["a"] >> 21).count("1") % 2),
-                ("RP", (("ADS" in asserted) + bin(values["req"]).count("1")) % 2)) if odd}
-        found.append(Sample(set(), asserted, values["code"], values["req"], values["a"], values["d"]))
+            groups = {"AP0": [a & (1 << 21) - 1], "AP1": [a >> 21], "RP": [req, "ADS" in asserted]}
+            asserted = asserted | {line for line, group in groups.items() if is_odd(*group)}
+        found.append(Sample(set(), asserted, 0, req, a, 0))
     return found
 
 
@@ -186,10 +181,6 @@ def broken(marks, samples, is_whole):
 def numbers(line, less):
     found = [int(number) for number in re.findall(r"\d+", line)]
     return (found[0] - less, found[1]) if len(found) == 2 else None
-
-
-def is_quiet(sample):
-    return not sample.asserted and not sample.unknown
 
 
 class Parts:
@@ -223,7 +214,8 @@ class Parts:
                 continue
             if clock > self.last:
                 break
-            quiet = quiet + 1 if is_quiet(self.steps[clock].sample) else 0
+            sample = self.steps[clock].sample
+            quiet = 0 if sample.asserted or sample.unknown else quiet + 1
             if begin is None and self.may_begin(clock, quiet, is_first):
                 begin = clock
             place, clock = place + 1, clock + 1
@@ -277,6 +269,18 @@ def shown_time(time, scale):
 
 # Made-up dumps.
 
+class Run(Traffic):
+    """The first clocks of a run of traffic."""
+
+    def __init__(self, chance, forgotten):
+        self.most = chance.choice([5, 8, 12, 18, 30])
+        super().__init__(chance, forgotten)
+
+    def drive(self, c):
+        if c < self.most:
+            super().drive(c)
+
+
 class Maker:
     """A dump with its options."""
 
@@ -297,7 +301,8 @@ class Maker:
             start = len(self.header())
             self.text = self.text[:chance.randint(start, len(self.text))]
 
-    def idle(self):
+    @staticmethod
+    def idle():
         return {name: "1" * width for name, width in WIDTHS.items() if name != "BCLK"}
 
     def traffic(self):
@@ -308,8 +313,7 @@ class Maker:
                 digits[name] = "x" * WIDTHS[name]
             found.append(digits)
         for _ in range(chance.choice([1, 1, 2, 2, 3])):
-            run = Traffic(chance, chance.choice([None, None, None, *range(1, 19), 18, 18]))
-            run = run.samples[:chance.choice([6, 12, 25, 40])]
+            run = Run(chance, chance.choice([None, None, None, *range(1, 19), 18, 18])).samples
             found += [{**self.idle(), **{name: digits for name, digits in sample.items() if name not in ("AP_n", "RP_n")}} for sample in run]
             for _ in range(chance.choice([0, 1, 2, 3, 5, 9])):
                 pause = self.idle()
@@ -416,11 +420,6 @@ class Maker:
 
 # Comparing.
 
-def answer_of(program, words, path):
-    done = subprocess.run([program, "check", *words, path], capture_output=True, timeout=60, stdin=subprocess.DEVNULL)
-    return done.returncode, done.stdout.decode("latin-1"), done.stderr.decode("latin-1")
-
-
 def parts_told(out):
     return [(int(found[1]), int(found[2] or found[1]), (int(found[3]), int(found[4])) if found[3] else None) for found in re.finditer(
         r"^  part \d+: clocks? (\d+)(?: to (\d+))?, (?:accepted|rejected at clock (\d+), .*: rule (\d+))", out, re.M)]
@@ -444,7 +443,7 @@ def tried(program, folder, seed, number):
     path = os.path.join(folder, "%d.vcd" % number)
     with open(path, "w", newline="") as file:
         file.write(maker.text)
-    answer = answer_of(program, words, path)
+    answer = answer_of(program, ["check", *words], path)
     wrong = fault_of(wanted, answer, course)
     if not wrong:
         os.remove(path)

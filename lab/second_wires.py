@@ -237,7 +237,7 @@ class Header:
         if not bits:
             raise Refused("names no variable")
         high, low = int(bits[2]), int(bits[3] or bits[2])
-        base = [one for one in here if one.name == bits[1]]
+        base = [one for one in here if one.name == bits[1] and one.kind not in NO_WIRES] or [one for one in here if one.name == bits[1]]
         single = [one for one in base if bits[3] is None and one.range == (high, high)]
         if single:
             return single, None
@@ -275,6 +275,10 @@ def wires_of(variables, options):
 
 def target_bits(header, line, target, scope):
     found, part = header.named(target, scope)
+    if len({one.code for one in found}) > 1 and part is None and line_named(found[0].name) == line:
+        bits = joined(line, [(one.range[0], one.code) for one in found if one.range and one.width == 1 and one.range[0] == one.range[1]])
+        if bits is not None:
+            return bits
     if len({one.code for one in found}) > 1:
         raise Refused("names several")
     one = found[0]
