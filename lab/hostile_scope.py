@@ -42,7 +42,7 @@ from second_dump import Fault, read_samples
 from second_judge import verdict
 
 SECONDS = 60
-WORKERS = 4
+WORKERS = 2
 VERDICT = r"accepted: (\d+) of (\d+) clocks judged|rejected at clock (\d+), (.*) \(line (\d+) of the file\): rule (\d+), [a-z -]+"
 TRACE = """0 BREQ0 BREQ1
 1 BREQ0 BREQ1
@@ -109,6 +109,23 @@ def fault_of_form(answer, text=None):
         if not 1 <= int(found[5]) <= len(rows) or b"#" not in rows[int(found[5]) - 1]:
             return "the line of the file"
     return ""
+
+
+def fault_of_pick(answer):
+    """What is wrong with an answer to `pick` whatever the dump is: with status 0 a dump of at least one clock and nothing else, with status 3
+    a cause, and on standard output nothing or a header without a clock."""
+    status, out, error = answer
+    if status not in range(6):
+        return "the status"
+    is_header = out == b"" or out.startswith(b"$version p6scope 1 $end\n") and out.endswith(b"$enddefinitions $end\n")
+    if status == 0:
+        try:
+            return "" if out and not error and read_samples(out)[1] else "no clock, or both outputs"
+        except Fault as fault:
+            return "no dump: %r" % (fault.args,)
+    if not error:
+        return "no cause"
+    return "" if is_header or status in (4, 5) else "half a dump"
 
 
 # Prefixes.
@@ -272,15 +289,16 @@ def differs_edited(text, answer):
 
 # Command lines.
 
-GOOD = {"--scope": ["fsb"], "--line": ["ADS_n=fsb.ADS_n", "hit#=HIT_n", "D_n=!fsb.D_n", "A_n=fsb.A_n[35:3]", "REQ_n=REQ_n[4:0]"],
+GOOD = {"--max": ["1", "16", "07"], "--scope": ["fsb"], "--line": ["ADS_n=fsb.ADS_n", "hit#=HIT_n", "D_n=!fsb.D_n", "A_n=fsb.A_n[35:3]", "REQ_n=REQ_n[4:0]"],
         "--lines": ["good.lines", "empty.lines"], "--without": ["D_n", "BREQ1_n", "bnr#", "AP_n"], "--edge": ["rise", "fall"],
-        "--after": ["ADS_n", "A_n,REQ_n", "BCLK", "ads_l,D_n"], "--at": ["0", "3", "0007", "4294967295"], "--from": ["0", "5", "4294967295"],
+        "--after": ["ADS_n", "A_n,REQ_n", "BCLK", "ads_l,D_n"], "--at": ["0", "3", "0007", "4294967295", "55ns"], "--from": ["0", "5", "4294967295"],
         "--to": ["0", "9", "4294967295"], "--quiet": ["1", "2", "4294967295"]}
 BAD = {"--scope": ["", "x" * 4097], "--line": ["", "ADS", "ADS_n", "ADS_n=", "=x", "ADS_n=!", "ADQ_n=x", "ADS_n=" + "x" * 5000],
        "--lines": ["", "y" * 4097], "--without": ["", "ADS", "D_n,A_n", "d n"], "--edge": ["", "Rise", "both", "rise "],
-       "--after": ["", ",", "ADS_n,", "ADS", "ADS_n, A_n"], "--at": ["", "-1", "1.5", "4294967296", "x", "+1", "0x1", "1 ", "\u0661", "12345678901"],
+       "--after": ["", ",", "ADS_n,", "ADS", "ADS_n, A_n"], "--max": ["", "0", "17", "-1", "x"], "--at": ["", "-1", "ns", "5Ns", "5 ns", "5xs", "1.5", "4294967296", "x", "+1", "0x1", "1 ", "\u0661", "12345678901"],
        "--from": ["", "-2", "4294967296", "ten"], "--to": ["", "4294967296", "1e3"], "--quiet": ["", "0", "00", "4294967296", "-1"]}
 SINGLE = [name for name in GOOD if name not in ("--line", "--without", "--after")]
+FLAGS = ["--first", "--resume"]
 STRAY = ["--sope", "--", "-x", "-", "--first=1", "--help=1", "--lines", "-h1", "--from", "check", "small.vcd", "\udcff", "--at=", "--version1", "--\u00e9"]
 
 
@@ -290,9 +308,9 @@ class Words:
     def __init__(self, chance):
         self.chance, self.is_good, self.said = chance, True, []
         self.words = []
-        verb = chance.choice(["check"] * 12 + ["lines", "rule"])
+        verb = chance.choice(["check"] * 12 + ["pick"] * 5 + ["lines", "rule"])
         self.verb = verb
-        if verb == "check":
+        if verb in ("check", "pick"):
             self.options()
         if verb == "rule":
             self.rule()
@@ -303,7 +321,7 @@ class Words:
             self.stray()
 
     def are_whole(self):
-        return all("=" in word for word in self.words if word.startswith("--") and word != "--first")
+        return all("=" in word for word in self.words if word.startswith("--") and word not in FLAGS)
 
     def rule(self):
         word = self.chance.choice(["1", "13", "31", "20", "0", "32", "x", "", "01", "001", "-1", None])
@@ -314,24 +332,26 @@ class Words:
     def options(self):
         chance, seen = self.chance, {}
         for _ in range(chance.choice((0, 1, 1, 2, 2, 3, 4, 6))):
-            name = chance.choice(list(GOOD) + ["--first"])
-            if name == "--first":
-                self.is_good &= name not in seen
+            name = chance.choice(list(GOOD) + FLAGS)
+            if name in FLAGS:
+                self.is_good &= name not in seen and (name == "--first" or self.verb == "check")
                 seen[name] = True
                 self.words.append(name)
                 continue
             is_bad = chance.random() < 0.15
             value = chance.choice((BAD if is_bad else GOOD)[name])
-            self.is_good &= not is_bad and not (name in SINGLE and name in seen)
+            self.is_good &= not is_bad and not (name in SINGLE and name in seen) and (name != "--max" or self.verb == "check")
             seen[name] = value
             self.words += [name + "=" + value] if chance.random() < 0.5 else [name, value]
-        if self.is_good and (("--at" in seen and "--from" in seen) or self.ends_before(seen) or ("--quiet" in seen and "--from" not in seen)):
+        if self.is_good and (("--at" in seen and "--from" in seen) or self.ends_before(seen)):
             self.is_good = False
+        if self.is_good and ("--max" in seen and "--resume" not in seen or "--quiet" in seen and "--from" not in seen and self.verb == "pick"):
+            self.is_good = None          # the page does not say
 
     @staticmethod
     def ends_before(seen):
         begin = seen.get("--at", seen.get("--from"))
-        return begin is not None and "--to" in seen and int(seen["--to"]) < int(begin)
+        return begin is not None and "--to" in seen and not begin.endswith("s") and int(seen["--to"]) < int(begin)
 
     def stray(self):
         chance, kind = self.chance, self.chance.randrange(4)
@@ -378,6 +398,8 @@ def fault_of_words(line, answer):
             return "a long error"
     elif line.verb == "check" and line.words[:1] == ["check"] and b"Usage" not in out:
         return fault_of_form(answer)
+    elif line.verb == "pick" and line.words[:1] == ["pick"] and b"Usage" not in out:
+        return fault_of_pick(answer)
     return ""
 
 
@@ -386,7 +408,7 @@ def fault_of_words(line, answer):
 def files(program, folder):
     write(folder, "small.vcd", small_dump(folder))
     write(folder, "early.vcd", small_dump(folder, True))
-    for verb in ("check", "lines"):
+    for verb in ("check", "lines", "pick"):
         unread(program, folder, verb)
     lines_files(program, folder)
     outputs(program, folder)
@@ -451,7 +473,7 @@ def lines_files(program, folder):
     program.expect(["check", "--lines", "none.lines", "none.vcd"], "status 4, and one of the two names", answer, answer[0] == 4 and answer[2].startswith(b"none."))
 
 
-FORMS = [("check small.vcd", 0), ("check early.vcd", 1), ("lines small.vcd", 0), ("rule 13", 0), ("rule", 0), ("--help", 0), ("--version", 0),
+FORMS = [("check small.vcd", 0), ("pick small.vcd", 0), ("pick --to 55ns small.vcd", 0), ("check --resume early.vcd", 1), ("check early.vcd", 1), ("lines small.vcd", 0), ("rule 13", 0), ("rule", 0), ("--help", 0), ("--version", 0),
          ("check --help", 0), ("check none.vcd", 4), ("check --edge up small.vcd", 2), ("check small.vcd --scope x", 3)]
 
 
@@ -545,8 +567,8 @@ def calls(program, folder):
     write(folder, "small.vcd", small_dump(folder))
     write(folder, "early.vcd", small_dump(folder, True))
     write(folder, "good.lines", b"HITM_n=fsb.HITM_n\n")
-    forms = [["check", "small.vcd"], ["check", "early.vcd"], ["lines", "small.vcd"], ["check", "--lines", "good.lines", "small.vcd"], ["rule", "13"],
-             ["check", "none.vcd"], ["check", "--edge", "up", "small.vcd"], ["--help"]]
+    forms = [["check", "small.vcd"], ["check", "early.vcd"], ["lines", "small.vcd"], ["check", "--lines", "good.lines", "small.vcd"], ["rule", "13"], ["pick", "small.vcd"],
+             ["check", "--to", "55ns", "small.vcd"], ["check", "none.vcd"], ["check", "--edge", "up", "small.vcd"], ["--help"]]
     for words in forms:
         for path in [None] + [word for word in words if word.endswith((".vcd", ".lines"))]:
             for call, errors in ERRORS.items():
@@ -576,7 +598,9 @@ def is_failure_told(answer, whole, call, error, path):
         return status in (whole[0], 4) and not out and whole[2].startswith(err)
     if whole[0] == 2:
         return answer == whole
-    return status in (4, 5) and not out and err.count(b"\n") == 1 and (status == 5 or os.path.basename(path).encode() in err)
+    # a dump that is picked is written as it is read
+    is_part = whole[1].startswith(out) and whole[1][:8] == b"$version" or not out
+    return status in (4, 5) and is_part and err.count(b"\n") == 1 and (status == 5 or os.path.basename(path).encode() in err)
 
 
 # Memory. One refused allocation alone may change nothing: a sort goes on without its room.
@@ -591,7 +615,8 @@ def memory(program, folder):
     write(folder, "refuse.c", allocations.LIBRARY.encode())
     if shutil.which("cc"):
         subprocess.run(["cc", "-O1", "-shared", "-fPIC", "-o", library, source, "-ldl"], check=True)
-        for words in (["check", "small.vcd"], ["check", "early.vcd"], ["lines", "small.vcd"], ["check", "--lines", "good.lines", "--scope", "fsb", "small.vcd"],
+        for words in (["check", "small.vcd"], ["check", "early.vcd"], ["lines", "small.vcd"], ["pick", "small.vcd"], ["check", "--resume", "--to", "95ns", "early.vcd"],
+                      ["check", "--lines", "good.lines", "--scope", "fsb", "small.vcd"],
                       ["check", "--scope", "x", "small.vcd"], ["check", "--edge", "up", "small.vcd"], ["rule", "13"], ["rule"], ["check", "none.vcd"]):
             refuse_each(program, folder, library, words)
     spaces(program, folder)

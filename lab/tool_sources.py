@@ -255,17 +255,18 @@ def cpp(trace):
             "  %st.bclk = 0; t.eval(); f.dump(0);\n%s  f.close();\n}\n" % (first, "".join(rows)))
 
 
-def systemc(trace):
+def systemc(trace, edge="pos", start=5, scope="bus."):
+    """The lines change behind this edge of the clock, whose first rise is at the time `start`."""
     kinds = {n: "bool" if w == 1 else "sc_lv<%d>" % w for n, w in WIDTHS.items()}
     nets = "".join('  sc_signal<%s> %s{"%s"};\n' % (kinds[n], LOW.plain(n), LOW.plain(n)) for n in WIDTHS)
     set_of = lambda clock: " ".join("%s.write(%s);" % (LOW.plain(n), LOW.digits(n, clock[n]) if w == 1 else '"%s"' % LOW.digits(n, clock[n]))
                                     for n, w in WIDTHS.items())
     steps = "".join("      case %d: %s break;\n" % (number, set_of(clock)) for number, clock in enumerate(trace))
-    traced = "".join('  sc_trace(f, bus.%s, bus.%s.name());\n' % (LOW.plain(n), LOW.plain(n)) for n in WIDTHS)
+    traced = "".join('  sc_trace(f, bus.%s, "%s%s");\n' % (LOW.plain(n), scope, LOW.plain(n)) for n in WIDTHS)
     return ("#include <systemc.h>\nSC_MODULE(Bus) {\n  sc_in<bool> bclk;\n" + nets + "  int step = 0;\n  void drive() {\n    step++;\n    switch (step) {\n"
-            + steps + "    }\n  }\n  SC_CTOR(Bus) { SC_METHOD(drive); sensitive << bclk.pos(); dont_initialize(); %s }\n};\n" % set_of(trace[0])
-            + 'int sc_main(int, char **) {\n  sc_clock bclk("bclk", 10, SC_NS, 0.5, 5, SC_NS, true);\n  Bus bus("bus"); bus.bclk(bclk);\n'
-            + '  sc_trace_file *f = sc_create_vcd_trace_file("dump"); f->set_time_unit(1, SC_PS);\n  sc_trace(f, bclk, "bus.bclk");\n' + traced
+            + steps + "    }\n  }\n  SC_CTOR(Bus) { SC_METHOD(drive); sensitive << bclk.%s(); dont_initialize(); %s }\n};\n" % (edge, set_of(trace[0]))
+            + 'int sc_main(int, char **) {\n  sc_clock bclk("bclk", 10, SC_NS, 0.5, %d, SC_NS, true);\n  Bus bus("bus"); bus.bclk(bclk);\n' % start
+            + '  sc_trace_file *f = sc_create_vcd_trace_file("dump"); f->set_time_unit(1, SC_PS);\n  sc_trace(f, bclk, "%sbclk");\n' % scope + traced
             + "  sc_start(%d, SC_NS); sc_close_vcd_trace_file(f); return 0;\n}\n" % (10 * len(trace) - 1))
 
 
