@@ -16,9 +16,9 @@ struct Row {
 }
 
 // `.` is a clock without an asserted line, `bbAn.x` a request of agent 0 that is cancelled, `t` one with TRDY# alone, which breaks rule 15, and `p` one with BPRI#; `R` and
-// `r` are the two clocks of a reply, `W` and `w` those of a request without an ID of its winner's; at `h` the dump stops,
+// `r` are the two clocks of a reply with ID 17, `ccCm.x` is a request of agent 1 with that ID that is cancelled, `q` is a clock with RP# alone, `W` and `w` those of a request without an ID of its winner's; at `h` the dump stops,
 // and at `g` it goes on.
-static ROWS: [Row; 17] = [
+static ROWS: [Row; 20] = [
     // Without a hole or a broken rule there is one part.
     Row {
         events: "....",
@@ -138,6 +138,30 @@ static ROWS: [Row; 17] = [
             (11, 7, Some((14, 15)), End::Broken),
         ],
     },
+    // Where a request of the part has the reply's ID, it is a fault as any other.
+    Row {
+        events: "..h...ccCm.x..pppRr....",
+        to: None,
+        most: 1,
+        parts: &[
+            (0, 2, None, End::Hole),
+            (3, 19, Some((17, 18)), End::Broken),
+        ],
+    },
+    // A dump that stops before its first clock begins later.
+    Row {
+        events: "hg...pppRr...",
+        to: None,
+        most: 1,
+        parts: &[(0, 6, None, End::Reply), (9, 2, None, End::Dump)],
+    },
+    // Clocks with a line of parity alone are quiet.
+    Row {
+        events: "...hgqqq",
+        to: None,
+        most: 1,
+        parts: &[(0, 3, None, End::Hole), (4, 2, None, End::Dump)],
+    },
     // Another request that is begun wrongly in a later part is a fault.
     Row {
         events: "..h...pppWw....",
@@ -151,6 +175,7 @@ static ROWS: [Row; 17] = [
 fn told(letter: u8) -> Option<Told> {
     let bpri = Lines::BPRI;
     let begins = Lines(Lines::BREQ0.0 + Lines::ADS.0);
+    let begins_one = Lines(Lines::BREQ1.0 + Lines::ADS.0);
     let asks = Lines(Lines::BPRI.0 + Lines::ADS.0);
     match letter {
         b'.' => Some(Told::Sampled(idle_sample())),
@@ -158,6 +183,10 @@ fn told(letter: u8) -> Option<Told> {
         b'p' => Some(Told::Sampled(Sample::known(bpri, 0, 0, 0))),
         b'b' => Some(Told::Sampled(Sample::known(Lines::BREQ0, 0, 0, 0))),
         b'A' => Some(Told::Sampled(Sample::known(begins, 2, 0, 0))),
+        b'c' => Some(Told::Sampled(Sample::known(Lines::BREQ1, 0, 0, 0))),
+        b'C' => Some(Told::Sampled(Sample::known(begins_one, 2, 0, 0))),
+        b'm' => Some(Told::Sampled(Sample::known(Lines(0), 0, 17 * 8192, 0))),
+        b'q' => Some(Told::Sampled(Sample::known(Lines::RP, 0, 0, 0))),
         b'n' => Some(Told::Sampled(idle_sample())),
         b'x' => Some(Told::Sampled(Sample::known(Lines::AERR, 0, 0, 0))),
         b'R' => Some(Told::Sampled(Sample::known(asks, 0, 17 * 8192, 0))),
