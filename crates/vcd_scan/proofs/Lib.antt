@@ -2,6 +2,8 @@ mod Events
 mod KnownDigits
 mod Endings
 mod Quiet
+mod Erasing
+mod Told
 mod Reading
 mod Readers
 mod Steps

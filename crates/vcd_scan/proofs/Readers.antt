@@ -13,27 +13,35 @@ use Rattle.vcd_scan.specs.Told.{state_told, open_in}
 use Rattle.vcd_scan.specs.Standing.{tokens_after, known_after, open_after, told_after, rules_of, wiring_of, events_of, Took, Works, Keeps, Appends}
 use Rattle.vcd_scan.specs.Standing.{last_tokens_after, fault_behind, all_told_after}
 use Rattle.vcd_way.specs.Answers.{fault_at_end}
+use Rattle.vcd_way.proofs.Interface.{past-behind}
+use Rattle.vcd_scan.specs.Begun.{begun}
+use Rattle.vcd_scan.specs.Erased.{erased}
+use Rattle.vcd_scan.proofs.Erasing.{state-alike, happenings-alike, hides-alike, open-alike, end-alike}
 use Rattle.vcd_scan.proofs.Endings.{fault_of, lets_end}
 use Rattle.vcd_scan.proofs.Reading.{known-append, open-tokens, told-tokens, known-faulty, told-faulty, rest_tokens, whole_of, more_of, appends_more}
 
 -- the machine has taken more tokens
 pub took_more : (old new : ValueReader) (head fed xs : List ℕ) (ts : List Token) → Keeps old new
     → Took old (tokens_after head fed) → tokens_after head (fed ++ xs) ≡ tokens_after head fed ++ ts
-    → state_told new.machine ≡ state_after (wired (rules_of old)) (state_told old.machine) ts
+    → state_told new.machine ≡ erased (state_after (wired (rules_of old)) (state_told old.machine) ts)
     → open_in new.machine
     ≡ after_happenings (open_in old.machine) (happenings_in (wired (rules_of old)) (state_told old.machine) ts)
     → Took new (tokens_after head (fed ++ xs))
 took_more old new head fed xs ts keeps took more state opened =
     let m = rules_of old in
     let w = wiring_of old in
-    let known : state_told new.machine ≡ known_after m w (tokens_after head (fed ++ xs)) =
-    state ∙ ap (λ s. state_after (wired m) s ts) took.state
-    ∙ sym (known-append m w (tokens_after head fed) ts) ∙ ap (known_after m w) (sym more) in
+    let s = known_after m w (tokens_after head fed) in
+    let past = past-behind (wired m) (begun w) (tokens_after head fed) refl in
+    let known : state_told new.machine ≡ erased (known_after m w (tokens_after head (fed ++ xs))) =
+    state ∙ ap (λ s. erased (state_after (wired m) s ts)) took.state ∙ state-alike (wired m) s ts past
+    ∙ ap (λ (x : DumpState Wiring). erased x)
+    (sym (known-append m w (tokens_after head fed) ts) ∙ ap (known_after m w) (sym more)) in
     let block : open_in new.machine ≡ open_after m w (tokens_after head (fed ++ xs)) =
     opened ∙ (λ i. after_happenings (took.opened i) (happenings_in (wired m) (took.state i) ts))
+    ∙ ap (after_happenings (open_after m w (tokens_after head fed))) (happenings-alike (wired m) s ts past)
     ∙ sym (open-tokens m w (tokens_after head fed) ts) ∙ ap (open_after m w) (sym more) in
     record {
-      state = known ∙ (λ i. known_after (sym keeps.rules i) (sym keeps.wiring i) (tokens_after head (fed ++ xs)));
+      state = known ∙ (λ i. erased (known_after (sym keeps.rules i) (sym keeps.wiring i) (tokens_after head (fed ++ xs))));
       opened = block ∙ (λ i. open_after (sym keeps.rules i) (sym keeps.wiring i) (tokens_after head (fed ++ xs)));
     }
 
@@ -51,8 +59,11 @@ told_more old new head fed xs ts took more told =
       added = told_in m (open_in old.machine) (happenings_in (wired m) (state_told old.machine) ts);
       appended = told;
       complete = ap (told_after m w) more ∙ told-tokens m w (tokens_after head fed) ts
-          ∙ sym (λ i. told_after m w (tokens_after head fed)
-          ++ told_in m (took.opened i) (happenings_in (wired m) (took.state i) ts));
+          ∙ sym ((λ i. told_after m w (tokens_after head fed)
+          ++ told_in m (took.opened i) (happenings_in (wired m) (took.state i) ts))
+          ∙ ap (λ hs. told_after m w (tokens_after head fed) ++ told_in m (open_after m w (tokens_after head fed)) hs)
+          (happenings-alike (wired m) (known_after m w (tokens_after head fed)) ts
+          (past-behind (wired m) (begun w) (tokens_after head fed) refl)));
     }
 
 -- ---- a fault in the first bytes of a piece
@@ -119,21 +130,25 @@ told_on start now new head fed piece used len keeps first more =
 -- the last token
 pub took_last : (old new : ValueReader) (head fed : List ℕ) (ts : List Token) → Keeps old new
     → Took old (tokens_after head fed) → last_tokens_after head fed ≡ tokens_after head fed ++ ts
-    → state_told new.machine ≡ state_after (wired (rules_of old)) (state_told old.machine) ts
+    → state_told new.machine ≡ erased (state_after (wired (rules_of old)) (state_told old.machine) ts)
     → open_in new.machine
     ≡ after_happenings (open_in old.machine) (happenings_in (wired (rules_of old)) (state_told old.machine) ts)
     → Took new (last_tokens_after head fed)
 took_last old new head fed ts keeps took more state opened =
     let m = rules_of old in
     let w = wiring_of old in
-    let known : state_told new.machine ≡ known_after m w (last_tokens_after head fed) =
-    state ∙ ap (λ s. state_after (wired m) s ts) took.state
-    ∙ sym (known-append m w (tokens_after head fed) ts) ∙ ap (known_after m w) (sym more) in
+    let s = known_after m w (tokens_after head fed) in
+    let past = past-behind (wired m) (begun w) (tokens_after head fed) refl in
+    let known : state_told new.machine ≡ erased (known_after m w (last_tokens_after head fed)) =
+    state ∙ ap (λ s. erased (state_after (wired m) s ts)) took.state ∙ state-alike (wired m) s ts past
+    ∙ ap (λ (x : DumpState Wiring). erased x)
+    (sym (known-append m w (tokens_after head fed) ts) ∙ ap (known_after m w) (sym more)) in
     let block : open_in new.machine ≡ open_after m w (last_tokens_after head fed) =
     opened ∙ (λ i. after_happenings (took.opened i) (happenings_in (wired m) (took.state i) ts))
+    ∙ ap (after_happenings (open_after m w (tokens_after head fed))) (happenings-alike (wired m) s ts past)
     ∙ sym (open-tokens m w (tokens_after head fed) ts) ∙ ap (open_after m w) (sym more) in
     record {
-      state = known ∙ (λ i. known_after (sym keeps.rules i) (sym keeps.wiring i) (last_tokens_after head fed));
+      state = known ∙ (λ i. erased (known_after (sym keeps.rules i) (sym keeps.wiring i) (last_tokens_after head fed)));
       opened = block ∙ (λ i. open_after (sym keeps.rules i) (sym keeps.wiring i) (last_tokens_after head fed));
     }
 
@@ -150,8 +165,11 @@ told_last old new head fed ts took more told =
       added = told_in m (open_in old.machine) (happenings_in (wired m) (state_told old.machine) ts);
       appended = told;
       complete = ap (told_after m w) more ∙ told-tokens m w (tokens_after head fed) ts
-          ∙ sym (λ i. told_after m w (tokens_after head fed)
-          ++ told_in m (took.opened i) (happenings_in (wired m) (took.state i) ts));
+          ∙ sym ((λ i. told_after m w (tokens_after head fed)
+          ++ told_in m (took.opened i) (happenings_in (wired m) (took.state i) ts))
+          ∙ ap (λ hs. told_after m w (tokens_after head fed) ++ told_in m (open_after m w (tokens_after head fed)) hs)
+          (happenings-alike (wired m) (known_after m w (tokens_after head fed)) ts
+          (past-behind (wired m) (begun w) (tokens_after head fed) refl)));
     }
 
 -- what ends with the text
@@ -160,6 +178,8 @@ pub fault_last : (start now : ValueReader) (ts : List Token) (place : ℕ) → K
     ≡ fault_behind (rules_of start) (wiring_of start) ts place
 fault_last start now ts place keeps took =
     ap (λ (s : DumpState Wiring). fault_at_end s.fault s.spot place) took.state
+    ∙ end-alike (known_after (rules_of now) (wiring_of now) ts).fault (known_after (rules_of now) (wiring_of now) ts).spot
+    place
     ∙ (λ i. fault_behind (keeps.rules i) (keeps.wiring i) ts place)
 
 pub told_all : (start now : ValueReader) (before new : List DumpEvent) (old : List DumpEvent) (ts : List Token)
@@ -201,6 +221,8 @@ pub end-lets : (start now : ValueReader) (head fed : List ℕ) (answer : Bool) �
 end-lets start now head fed answer keeps took is =
     let ts = last_tokens_after head fed in
     sym (is ∙ (λ i. (rules_of now).ends_early && not (hides_stamp (took.state i).spot))
+    ∙ ap (λ b. (rules_of now).ends_early && not b)
+    (hides-alike (known_after (rules_of now) (wiring_of now) ts).spot)
     ∙ (λ i. (keeps.rules i).ends_early && not (hides_stamp (known_after (keeps.rules i) (keeps.wiring i) ts).spot)))
 
 -- where what stands open there begins
@@ -210,4 +232,5 @@ pub end-open : (start now : ValueReader) (head fed : List ℕ) (answer : Option 
 end-open start now head fed answer keeps took is =
     let ts = last_tokens_after head fed in
     sym (is ∙ ap (λ (s : DumpState Wiring). open_from s.spot) took.state
+    ∙ open-alike (known_after (rules_of now) (wiring_of now) ts).spot
     ∙ (λ i. open_from (known_after (keeps.rules i) (keeps.wiring i) ts).spot))

@@ -2,7 +2,11 @@
 use Rattle.std.proofs.Common.{◌≡◌, ℕ, ◌≤◌, Bool, true, false, ◌&&◌, ◌||◌, if◌then◌else◌, nat_lt, nat_le, List, [], ◌∷◌, length}
 use Rattle.std.proofs.Common.{Option, Some, None, option_map, suc, refl, sym, ap, ◌∙◌, arith}
 use Rattle.std.specs.List.{list_all, list_any}
-use Rattle.std.proofs.lemmas.Bool.{and_parts, leb-true, le-ltb}
+use Rattle.std.proofs.Common.{not, ◌==◌, is_some, inl, inr}
+use Rattle.std.proofs.lemmas.Bool.{and_parts, leb-true, le-ltb, true≢false}
+use Rattle.std.proofs.lemmas.Bool.Decides.{eqb_tells}
+use Rattle.vcd_grammar.specs.Words.{is_dollar, is_read_past, scalar_word, Mark, Section}
+use Rattle.vcd_way.specs.Wide.{wide_digit}
 use Rattle.vcd_grammar.specs.declared.fault.VcdCause.TheVariants as causes
 use Rattle.vcd_grammar.specs.Tokens.{Token, is_long}
 use Rattle.vcd_way.specs.declared.tap.Tap.{Tap}
@@ -12,6 +16,8 @@ use Rattle.vcd_way.specs.Lawful.{is_line, is_lawful_tap, is_part_within}
 use Rattle.fsb_signal.specs.DumpText.{width_of}
 use Rattle.vcd_way.specs.Steps.{Spot, AtValues, DumpState, step, step_at, breaks, given, if_short, vector_step, vector_digits}
 use Rattle.vcd_way.specs.Steps.{is_too_wide_for, is_unreadable, digits_by, one_more}
+use Rattle.vcd_way.specs.Steps.{InRemark, Step, section_at, moves_to, word_step, value_word_by}
+use Rattle.vcd_scan.specs.Erased.{opens_remark}
 use Rattle.vcd_way.proofs.Interface.{sound-step}
 use Rattle.vcd_scan.specs.Digits.{digit_by, all_digits}
 use Rattle.vcd_scan.specs.Wired.{Wiring, wired}
@@ -91,3 +97,62 @@ given_good s from (tap ∷ taps) ds = refl
 pub found_taps : {R : Type 0} (now : R → List Tap) (found : Option (List Tap)) (result : Option R) (taps : R)
     → option_map now result ≡ found → result ≡ Some taps → found ≡ Some (now taps)
 found_taps now found result taps h e = sym h ∙ ap (option_map now) e
+
+-- ---- a section that opens between values
+
+remark_first : (is_wide : Bool) (m : ValueRules) (bs : List ℕ) → m.digit ≡ digit_by is_wide
+    → is_read_past (36 ∷ bs) ≡ false → value_word_by m (36 ∷ bs) ≡ Section
+unfolding value_word_by wide_digit
+remark_first true m bs d h =
+    (λ i. if is_some (d i 36) then scalar_word 36 bs
+    else (if is_read_past (36 ∷ bs) then Mark else Section))
+    ∙ ap (λ b. if b then Mark else Section) h
+remark_first false m bs d h =
+    (λ i. if is_some (d i 36) then scalar_word 36 bs
+    else (if is_read_past (36 ∷ bs) then Mark else Section))
+    ∙ ap (λ b. if b then Mark else Section) h
+
+-- the two parts of a word that opens no section
+stays_parts : (d l p : Bool) → (d && not (l || p)) ≡ false → d ≡ true → (l || p) ≡ true
+stays_parts true true p h e = refl
+stays_parts true false true h e = refl
+stays_parts true false false h e = sym h
+stays_parts false l p h e = absurd (true≢false (sym e))
+
+pub stays_dollar : (word : List ℕ) (b : ℕ) (bs : List ℕ) → word ≡ b ∷ bs → opens_remark word ≡ false → b ≡ 36
+    → (is_long word || is_read_past word) ≡ true
+stays_dollar word b bs is stays first =
+    stays_parts (is_dollar word) (is_long word) (is_read_past word) stays
+    (ap is_dollar is ∙ ap (λ k. k == 36) first)
+
+word_short : {W : Type 0} (takes long : Bool) (x y : Step W) → long ≡ false
+    → (if not (takes && false) && long then x else y) ≡ y
+word_short true true x y h = absurd (true≢false h)
+word_short true false x y h = refl
+word_short false true x y h = absurd (true≢false h)
+word_short false false x y h = refl
+
+opens_parts : (d l p : Bool) → (d && not (l || p)) ≡ true → (d ≡ true) × ((l ≡ false) × (p ≡ false))
+opens_parts true true p h = absurd (true≢false (sym h))
+opens_parts true false true h = absurd (true≢false (sym h))
+opens_parts true false false h = (refl, (refl, refl))
+opens_parts false l p h = absurd (true≢false (sym h))
+
+remark_word : (is_wide : Bool) (m : ValueRules) (word : List ℕ) → m.digit ≡ digit_by is_wide
+    → is_dollar word ≡ true → is_read_past word ≡ false → value_word_by m word ≡ Section
+remark_word is_wide m [] d h e = absurd (true≢false (sym h))
+remark_word is_wide m (b ∷ bs) d h e =
+    elim (eqb_tells b 36) [
+      | inl here ↦ ap (λ k. value_word_by m (k ∷ bs)) here.1
+          ∙ remark_first is_wide m bs d (ap (λ k. is_read_past (k ∷ bs)) (sym here.1) ∙ e)
+      | inr other ↦ absurd (true≢false (sym h ∙ other.0))
+    ]
+
+-- what such a word does
+pub opens_step : (is_wide : Bool) (m : ValueRules) (s : DumpState Wiring) (t : Token) → m.digit ≡ digit_by is_wide
+    → opens_remark t.word ≡ true
+    → word_step (wired m) s t (value_word_by m t.word) ≡ moves_to s (InRemark (section_at t))
+opens_step is_wide m s t d h =
+    let parts = opens_parts (is_dollar t.word) (is_long t.word) (is_read_past t.word) h in
+    ap (word_step (wired m) s t) (remark_word is_wide m t.word d parts.0 parts.1.1)
+    ∙ word_short m.takes_any (is_long t.word) _ _ parts.1.0

@@ -1,5 +1,6 @@
 pub mod Wired
 pub mod Digits
+pub mod Erased
 pub mod Told
 pub mod Standing
 pub mod Begun

@@ -13,6 +13,7 @@ use Rattle.vcd_scan.specs.declared.stop.ScanStop.TheVariants as stops
 use Rattle.vcd_scan.specs.declared.reader.ValueReader.{ValueReader}
 use Rattle.vcd_scan.specs.Wired.{Wiring, wired, wires_told}
 use Rattle.vcd_scan.specs.Begun.{begun}
+use Rattle.vcd_scan.specs.Erased.{erased}
 use Rattle.vcd_scan.specs.Told.{rules_in, state_told, open_in, events_told}
 
 -- ---- what the bytes after a header tell
@@ -68,9 +69,9 @@ wiring_of r = wires_told r.machine.wires
 abbrev pub events_of : ValueReader → List DumpEvent
 events_of r = events_told r.machine.told.items
 
--- the machine has taken these tokens
+-- the machine has taken these tokens; of sections it keeps no more than `erased` does
 pub record Took (r : ValueReader) (ts : List Token) : Type 0 where
-  pub state : state_told r.machine ≡ known_after (rules_of r) (wiring_of r) ts
+  pub state : state_told r.machine ≡ erased (known_after (rules_of r) (wiring_of r) ts)
   pub opened : open_in r.machine ≡ open_after (rules_of r) (wiring_of r) ts
 
 -- the reader has read these bytes after a header

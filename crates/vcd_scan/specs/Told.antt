@@ -4,13 +4,12 @@ use Rattle.vcd_grammar.specs.Tokens.{Token}
 use Rattle.vcd_way.specs.Ways.{ValueRules, Way}
 use Rattle.vcd_way.specs.Steps.{Spot, AtValues, AtCode, AtOtherCode, InRemark, DumpState, Step}
 use Rattle.vcd_way.specs.Events.{DumpEvent}
-use Rattle.vcd_header.specs.Told.{section_told, sections_told}
-use Rattle.vcd_header.specs.declared.declared.Section.{Section}
 use Rattle.vcd_course.specs.Told.{event_told, rules_of, late_of, open_told}
 use Rattle.vcd_course.specs.Opening.{OpenPiece, after_happenings, told_in}
 use Rattle.vcd_course.specs.declared.event.CourseEvent.{CourseEvent}
 use Rattle.vcd_course.specs.declared.course.Course.{Course}
 use Rattle.vcd_scan.specs.Digits.{digit_by}
+use Rattle.vcd_scan.specs.Erased.{section_from, erased}
 use Rattle.vcd_scan.specs.Wired.{Wiring, wired, wires_told}
 use Rattle.vcd_scan.specs.declared.machine.Place.{Place}
 use Rattle.vcd_scan.specs.declared.machine.Place.TheVariants as places
@@ -36,22 +35,22 @@ abbrev pub rules_in : Machine → ValueRules
 rules_in m = values_by m.rules m.course
 
 -- where the next token stands
-abbrev pub spot_told : Place → List ℕ → Section → Spot
-spot_told places.Values digits section = AtValues
-spot_told (places.Code from) digits section = AtCode from digits
-spot_told (places.OtherCode from) digits section = AtOtherCode from
-spot_told places.Remark digits section = InRemark (section_told section)
+abbrev pub spot_told : Place → List ℕ → Spot
+spot_told places.Values digits = AtValues
+spot_told (places.Code from) digits = AtCode from digits
+spot_told (places.OtherCode from) digits = AtOtherCode from
+spot_told (places.Remark from holds_stamp) digits = InRemark (section_from from holds_stamp)
 
--- what is known
+-- what is known, without the sections that were read past and the words of the open one
 abbrev pub state_told : Machine → DumpState Wiring
 state_told m = record {
   fault = m.fault;
-  spot = spot_told m.spot m.digits.items m.section;
+  spot = spot_told m.spot m.digits.items;
   path = [];
   header = wires_told m.wires;
   time = m.time;
   is_off = m.is_off;
-  remarks = sections_told m.remarks.items;
+  remarks = [];
 }
 
 -- the block that stands open
@@ -73,6 +72,10 @@ token_at place word = record { place = place; word = word }
 -- what is known is what the step leaves
 abbrev pub Becomes : Machine → Machine → Step Wiring → Type 0
 Becomes old new y = state_told new ≡ y.state
+
+-- the same, without what is kept of no section
+abbrev pub Leaves : Machine → Machine → Step Wiring → Type 0
+Leaves old new y = state_told new ≡ erased y.state
 
 -- the block that stands open is what the step makes of the one before
 abbrev pub Opens : Machine → Machine → Step Wiring → Type 0

@@ -1,26 +1,26 @@
-ghost use Rattle.std.specs.Prelude.{◌≡◌, ℕ, ◌++◌, [], ◌∷◌, None, Some, IfOk, OnOk, ◌&&◌, not, if◌then◌else◌};
+ghost use Rattle.std.specs.Prelude.{◌≡◌, ℕ, ◌++◌, [], ◌∷◌, None, Some, IfOk, OnOk, ◌&&◌, ◌||◌, true, false, not, if◌then◌else◌};
 ghost use Rattle.vcd_grammar.specs.Digits.{time_in};
 ghost use Rattle.vcd_grammar.specs.Words.{stamp_word, scalar_word, is_read_past, Foreign, Mark, Section as opens_section};
 ghost use Rattle.vcd_way.specs.Steps.{breaks, moves_to, comes, stamp_step, scalar_step, word_step, vector_by, value_word_by, step, stops, resumes, mark_step, vector_step, other_step, if_short, remark_step, is_too_wide_for, AtCode};
 ghost use Rattle.vcd_way.specs.Ways.{ValueRules};
 ghost use Rattle.vcd_way.specs.Steps.{vector_digits, is_unreadable, hides_stamp, open_from};
 ghost use Rattle.vcd_scan.specs.Digits.{digit_by};
-ghost use Rattle.vcd_header.specs.Told.{section_told};
+ghost use Rattle.vcd_grammar.specs.Tokens.{is_long};
+ghost use Rattle.vcd_scan.specs.Erased.{section_from, opens_remark};
 ghost use Rattle.vcd_course.specs.Opening.{ended_in};
 ghost use Rattle.vcd_way.specs.Answers.{fault_at_end};
 ghost use Rattle.vcd_course.specs.Told.{event_list, event_told, open_told};
 ghost use Rattle.vcd_scan.specs.Wired.{taps_in, wires_told};
-ghost use Rattle.vcd_scan.specs.Told.{values_by, rules_in, state_told, open_in, events_told, way_in, token_at, Becomes, Opens, Tells};
+ghost use Rattle.vcd_scan.specs.Told.{values_by, rules_in, state_told, open_in, events_told, way_in, token_at, Becomes, Leaves, Opens, Tells};
 ghost use Rattle.vcd_scan.specs.Begun.{begun};
 
 use crate::digits::{are_digits, digit_of, read_digits};
 use crate::table::Wires;
-use crate::words::{hold_stamp, is_off_word, is_on_word, is_read_past, is_unreadable, time_in};
+use crate::words::{is_like_stamp, is_off_word, is_on_word, is_unreadable, opens_remark, time_in};
 use std::alloc::{AllocError, Global};
-use std::mem;
 use vcd_course::{Course, CourseEvent, Stamp};
 use vcd_grammar::{VcdCause, VcdFault};
-use vcd_header::{Section, copy_of, is_dollar, is_end, is_long};
+use vcd_header::{is_end, is_long};
 use vcd_way::Tap;
 
 /// What is let pass among the values of a dump.
@@ -45,8 +45,8 @@ pub(crate) enum Place {
     Code(u64),
     /// After a real number or a string at this place: its code is next.
     OtherCode(u64),
-    /// In a section.
-    Remark,
+    /// In a section that began at this place, and whether it holds what looks like a time stamp.
+    Remark(u64, bool),
 }
 
 /// What the tokens so far have said.
@@ -62,12 +62,8 @@ pub(crate) struct Machine {
     pub(crate) digits: Vec<u8>,
     /// The digits that they mean.
     pub(crate) meant: Vec<u8>,
-    /// The section that stands open, where one does.
-    pub(crate) section: Section,
     pub(crate) time: Option<u64>,
     pub(crate) is_off: bool,
-    /// The sections so far.
-    pub(crate) remarks: Vec<Section>,
     /// What was told and is not taken yet.
     pub(crate) told: Vec<CourseEvent>,
 }
@@ -91,10 +87,8 @@ impl Machine {
             spot: Place::Values,
             digits: Vec::new(alloc),
             meant: Vec::new(alloc),
-            section: Section::new(alloc),
             time: None,
             is_off: false,
-            remarks: Vec::new(alloc),
             told: Vec::new(alloc),
         }
     }
@@ -115,6 +109,7 @@ impl Machine {
     #[inline(always)]
     fn value(&mut self, place: u64, line: u64, word: &[u8]) -> Result<(), AllocError>
         requires values { self.old.spot ≡ Place.Values }
+        requires stays { opens_remark word.now ≡ false }
         ensures state { OnOk result (Becomes self.old self.new (word_step (way_in self.old)
             (state_told self.old) (token_at place word.now) (value_word_by (rules_in self.old)
             word.now))) }
@@ -148,6 +143,7 @@ impl Machine {
         rest: &[u8],
     ) -> Result<(), AllocError>
         requires values { self.old.spot ≡ Place.Values }
+        requires stays { opens_remark word.now ≡ false }
         requires word { word.now ≡ first ∷ rest.now }
         ensures state { OnOk result (Becomes self.old self.new (word_step (way_in self.old)
             (state_told self.old) (token_at place word.now) (value_word_by (rules_in self.old)
@@ -386,8 +382,9 @@ impl Machine {
         }
     }
 
-    /// A word that begins with `$`.
+    /// A word that begins with `$`, and opens no section.
     fn dollar(&mut self, place: u64, word: &[u8]) -> Result<(), AllocError>
+        requires { (is_long word.now || is_read_past word.now) ≡ true }
         ensures state { OnOk result (Becomes self.old self.new (word_step (way_in self.old)
             (state_told self.old) (token_at place word.now) (if is_read_past word.now then Mark
             else opens_section))) }
@@ -404,17 +401,7 @@ impl Machine {
             self.fail(place, VcdCause::Token);
             return Ok(());
         }
-        if is_read_past(word) {
-            return self.mark(word);
-        }
-        let keyword = copy_of(self.alloc, word)?;
-        self.section = Section {
-            place,
-            keyword,
-            words: Vec::new(self.alloc),
-        };
-        self.spot = Place::Remark;
-        Ok(())
+        self.mark(word)
     }
 
     /// A word after which changes stand, or the end of them.
@@ -566,32 +553,51 @@ impl Machine {
         self.spot = Place::Values;
     }
 
-    /// A token in a section.
-    fn remark(&mut self, place: u64, word: &[u8]) -> Result<(), AllocError>
-        requires inside { self.old.spot ≡ Place.Remark }
-        ensures state { OnOk result (Becomes self.old self.new (remark_step (state_told self.old)
-            (section_told self.old.section) (token_at place word.now))) }
-        ensures opened { OnOk result (Opens self.old self.new (remark_step (state_told self.old)
-            (section_told self.old.section) (token_at place word.now))) }
-        ensures told { OnOk result (Tells self.old self.new (remark_step (state_told self.old)
-            (section_told self.old.section) (token_at place word.now))) }
+    /// A token in a section that began at a place.
+    fn remark(&mut self, from: u64, holds_stamp: bool, place: u64, word: &[u8])
+        ensures state { Leaves self.old self.new (remark_step (state_told self.old)
+            (section_from from holds_stamp) (token_at place word.now)) }
+        ensures opened { Opens self.old self.new (remark_step (state_told self.old)
+            (section_from from holds_stamp) (token_at place word.now)) }
+        ensures told { Tells self.old self.new (remark_step (state_told self.old)
+            (section_from from holds_stamp) (token_at place word.now)) }
         ensures rules { rules_in self.new ≡ rules_in self.old }
         ensures wires { wires_told self.new.wires ≡ wires_told self.old.wires }
     {
-        if !is_end(word) {
-            return self.section.add(self.alloc, word);
+        let _place = place;
+        if is_end(word) {
+            self.spot = Place::Values;
+        } else {
+            self.spot = Place::Remark(from, holds_stamp || is_like_stamp(word));
         }
-        let fresh = Section::new(self.alloc);
-        let section = mem::replace(&mut self.section, fresh);
-        self.remarks.push(section)?;
-        self.spot = Place::Values;
-        Ok(())
+    }
+
+    /// A token between values: a section that it opens, or a value.
+    fn between(&mut self, place: u64, line: u64, word: &[u8]) -> Result<(), AllocError>
+        requires values { self.old.spot ≡ Place.Values }
+        ensures state { OnOk result (Leaves self.old self.new (word_step (way_in self.old)
+            (state_told self.old) (token_at place word.now) (value_word_by (rules_in self.old)
+            word.now))) }
+        ensures opened { OnOk result (Opens self.old self.new (word_step (way_in self.old)
+            (state_told self.old) (token_at place word.now) (value_word_by (rules_in self.old)
+            word.now))) }
+        ensures told { OnOk result (Tells self.old self.new (word_step (way_in self.old)
+            (state_told self.old) (token_at place word.now) (value_word_by (rules_in self.old)
+            word.now))) }
+        ensures rules { rules_in self.new ≡ rules_in self.old }
+        ensures wires { wires_told self.new.wires ≡ wires_told self.old.wires }
+    {
+        if opens_remark(word) {
+            self.spot = Place::Remark(place, false);
+            return Ok(());
+        }
+        self.value(place, line, word)
     }
 
     /// A token at a place, where there was no fault before it.
     pub(crate) fn take(&mut self, place: u64, line: u64, word: &[u8]) -> Result<(), AllocError>
         requires fault { self.old.fault ≡ None }
-        ensures state { OnOk result (Becomes self.old self.new (step (way_in self.old) (state_told
+        ensures state { OnOk result (Leaves self.old self.new (step (way_in self.old) (state_told
             self.old) (token_at place word.now))) }
         ensures opened { OnOk result (Opens self.old self.new (step (way_in self.old) (state_told
             self.old) (token_at place word.now))) }
@@ -601,13 +607,16 @@ impl Machine {
         ensures wires { wires_told self.new.wires ≡ wires_told self.old.wires }
     {
         match self.spot {
-            Place::Values => self.value(place, line, word),
+            Place::Values => self.between(place, line, word),
             Place::Code(from) => self.vector_code(from, place, word),
             Place::OtherCode(_) => {
                 self.other_code(place, word);
                 Ok(())
             }
-            Place::Remark => self.remark(place, word),
+            Place::Remark(from, holds_stamp) => {
+                self.remark(from, holds_stamp, place, word);
+                Ok(())
+            }
         }
     }
 }
@@ -639,7 +648,7 @@ impl Machine {
         }
         match self.spot {
             Place::Values => None,
-            Place::Code(_) | Place::OtherCode(_) | Place::Remark => Some(VcdFault {
+            Place::Code(_) | Place::OtherCode(_) | Place::Remark(_, _) => Some(VcdFault {
                 place,
                 cause: VcdCause::Cut,
             }),
@@ -659,7 +668,7 @@ impl Machine {
         ensures { result ≡ hides_stamp (state_told self.now).spot }
     {
         match self.spot {
-            Place::Remark => hold_stamp(self.section.words.as_slice()),
+            Place::Remark(_, holds_stamp) => holds_stamp,
             Place::Values | Place::Code(_) | Place::OtherCode(_) => false,
         }
     }
@@ -671,7 +680,7 @@ impl Machine {
         match self.spot {
             Place::Values => None,
             Place::Code(from) | Place::OtherCode(from) => Some(from),
-            Place::Remark => Some(self.section.place),
+            Place::Remark(from, _) => Some(from),
         }
     }
 }

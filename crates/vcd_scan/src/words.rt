@@ -1,13 +1,13 @@
 //! What a token says by itself.
 
 ghost use Rattle.std.specs.Prelude.{◌≡◌, codes};
-ghost use Rattle.std.specs.List.{list_all, list_any};
+ghost use Rattle.std.specs.List.{list_all};
 ghost use Rattle.vcd_grammar.specs.Digits.{is_digit, is_number, time_in};
 ghost use Rattle.vcd_grammar.specs.Words.{is_read_past, same};
 ghost use Rattle.vcd_way.specs.Steps.{is_like_stamp, is_unreadable};
-ghost use Rattle.vcd_header.specs.Told.{words_told};
+ghost use Rattle.vcd_scan.specs.Erased.{opens_remark};
 
-use vcd_header::{is_end, number_up_to};
+use vcd_header::{is_dollar, is_end, is_long, number_up_to};
 
 /// The time that a stamp tells behind its number sign.
 #[tactic(auto, unfolding(vcd_grammar::specs::Digits::time_in))]
@@ -23,11 +23,18 @@ pub(crate) fn time_in(digits: &[u8]) -> Option<u64>
 
 /// Whether changes stand behind the word.
 #[tactic(auto, unfolding(vcd_grammar::specs::Words::is_read_past))]
-pub(crate) fn is_read_past(word: &[u8]) -> bool
+fn is_read_past(word: &[u8]) -> bool
     ensures { result ≡ is_read_past word.now }
 {
     (b"$dumpvars".as_slice() == word || b"$dumpall".as_slice() == word)
         || ((b"$dumpon".as_slice() == word || b"$dumpoff".as_slice() == word) || is_end(word))
+}
+
+/// Whether a section opens with the word.
+pub(crate) fn opens_remark(word: &[u8]) -> bool
+    ensures { result ≡ opens_remark word.now }
+{
+    is_dollar(word) && !(is_long(word) || is_read_past(word))
 }
 
 /// Whether the dump stops for a time there.
@@ -51,22 +58,8 @@ pub(crate) fn is_unreadable(digits: &[u8]) -> bool
     digits.len() == 0 || 70_000 <= digits.len()
 }
 
-/// Whether one of the words is a time stamp elsewhere.
-pub(crate) fn hold_stamp(words: &[Vec<u8>]) -> bool
-    ensures { result ≡ list_any is_like_stamp (words_told words.now) }
-{
-    let mut rest = words;
-    while let Some((word, more)) = rest.split_first() {
-        if is_like_stamp(word) {
-            return true;
-        }
-        rest = more;
-    }
-    false
-}
-
 /// Whether the word is a time stamp elsewhere.
-fn is_like_stamp(word: &[u8]) -> bool
+pub(crate) fn is_like_stamp(word: &[u8]) -> bool
     ensures { result ≡ is_like_stamp word.now }
 {
     match word {

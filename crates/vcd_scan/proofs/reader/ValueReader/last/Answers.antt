@@ -10,6 +10,7 @@ use Rattle.vcd_scan.specs.Standing.{rules_of, events_of, tokens_after, last_toke
 use Rattle.vcd_scan.specs.declared.reader.ValueReader.{ValueReader}
 use Rattle.vcd_scan.proofs.Events.{on_ok_both}
 use Rattle.vcd_scan.proofs.Reading.{last_tokens}
+use Rattle.vcd_scan.proofs.Told.{told-erased}
 use Rattle.vcd_scan.proofs.Readers.{took_last, told_last}
 use Rattle.vcd_scan.proofs.reader.ValueReader.last.Goals as goal
 
@@ -20,7 +21,7 @@ returns-in-None-clause-took c = λ head fed w.
     let keeps : Keeps old new = record { rules = refl; wiring = refl } in
     took_last old new head fed [] keeps w.reads.took
     (last_tokens head fed [] (c.finish.ensures.tokens (head ++ fed) w.reads.cutter
-    ∙ ap (λ x. tokens_so_far (head ++ fed) ++ tokens_in c.finish.new.self x []) c.in-None.is)) refl refl
+    ∙ ap (λ x. tokens_so_far (head ++ fed) ++ tokens_in c.finish.new.self x []) c.in-None.is)) (sym (told-erased old.machine)) refl
 
 pub returns-in-None-clause-told : goal.returns-in-None-clause-told
 returns-in-None-clause-told c = λ head fed w.

@@ -9,6 +9,7 @@ use Rattle.vcd_scan.specs.Told.{state_told, open_in}
 use Rattle.vcd_scan.specs.Standing.{rules_of, events_of, tokens_after, Keeps}
 use Rattle.vcd_scan.specs.declared.reader.ValueReader.{ValueReader}
 use Rattle.vcd_scan.proofs.Reading.{more_tokens}
+use Rattle.vcd_scan.proofs.Told.{told-erased}
 use Rattle.vcd_scan.proofs.Readers.{took_more, told_more}
 use Rattle.vcd_scan.proofs.reader.ValueReader.step.Goals as goal
 
@@ -71,7 +72,7 @@ returns-in-None-clause-reads c = λ head fed w.
     ∙ ap (λ x. tokens_so_far (head ++ fed) ++ tokens_in k x bytes) c.in-None.is) in
     record {
       cutter = subst (λ x. Stands k x) (append_assoc head fed xs) (c.next-cut.ensures.stands (head ++ fed) w.reads.cutter);
-      took = took_more old new head fed xs [] keeps w.reads.took more refl refl;
+      took = took_more old new head fed xs [] keeps w.reads.took more (sym (told-erased old.machine)) refl;
     }
 
 pub returns-in-None-clause-told : goal.returns-in-None-clause-told
