@@ -102,7 +102,7 @@ nothing could be judged: at no clock has every control line that is there a leve
 ";
 
 const LATE: &str = "\
-nothing could be judged: up to the last clock of --to none has a level on every control line that is there
+nothing could be judged: up to --to there is no clock, or at none has every control line that is there a level
 ";
 
 /// Whether the order came to the verdict, over the wires of tb.dut.

@@ -60,7 +60,7 @@ fn lines_tells_why_a_check_would_refuse(rt: HostRuntime) {
 }
 
 const REFUSED: &str = "\
-x.vcd: 2 variables, no $timescale
+x.vcd: 2 variables, no $timescale of 1, 10 or 100 s to fs
   perhaps: --line BCLK=clk
   perhaps: --line ADS_n=!ads
 p6scope check x.vcd: refused, since no variable is named like a line of the bus

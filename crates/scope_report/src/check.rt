@@ -187,7 +187,10 @@ fn unjudged_cause(found: &PartsFound) -> &'static str {
     }
     match found.plan.first.begin {
         Begin::Known => KNOWN_LATE,
-        Begin::At(bound) => no_clock(bound, found.clocks),
+        Begin::At(bound) => match found.plan.first.to {
+            None => no_clock(bound, found.clocks),
+            Some(_) => NONE_BETWEEN,
+        },
         Begin::Quiet(_, _) => NEVER_QUIET,
     }
 }
@@ -215,13 +218,17 @@ const NO_EDGE: &str = "\
 const NEVER_KNOWN: &str = ": at no clock has every control line that is there a level\n";
 
 const KNOWN_LATE: &str =
-    ": up to the last clock of --to none has a level on every control line that is there\n";
+    ": up to --to there is no clock, or at none has every control line that is there a level\n";
 
 const LEFT_OUT: &str =
     "  A line that nobody drives is left out by --without LINE, unless it is a needed one.
 ";
 
 const NO_CLOCK: &str = ": the dump has no such clock\n";
+
+const NONE_BETWEEN: &str = "\
+: from --at on up to --to there is no clock, or only a deferred reply that may answer a request of before
+";
 
 const FIRST_REPLY: &str = "\
 : a deferred reply there may answer a request of before, and no part begins behind it

@@ -57,7 +57,7 @@ fn put_end(
 
 fn put_step(text: &mut Vec<u8>, scale: Option<Scale>) -> Result<(), AllocError> {
     match scale {
-        None => put(text, ", no $timescale\n"),
+        None => put(text, ", no $timescale of 1, 10 or 100 s to fs\n"),
         Some(scale) => {
             put(text, ", time in steps of ")?;
             put_time(text, 1, Some(scale))?;

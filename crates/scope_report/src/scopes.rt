@@ -168,11 +168,15 @@ impl<'a> Heading<'a> {
         settled: &[u8],
         scope: usize,
     ) -> Result<(), AllocError> {
+        let mut last = None;
         for name in &self.unfit {
+            // of a word in single bits the first one stands for all
+            let is_told = name.is_split && last == Some(name.line);
+            last = Some(name.line);
             self.put_unfit_one(
                 text,
                 *name,
-                name.scope == scope && !is_listed(settled, name.line),
+                name.scope == scope && !is_listed(settled, name.line) && !is_told,
             )?;
         }
         Ok(())

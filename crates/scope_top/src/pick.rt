@@ -165,7 +165,7 @@ fn copied_text(
         return unread_text(
             alloc,
             name,
-            "no clock of the part is there, so none was written",
+            "no clock of the part is there, so none was written: p6scope check tells why",
         );
     }
     match early_end {
