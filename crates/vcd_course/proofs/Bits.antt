@@ -73,8 +73,12 @@ pub block_fits : (test : ℕ → Bool) (row : List ℕ) (at value next : ℕ) �
 block_fits test row at value next long room so_far more =
     let n : length (take (at + 16) row) ≡ at + 16 = length-take-le (at + 16) row (omega (arith, long, room)) in
     let small = subst (λ k. bits_from test 0 (take (at + 16) row) < 2 ^ k) n (bits_lt test (take (at + 16) row)) in
-    omega (arith, block_read test row at value next long room so_far more, small,
-      pow_mono {i = at + 16} {j = 64} room)
+    omega (
+      arith,
+      block_read test row at value next long room so_far more,
+      small,
+      pow_mono {i = at + 16} {j = 64} room,
+    )
 
 -- ---- sixteen lanes from the last to the first
 

@@ -6,7 +6,7 @@ ghost use Rattle.vcd_way.specs.Steps.{is_too_wide_for};
 ghost use Rattle.vcd_way.specs.Events.{set_tap, set_taps, unknown_in};
 ghost use Rattle.vcd_course.specs.Told.{rows_told};
 
-use crate::lines::{Block, Rows};
+use crate::lines::{Block, LISTED, Rows};
 use crate::rows::width_at;
 use vcd_way::{Part, Tap};
 
@@ -20,7 +20,8 @@ impl Block {
         Block {
             before: rows,
             inside: rows,
-            marks: [false; 22],
+            changed: [0; 32],
+            count: 0,
         }
     }
 
@@ -34,7 +35,12 @@ impl Block {
         ensures before { self.new.before ≡ self.old.before }
     {
         self.inside.set_tap(tap, digits);
-        self.marks[tap.line as usize] = true;
+        if self.count < LISTED {
+            self.changed[self.count] = tap.line;
+            self.count += 1;
+        } else {
+            self.count = LISTED + 1;
+        }
     }
 
     /// Some taps get a value.
@@ -75,11 +81,8 @@ impl Block {
         ensures inside { self.new.inside ≡ self.old.inside }
         ensures before { rows_told self.new.before ≡ rows_told self.old.inside }
     {
-        for line in 0..22 {
-            if self.marks[line] {
-                self.before.copy_line(line, &self.inside);
-                self.marks[line] = false;
-            }
-        }
+        let lines = self.changed;
+        self.before.follow(&self.inside, &lines, self.count);
+        self.count = 0;
     }
 }

@@ -6,11 +6,11 @@ ghost use Rattle.vcd_way.specs.Lawful.{is_lawful_tap};
 ghost use Rattle.vcd_way.specs.Events.{set_tap, sampled, settled, settled_digits, digits_at};
 ghost use Rattle.vcd_way.specs.declared.tap.Part.TheVariants as parts;
 ghost use Rattle.vcd_course.specs.Told.{rows_told};
-ghost use Rattle.vcd_course.specs.Lines.{row_at};
+ghost use Rattle.vcd_course.specs.Lines.{row_at, is_listed, SameUnlessListed};
 
 use crate::digits::tap_digit;
 use crate::level::{level_of_digit, level_of_row};
-use crate::lines::Rows;
+use crate::lines::{LISTED, Rows};
 use crate::sample::sample_at;
 use crate::settle::settle_row;
 use crate::tapped::tapped;
@@ -127,6 +127,33 @@ impl Rows {
     {
         self.rows[line] = from.rows[line];
         self.levels[line] = from.levels[line];
+    }
+
+    /// Gets all digits that the lines have there, where so many lines are listed, and others are the
+    /// same in both. More than there is room for may be any.
+    pub(crate) fn follow(&mut self, from: &Rows, lines: &[u8; 32], count: usize)
+        requires { SameUnlessListed count lines.now self.old.rows from.now.rows }
+        ensures { (line : ℕ) → row_at self.new.rows line ≡ row_at from.now.rows line }
+    {
+        if LISTED < count {
+            *self = *from;
+            return;
+        }
+        self.copy_lines(from, &lines[..count]);
+    }
+
+    /// Copies these lines; some may be listed twice.
+    pub(crate) fn copy_lines(&mut self, from: &Rows, lines: &[u8])
+        ensures copied { (line : ℕ) → is_listed lines.now line ≡ true →
+            row_at self.new.rows line ≡ row_at from.now.rows line }
+        ensures kept { (line : ℕ) → row_at self.old.rows line ≡ row_at from.now.rows line →
+            row_at self.new.rows line ≡ row_at from.now.rows line }
+    {
+        for line in lines {
+            if *line < 22 {
+                self.copy_line(*line as usize, from);
+            }
+        }
     }
 
     /// The digits at the first edge, between these and those after them.
