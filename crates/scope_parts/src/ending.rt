@@ -86,21 +86,14 @@ fn ends_at_reply(found: &Judged, event: &CourseEvent) -> bool
 {
     match event.told {
         Told::Sampled(_) => {
-            found.is_later
-                && found.answers_before
-                && breaks_18_last(found.clocks, &found.verdict)
+            found.is_later && found.answers_before && breaks_18_last(found.clocks, &found.verdict)
         }
         Told::Hole | Told::Resumed => false,
     }
 }
 
 /// Why the segment ends with this event: so many parts were broken before, and this was found up to it.
-pub(crate) fn ending(
-    plan: &Plan,
-    broken: u32,
-    found: &Judged,
-    event: &CourseEvent,
-) -> Option<End>
+pub(crate) fn ending(plan: &Plan, broken: u32, found: &Judged, event: &CourseEvent) -> Option<End>
     ensures { result ≡ ending plan.now broken found.now (event_told event.now) }
 {
     if ends_at_reply(found, event) {

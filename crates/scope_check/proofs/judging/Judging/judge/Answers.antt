@@ -19,14 +19,14 @@ returns-clause-judged c l m part h =
     let one = samples_snoc part x t in
     let some = none_more part (Sampled x t) in (
       record {
-          stands = subst (λ (w : Trace). PartStands c.feed-self.new.self l m w) (sym one)
-              (c.feed-self.ensures.stands l m (samples_among part) h.stands);
-          count = c.in_ok-judged.ensures.more ∙ ap (λ n. n + 1) h.count ∙ sym (count_snoc part x t);
-          follows = subst (λ (w : Trace). Follows c.feed.new.self w) (sym one)
-              (c.feed.ensures (samples_among part) h.follows);
-          found_on = found-more j.broken j.stamp c.args.stamp c.first_stamp-self.result l m part x c.feed-self.result h.found_on
-              some (c.feed-self.ensures.found l m (samples_among part) h.stands) (c.first_stamp-self.ensures
-              ∙ ap (λ (b : Bool). if b then j.stamp else c.args.stamp) c.is_some.ensures);
+        stands = subst (λ (w : Trace). PartStands c.feed-self.new.self l m w) (sym one)
+            (c.feed-self.ensures.stands l m (samples_among part) h.stands);
+        count = c.in_ok-judged.ensures.more ∙ ap (λ n. n + 1) h.count ∙ sym (count_snoc part x t);
+        follows = subst (λ (w : Trace). Follows c.feed.new.self w) (sym one)
+            (c.feed.ensures (samples_among part) h.follows);
+        found_on = found-more j.broken j.stamp c.args.stamp c.first_stamp-self.result l m part x c.feed-self.result h.found_on
+            some (c.feed-self.ensures.found l m (samples_among part) h.stands) (c.first_stamp-self.ensures
+            ∙ ap (λ (b : Bool). if b then j.stamp else c.args.stamp) c.is_some.ensures);
       },
       some,
     )
