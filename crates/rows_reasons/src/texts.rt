@@ -1,0 +1,158 @@
+//! The sentence of each reason that no trace of `found` gives.
+
+use fsb_encode::DecodeFault;
+use fsb_reasons::{Concerned, Reason, SnoopLines, Wait};
+use fsb_trace::{Outcome, Who};
+use reason_texts::Sentence;
+use std::alloc::Global;
+use std::process::Abort;
+
+/// The request of these tests.
+const SECOND: Concerned = Concerned {
+    number: 1,
+    clock: 23,
+};
+
+fn expect_text(rt: &impl Abort, alloc: Global, clock: u32, reason: Reason, text: &str) {
+    let said = format!(in alloc; "{}", Sentence { clock, reason }).expect(rt, "memory");
+    assert!(rt; said.as_str() == text);
+}
+
+#[test]
+fn requests(rt: HostRuntime) {
+    let a = rt.alloc();
+    let full =
+        "ADS# is asserted at 26 with 8 requests in flight, the oldest since 2. One may begin with at most seven.";
+    expect_text(
+        &rt,
+        a,
+        26,
+        Reason::QueueFull {
+            in_flight: 8,
+            oldest: 2,
+        },
+        full,
+    );
+    let bits = "The request that began at 2 has a bit of its address or REQ without a level at 3.";
+    expect_text(&rt, a, 3, Reason::UnknownBits { clock: 3 }, bits);
+    let len = "The REQ word at 3, 00001, is not the one of the request that began at 2.";
+    expect_text(
+        &rt,
+        a,
+        3,
+        Reason::Unlawful {
+            fault: DecodeFault::BadLen(1),
+        },
+        len,
+    );
+    let locked =
+        "ADS# is asserted at 9. LOCK# kept the bus for agent 2 at 7, which did not ask there.";
+    expect_text(
+        &rt,
+        a,
+        9,
+        Reason::Locked {
+            holder: Some(Who::Symmetric(2)),
+        },
+        locked,
+    );
+    let reply =
+        "The request that began at 8 is a deferred reply, and agent 3 won the bus. Only the priority agent replies.";
+    let winner = Some(Who::Symmetric(3));
+    expect_text(&rt, a, 9, Reason::ReplyByOther { winner }, reply);
+    let taken =
+        "The request that began at 8 has the deferred ID 5. The request that began at 2 has it and is outstanding.";
+    expect_text(&rt, a, 9, Reason::IdTaken { did: 5, by: 2 }, taken);
+}
+
+#[test]
+fn snoops(rt: HostRuntime) {
+    let a = rt.alloc();
+    let lines = SnoopLines {
+        hit: true,
+        hitm: true,
+        defer: false,
+    };
+    let over = "HIT# and HITM# are asserted at 9, and no request waits for its snoop end.";
+    expect_text(&rt, a, 9, Reason::SnoopsOver { lines }, over);
+    let early =
+        "HIT# and HITM# are asserted at 26. The snoop of request 1 (first clock 23) starts at 27.";
+    expect_text(
+        &rt,
+        a,
+        26,
+        Reason::SnoopEarly {
+            lines,
+            request: SECOND,
+            start: 27,
+        },
+        early,
+    );
+    let back =
+        "HIT# and HITM# are asserted at 27, the snoop end of request 1 (first clock 23). It is a write-back, which no snoop line answers.";
+    expect_text(
+        &rt,
+        a,
+        27,
+        Reason::WriteBackSnooped {
+            lines,
+            request: SECOND,
+        },
+        back,
+    );
+}
+
+#[test]
+fn responses(rt: HostRuntime) {
+    let a = rt.alloc();
+    let early =
+        "RS# is not idle at 28. It may answer at 29 at the earliest: request 1 (first clock 23) has its snoop end at 27.";
+    let wait = Wait::SnoopEnd(27);
+    expect_text(
+        &rt,
+        a,
+        28,
+        Reason::ResponseEarly {
+            request: SECOND,
+            wait,
+            earliest: Some(29),
+        },
+        early,
+    );
+    let code =
+        "RS# is 111 at 30. The code of request 1 (first clock 23) is 001, retry, by its snoop end at 27, or 010, deferred.";
+    let wrong = Reason::CodeWrong {
+        request: SECOND,
+        snoop_end: 27,
+        found: 7,
+        expected: Outcome::Retried,
+        may_defer: true,
+    };
+    expect_text(&rt, a, 30, wrong, code);
+    let ready =
+        "TRDY# is asserted at 28. It may come at 29 at the earliest: request 1 (first clock 23) has its snoop end at 27.";
+    expect_text(
+        &rt,
+        a,
+        28,
+        Reason::ReadyEarly {
+            request: SECOND,
+            wait,
+            earliest: Some(29),
+        },
+        ready,
+    );
+    let busy =
+        "DBSY# is not asserted at 30. Of the four chunks of request 1 (first clock 23), answered at 29, 2 came.";
+    expect_text(
+        &rt,
+        a,
+        30,
+        Reason::BusyMissing {
+            request: SECOND,
+            response: 29,
+            chunks: 2,
+        },
+        busy,
+    );
+}
