@@ -72,7 +72,7 @@ names_some row line other s = names_cases row line other (is_reply row.seen.requ
 none_cases : (row : Row) (other : ℕ) (b : Bool) → is_reply row.seen.request ≡ b → None ≡ cond b None row.line
     → row_names other row ≡ false
 unfolding is_at is_some_and
-none_cases row other true e s = and_right _ _ (rw e refl)
+none_cases row other true e s = and_right (is_at row.line other) (not (is_reply row.seen.request)) (rw e refl)
 none_cases row other false e s = rw (← s) refl
 
 pub names_none : (row : Row) (other : ℕ) (b : Bool) → None ≡ row_line row → b ≡ (b || row_names other row)
