@@ -204,6 +204,7 @@ module _ (v : Trace) (c : ℕ) where
           → e ≡ option_and_then (line_end_by v c j) (origin_clock_of v j)
       by_clock j k None l t = absurd (let no : ⊥ = cc in no)
       by_clock j k (Some q) l t = f j q (record { snooped = k; clock = l; is = same_Some _ _ t })
+
       by_number : (o : Option ℕ) → snooped_at v c ≡ o → Some row ≡ option_map (row_at v) (option_and_then (live_clock_of v) o)
           → e ≡ option_and_then (λ j. option_and_then (line_end_by v c j) (origin_clock_of v j)) o
       by_number None k t = absurd (let no : ⊥ = cc in no)
@@ -218,6 +219,7 @@ module _ (v : Trace) (c : ℕ) where
           let h = snoop_end_of-clock v j c (ended v c j k) in
           let is = h.is_clock in let no : ⊥ = cc in no
       by_clock j k (Some q) l t = let no : ⊥ = cc in no
+
       by_number : (o : Option ℕ) → snooped_at v c ≡ o → None ≡ option_map (row_at v) (option_and_then (live_clock_of v) o)
           → None ≡ option_and_then (λ j. option_and_then (line_end_by v c j) (origin_clock_of v j)) o
       by_number None k t = refl
