@@ -83,3 +83,22 @@ unfolding asking_at
 asking_named v q row e t =
     named v q (λ line. option_map (asking_of v q line) (agent_at v q)) t (line_of v q) refl
     ∙ ap (option_and_then (λ line. option_map (asking_of v q line) (agent_at v q))) (sym (row_line_is v q row e))
+
+-- the request, by the line that its row names
+
+pub asking_some : (v : Trace) (q : ℕ) (row : Row) (line : ℕ) → row ≡ row_at v q → line_at ADS v q ≡ true
+    → Some line ≡ row_line row → option_map (asking_of v q line) (agent_at v q) ≡ asking_at v q
+asking_some v q row line e t s =
+    sym (asking_named v q row e t ∙ ap (option_and_then (λ l. option_map (asking_of v q l) (agent_at v q))) (sym s))
+
+pub asking_empty : (v : Trace) (q : ℕ) (row : Row) → row ≡ row_at v q → line_at ADS v q ≡ true
+    → None ≡ row_line row → None ≡ asking_at v q
+asking_empty v q row e t s =
+    sym (asking_named v q row e t ∙ ap (option_and_then (λ l. option_map (asking_of v q l) (agent_at v q))) (sym s))
+
+pub begun_none : (v : Trace) (q : ℕ) (row : Row) → None ≡ cond (line_at ADS v q) (Some row) None → None ≡ asking_at v q
+begun_none v q row e = by_ads (line_at ADS v q) refl e
+  where
+    by_ads : (b : Bool) → line_at ADS v q ≡ b → None ≡ cond b (Some row) None → None ≡ asking_at v q
+    by_ads true t f = absurd (let no : ⊥ = cc in no)
+    by_ads false t f = sym (no_asking v q t)

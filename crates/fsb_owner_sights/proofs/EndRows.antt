@@ -12,7 +12,8 @@ use Rattle.fsb_trace.specs.At.{Trace}
 use Rattle.fsb_trace.specs.Requests.{is_live, is_reply, live_clock_of, live_count, live_number_of, live_request_of}
 use Rattle.fsb_trace.specs.Response.{end_of}
 use Rattle.fsb_trace.specs.Snoop.{line_at_snoop_end, snoop_end_of}
-use Rattle.fsb_trace.proofs.Interface.{end_of-response}
+use Rattle.fsb_trace.proofs.Interface.{end_of-response, snoop_end_of-clock}
+use Rattle.std.proofs.lemmas.Option.{same_Some}
 use Rattle.fsb_laws.specs.Orderly.{Orderly}
 use Rattle.fsb_laws.proofs.Interface.{has_answer}
 use Rattle.fsb_owners.specs.Shown.{agent_at, is_turned, origin_clock_of, origin_of, purpose_at, snooped_at}
@@ -135,3 +136,91 @@ not_ended v c j q o e f =
     let is = a.is_snoop in
     let here = ended v c j e in
     let same : a.snoop ≡ c = cc in omega (arith, same, a.before, r.2, k.2))
+
+-- the snoop end, by the rows
+pub line_end_is : {v : Trace} {c j q p : ℕ} {row origin : Row} → IsOrigin v c j q p row origin → (line agent : ℕ)
+    → ◌≡◌ {A = LineEnd} (record {
+      line = line;
+      asker = agent;
+      kind = row_purpose origin;
+      is_reply = is_reply row.seen.request;
+      hit = row_hit row;
+      hitm = is_row_handed row;
+      turned = is_row_turned row;
+      is_hit_wrong = cond (row_hit origin) (not (row_hit row)) (row_hit row);
+    }) (line_end_of v c j p line agent)
+unfolding line_end_of
+line_end_is g line agent =
+    rw (hit_differs g, row_hit_is g, row_hitm_is g, row_turned_is g, row_reply_is g, purpose_counts g) refl
+
+-- the snoop end, by the line that the row names which counts
+
+module _ {v : Trace} {c j q p : ℕ} {row origin : Row} (g : IsOrigin v c j q p row origin) where
+  pub end_some : (line : ℕ) → Some line ≡ row_line origin
+      → option_map (line_end_of v c j p line) (agent_at v p) ≡ line_end_by v c j p
+  end_some line s =
+      sym (end_named g ∙ ap (option_and_then (λ l. option_map (line_end_of v c j p l) (agent_at v p))) (sym s))
+
+  pub end_none : None ≡ row_line origin → None ≡ line_end_by v c j p
+  end_none s =
+      sym (end_named g ∙ ap (option_and_then (λ l. option_map (line_end_of v c j p l) (agent_at v p))) (sym s))
+
+module _ {v : Trace} {c j q : ℕ} {row : Row} (g : IsSnooped v c j q row) where
+  pub live_of : is_live v q ≡ true
+  live_of = (numbered v j q g.clock).1
+
+  pub number_of : live_number_of v q ≡ j
+  number_of = (numbered v j q g.clock).2
+
+  pub with_some : (origin : Row) (e : Option LineEnd) → Some origin ≡ option_map (row_at v) (origin_clock_of v j)
+      → ((p : ℕ) → IsOrigin v c j q p row origin → e ≡ line_end_by v c j p)
+      → e ≡ option_and_then (line_end_by v c j) (origin_clock_of v j)
+  with_some origin e s f = by_clock (origin_clock_of v j) refl s
+    where
+      by_clock : (o : Option ℕ) → origin_clock_of v j ≡ o → Some origin ≡ option_map (row_at v) o
+          → e ≡ option_and_then (line_end_by v c j) o
+      by_clock None k t = absurd (let no : ⊥ = cc in no)
+      by_clock (Some p) k t = f p (record { ends = g; counts = k; is = same_Some _ _ t })
+
+  pub with_none : None ≡ option_map (row_at v) (origin_clock_of v j)
+      → None ≡ option_and_then (line_end_by v c j) (origin_clock_of v j)
+  with_none s = by_clock (origin_clock_of v j) s
+    where
+      by_clock : (o : Option ℕ) → None ≡ option_map (row_at v) o → None ≡ option_and_then (line_end_by v c j) o
+      by_clock None t = refl
+      by_clock (Some p) t = absurd (let no : ⊥ = cc in no)
+
+-- the snoop end at a clock, by the row whose snoop ends there
+
+module _ (v : Trace) (c : ℕ) where
+  pub at_some : (row : Row) (e : Option LineEnd)
+      → Some row ≡ option_map (row_at v) (option_and_then (live_clock_of v) (snooped_at v c))
+      → ((j q : ℕ) → IsSnooped v c j q row → e ≡ option_and_then (line_end_by v c j) (origin_clock_of v j))
+      → e ≡ line_end_at v c
+  unfolding line_end_at
+  at_some row e s f = by_number (snooped_at v c) refl s
+    where
+      by_clock : (j : ℕ) → snooped_at v c ≡ Some j → (o : Option ℕ) → live_clock_of v j ≡ o → Some row ≡ option_map (row_at v) o
+          → e ≡ option_and_then (line_end_by v c j) (origin_clock_of v j)
+      by_clock j k None l t = absurd (let no : ⊥ = cc in no)
+      by_clock j k (Some q) l t = f j q (record { snooped = k; clock = l; is = same_Some _ _ t })
+
+      by_number : (o : Option ℕ) → snooped_at v c ≡ o → Some row ≡ option_map (row_at v) (option_and_then (live_clock_of v) o)
+          → e ≡ option_and_then (λ j. option_and_then (line_end_by v c j) (origin_clock_of v j)) o
+      by_number None k t = absurd (let no : ⊥ = cc in no)
+      by_number (Some j) k t = by_clock j k (live_clock_of v j) refl t
+
+  pub at_none : None ≡ option_map (row_at v) (option_and_then (live_clock_of v) (snooped_at v c)) → None ≡ line_end_at v c
+  unfolding line_end_at
+  at_none s = by_number (snooped_at v c) refl s
+    where
+      by_clock : (j : ℕ) → snooped_at v c ≡ Some j → (o : Option ℕ) → live_clock_of v j ≡ o → None ≡ option_map (row_at v) o → ⊥
+      by_clock j k None l t =
+          let h = snoop_end_of-clock v j c (ended v c j k) in
+          let is = h.is_clock in let no : ⊥ = cc in no
+      by_clock j k (Some q) l t = let no : ⊥ = cc in no
+
+      by_number : (o : Option ℕ) → snooped_at v c ≡ o → None ≡ option_map (row_at v) (option_and_then (live_clock_of v) o)
+          → None ≡ option_and_then (λ j. option_and_then (line_end_by v c j) (origin_clock_of v j)) o
+      by_number None k t = refl
+      by_number (Some j) k t = absurd (by_clock j k (live_clock_of v j) refl t)

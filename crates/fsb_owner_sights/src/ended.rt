@@ -31,7 +31,11 @@ fn is_hit_other(row: &Row, origin: &Row) -> bool
         ≡ (if is_some_and origin.now.snoop (λ s. s.hit) then not (is_some_and row.now.snoop (λ s. s.hit))
         else is_some_and row.now.snoop (λ s. s.hit)) }
 {
-    if is_hit(origin) { !is_hit(row) } else { is_hit(row) }
+    if is_hit(origin) {
+        !is_hit(row)
+    } else {
+        is_hit(row)
+    }
 }
 
 /// The snoop end of the row, where this agent's request for this line counts.
