@@ -2,7 +2,7 @@
 use Rattle.std.proofs.Common.{◌≡◌, ◌∙◌, ℕ, ◌+◌, ◌≤◌, ◌++◌, ◌∷◌, [], List, Result, Ok, Err, IfErr, length, ap, arith}
 use Rattle.std.proofs.lemmas.List.{length-append}
 use Rattle.std.proofs.lemmas.List.Sums.{suffix_len-le-length}
-use Rattle.vcd_way.specs.Events.{DumpEvent, Sampled, Hole, Resumed, samples_among}
+use Rattle.vcd_way.specs.Events.{DumpEvent, Sampled, Hole, Resumed}
 use Rattle.scope_check.specs.declared.part.Part.{Part}
 use Rattle.fsb_signal.specs.declared.marks.Marks.{Marks}
 use Rattle.scope_check.specs.declared.judging.Judging.{Judging}

@@ -1,5 +1,5 @@
 -- What a machine of a part has found after one more event.
-use Rattle.std.proofs.Common.{◌≡◌, ◌∙◌, ◌+◌, ◌++◌, ◌∷◌, ◌&&◌, ◌||◌, not, [], ℕ, List, Option, Bool, true, false, if◌then◌else◌, length, append-nil, ap, sym, subst, refl}
+use Rattle.std.proofs.Common.{◌≡◌, ◌∙◌, ◌+◌, ◌++◌, ◌∷◌, ◌&&◌, ◌||◌, not, [], ℕ, List, Option, true, false, if◌then◌else◌, length, append-nil, ap, sym, subst, refl}
 use Rattle.fsb_signal.specs.declared.sample.Sample.{Sample}
 use Rattle.vcd_way.specs.Pieces.{Stamp, time_at}
 use Rattle.vcd_way.specs.Events.{DumpEvent, Sampled, samples_among, time_of}
@@ -8,7 +8,7 @@ use Rattle.scope_check.specs.declared.judging.Phase.TheVariants as phases
 use Rattle.scope_check.specs.declared.part.Part.{Part}
 use Rattle.scope_check.specs.declared.parting.Parting.{Parting}
 use Rattle.scope_check.specs.Bounds.{passes}
-use Rattle.scope_check.specs.Parts.{is_none, opens_at, opens, closes, clocks_of, quiet_run, may_begin}
+use Rattle.scope_check.specs.Parts.{opens_at, opens, closes, clocks_of, quiet_run, may_begin}
 use Rattle.scope_check.specs.Standing.{rested}
 use Rattle.scope_check.specs.Parting.{HasParted, IsReached, taken_if}
 use Rattle.scope_check.proofs.Growing.{before_more, part_begins, part_goes_on, part_ends, rest_more, none_more}

@@ -6,7 +6,7 @@ use Rattle.std.proofs.lemmas.List.{get_or-set_same, get_or-set_other, length-rep
 use Rattle.fsb_signal.specs.declared.sample.Sample.{Sample}
 use Rattle.fsb_trace.specs.At.{Trace}
 use Rattle.scope_check.specs.declared.replies.Replies.{Replies}
-use Rattle.scope_check.specs.Replies.{answers_before, asked_id, asks_behind, asks_for, begun_on, is_id, is_unasked, last_behind, reply_behind, reply_id}
+use Rattle.scope_check.specs.Replies.{asked_id, asks_behind, asks_for, begun_on, is_id, is_unasked, last_behind, reply_behind, reply_id}
 use Rattle.scope_check.specs.Following.{Follows, is_marked, is_unmarked, marked}
 
 last_snoc : (a : Option Sample) (w : Trace) (x : Sample) → last_behind a (w ++ x ∷ []) ≡ Some x

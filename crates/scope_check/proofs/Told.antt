@@ -1,5 +1,5 @@
 -- What a judge tells is what is found of its events.
-use Rattle.std.proofs.Common.{◌≡◌, ◌∙◌, ℕ, ◌+◌, ◌<◌, [], Bool, List, Option, refl, sym, ap, subst, arith}
+use Rattle.std.proofs.Common.{◌≡◌, ◌∙◌, ℕ, ◌+◌, ◌<◌, [], Bool, List, Option, sym, ap, subst, arith}
 use Rattle.fsb_signal.specs.declared.marks.Marks.{Marks}
 use Rattle.fsb_rules.specs.declared.broken.Broken.{Broken}
 use Rattle.vcd_way.specs.Events.{DumpEvent, samples_among}

@@ -1,5 +1,5 @@
 -- What a machine has found of the part of a dump.
-use Rattle.std.specs.Prelude.{◌≡◌, ℕ, Bool, true, false, if◌then◌else◌, Option, Some, None, List, [], ◌∷◌}
+use Rattle.std.specs.Prelude.{◌≡◌, ℕ, Bool, true, false, Option, Some, None, List, [], ◌∷◌}
 use Rattle.fsb_signal.specs.declared.sample.Sample.{Sample}
 use Rattle.vcd_way.specs.Events.{DumpEvent, samples_among}
 use Rattle.scope_check.specs.declared.judging.Phase.{Phase}

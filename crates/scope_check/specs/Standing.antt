@@ -15,7 +15,6 @@ use Rattle.scope_check.specs.declared.part.Part.{Part}
 use Rattle.scope_check.specs.Bounds.{begins_later}
 use Rattle.scope_check.specs.declared.replies.Replies.{Replies}
 use Rattle.scope_check.specs.Parts.{IsParted, is_none, quiet_run, clocks_of, has_stopped}
-use Rattle.scope_check.specs.Replies.{answers_before}
 use Rattle.scope_check.specs.Following.{Follows}
 use Rattle.scope_check.specs.Findings.{stamps_among}
 

@@ -1,5 +1,5 @@
 -- The first broken clock of a judge.
-use Rattle.std.proofs.Common.{◌≡◌, ◌∙◌, ℕ, zero, suc, ◌+◌, ◌<◌, ◌≤◌, ◌^◌, ◌++◌, ◌∷◌, [], Bool, true, false, if◌then◌else◌, nat_lt, List, Option, Some, None, filter, take, slice_get, refl, sym, ap, append-nil, arith}
+use Rattle.std.proofs.Common.{◌≡◌, ◌∙◌, ℕ, suc, ◌+◌, ◌≤◌, ◌++◌, ◌∷◌, [], Bool, true, false, if◌then◌else◌, nat_lt, List, Option, Some, None, filter, take, slice_get, refl, sym, ap, append-nil, arith}
 use Rattle.std.proofs.lemmas.Bool.{lt-ltb}
 use Rattle.std.proofs.lemmas.List.Elements.{filter-append}
 use Rattle.fsb_signal.specs.declared.marks.Marks.{Marks}
@@ -8,8 +8,7 @@ use Rattle.fsb_rules.specs.declared.broken.Broken.{Broken as BrokenRule}
 use Rattle.scope_check.specs.declared.finding.Judged.{Judged}
 use Rattle.scope_check.specs.declared.finding.Verdict.{Verdict}
 use Rattle.scope_check.specs.declared.finding.Verdict.TheVariants.{Nothing, Accepted, Broken}
-use Rattle.scope_check.specs.declared.part.Part.{Part}
-use Rattle.scope_check.specs.Findings.{IsFoundIn, Says}
+use Rattle.scope_check.specs.Findings.{Says}
 use Rattle.scope_check.specs.Parts.{clocks_of}
 use Rattle.scope_parts.specs.declared.finding.End.{End}
 use Rattle.scope_parts.specs.declared.finding.End.TheVariants as ends

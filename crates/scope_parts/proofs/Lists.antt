@@ -1,5 +1,5 @@
 -- One more at the end of a list.
-use Rattle.std.proofs.Common.{◌≡◌, ◌∙◌, ℕ, ◌-◌, ◌<◌, ◌++◌, ◌∷◌, [], List, Option, length, take, refl, sym, ap, arith}
+use Rattle.std.proofs.Common.{◌≡◌, ◌∙◌, ℕ, ◌-◌, ◌<◌, ◌++◌, ◌∷◌, [], List, length, take, sym, ap, arith}
 use Rattle.std.proofs.lemmas.List.{length-append, length-take, take_all, take-append-le}
 use Rattle.vcd_way.specs.Events.{DumpEvent}
 use Rattle.scope_parts.specs.Findings.{EachBehind}

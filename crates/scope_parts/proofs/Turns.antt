@@ -1,5 +1,5 @@
 -- What a judge of parts stands for after one more event.
-use Rattle.std.proofs.Common.{◌≡◌, ◌∙◌, ℕ, ◌-◌, ◌++◌, ◌∷◌, [], List, Option, Some, None, Result, Ok, Err, OnOk, length, drop, refl, sym, ap, subst, arith, append_assoc, append-nil}
+use Rattle.std.proofs.Common.{◌≡◌, ◌∙◌, ℕ, ◌-◌, ◌++◌, ◌∷◌, [], List, Some, None, Result, Ok, Err, OnOk, length, drop, refl, sym, ap, subst, arith, append_assoc, append-nil}
 use Rattle.std.proofs.lemmas.List.{length-append, length-drop, take-append-drop}
 use Rattle.fsb_signal.specs.declared.marks.Marks.{Marks}
 use Rattle.vcd_way.specs.Events.{DumpEvent}
