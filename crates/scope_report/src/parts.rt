@@ -178,6 +178,7 @@ pub(crate) fn put_starts(text: &mut Vec<u8>, found: &PartsFound) -> Result<(), A
     let begin = found.plan.first.begin;
     if let Some(part) = found.first.as_slice().first() {
         put_start(text, part, begin)?;
+        put_stopped(text, part, begin)?;
     }
     if found.parts < 2 {
         return Ok(());
@@ -198,6 +199,21 @@ fn put_start(text: &mut Vec<u8>, part: &PartFound, begin: Begin) -> Result<(), A
     put_clock(text, part.start, " is the first that is judged: ")?;
     put_begin(text, begin)
 }
+
+// That the dump stops before a part that begins where its lines have levels.
+fn put_stopped(text: &mut Vec<u8>, part: &PartFound, begin: Begin) -> Result<(), AllocError> {
+    if part.is_later && begin == Begin::Known {
+        put(text, STOPPED_BEFORE)
+    } else {
+        Ok(())
+    }
+}
+
+const STOPPED_BEFORE: &str = "\
+the dump stops before the first clock that is judged
+  No request is taken to be under way there. Who had the bus last is not known: a rule counts as
+  broken where it is whoever had it.
+";
 
 // Why the part begins there, and what is taken to be so.
 fn put_begin(text: &mut Vec<u8>, begin: Begin) -> Result<(), AllocError> {
