@@ -1,6 +1,7 @@
 //! A rejected dump, read in other ways: which of them get further.
 
-ghost use Rattle.std.specs.Prelude.{◌≡◌, ◌≤◌, IsTrue, IfOk, IfSome, Some, length, All};
+ghost use Rattle.std.specs.Prelude.{◌≡◌, ◌≤◌, ◌++◌, IsTrue, IfOk, IfSome, OnOk, Some, length, All};
+ghost use Rattle.std.specs.Option.{option_to_list};
 ghost use Rattle.scope_tries.specs.Tries.{IsHint, SamplesBy, further_found, takes_first_by, late_by, tries_of, broken_found};
 
 use crate::hint::{Further, Hint, Try, further_in};
@@ -68,12 +69,23 @@ pub fn hints_of<S: Source>(
 {
     let mut hints = Vec::new(alloc);
     for by in &TRIES {
-        match hint_of(alloc, name, choice, plan, edge, broken, *by, dump)? {
-            None => {}
-            Some(hint) => hints.push(hint)?,
-        }
+        let hint = hint_of(alloc, name, choice, plan, edge, broken, *by, dump)?;
+        keep(&mut hints, hint)?;
     }
     Ok(hints)
+}
+
+// Keeps a hint, if there is one.
+fn keep(hints: &mut Vec<Hint>, hint: Option<Hint>) -> Result<(), AllocError>
+    ensures { OnOk result (hints.new.items ≡ hints.old.items ++ option_to_list hint) }
+{
+    match hint {
+        None => Ok(()),
+        Some(hint) => {
+            hints.push(hint)?;
+            Ok(())
+        }
+    }
 }
 
 // What comes of one try.
