@@ -144,7 +144,11 @@ fn shown(alloc: Global, line: &[u8]) -> Result<String, AllocError> {
 }
 
 fn plain(byte: u8) -> char {
-    if 32 <= byte && byte < 127 { char::from(byte) } else { '?' }
+    if 32 <= byte && byte < 127 {
+        char::from(byte)
+    } else {
+        '?'
+    }
 }
 
 // The line of this number, from 1 on, without white space at its ends.
