@@ -237,10 +237,10 @@ class Header:
         if not bits:
             raise Refused("names no variable")
         high, low = int(bits[2]), int(bits[3] or bits[2])
-        base = [one for one in here if one.name == bits[1] and one.kind not in NO_WIRES] or [one for one in here if one.name == bits[1]]
-        single = [one for one in base if bits[3] is None and one.range == (high, high)]
-        if single:
-            return single, None
+        base = [one for one in here if one.name == bits[1]]
+        as_declared = [one for one in base if one.range == (high, low)]
+        if as_declared:
+            return as_declared, None
         if not base:
             raise Refused("names no variable")
         return base, (high, low)
