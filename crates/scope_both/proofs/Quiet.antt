@@ -11,7 +11,7 @@ use Rattle.vcd_way.specs.Declarations.{DumpSection, Declaration, declaration_of,
 use Rattle.vcd_way.specs.declared.tap.Tap.{Tap}
 use Rattle.vcd_way.specs.Ways.{Kept, Keeps, Refuses, ValueRules, Way}
 use Rattle.vcd_way.specs.Pieces.{Stamp as TimeStamp, TapChange, Happening, Comes, Gets, Switches, pieces_from}
-use Rattle.vcd_way.specs.Events.{DumpEvent, Sampled, Course, course_after, settled, sampled, values_after}
+use Rattle.vcd_way.specs.Events.{DumpEvent, Sampled, Course, course_after, at_first_edge, sampled, values_after}
 use Rattle.vcd_way.specs.Events.{sample_in_block, events_from, is_edge, digit_after}
 use Rattle.vcd_grammar.specs.Values.{Values, sample_of, clock_of}
 use Rattle.vcd_way.specs.Steps.{Spot, AtPreface, AtHeader, InSection, AtValues, AtCode, AtOtherCode, InRemark, DumpState}
@@ -214,7 +214,7 @@ block-sampled m c stamp after rest r =
     all-sampled (c.is_seen && is_edge m.edge (clock_of c.values) (clock_of after))
     (m.takes_first && not c.is_seen && (clock_of after == digit_after m.edge))
     (Sampled (sample_of (sampled m.late c.values after)) stamp)
-    (Sampled (sample_of (sampled m.late (settled c.values after) after)) stamp) rest refl refl r
+    (Sampled (sample_of (sampled m.late (at_first_edge stamp c.values after) after)) stamp) rest refl refl r
 
 -- what is told of it
 no-hole : (m : ValueRules) (c : Course) (stamp : Option TimeStamp) (block : List TapChange) (hs : List Happening)
