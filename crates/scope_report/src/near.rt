@@ -174,13 +174,13 @@ fn most_of(near: &[Near], counts: &[usize], line: u8) -> usize {
 
 // Whether fewer than four of its line are shown, and none of this code.
 fn is_new(variables: &[Variable], shown: &[Near], one: Near) -> bool {
-    let mut count = 0;
+    let mut count: usize = 0;
     for other in shown {
         if other.line == one.line {
             if code_of(variables, *other) == code_of(variables, one) {
                 return false;
             }
-            count += 1;
+            count = count.saturating_add(1);
         }
     }
     count < SHOWN
@@ -200,10 +200,10 @@ fn counts_of(
     near: &[Near],
 ) -> Result<Vec<usize>, AllocError> {
     let mut counts = Vec::new(alloc);
-    let mut begin = 0;
+    let mut begin: usize = 0;
     for end in 1..near.len() + 1 {
         if is_last(variables, near, end) {
-            fill(&mut counts, end, end - begin)?;
+            fill(&mut counts, end, end.saturating_sub(begin))?;
             begin = end;
         }
     }
@@ -212,7 +212,7 @@ fn counts_of(
 
 // Whether the next one stands in another scope.
 fn is_last(variables: &[Variable], near: &[Near], end: usize) -> bool {
-    match (near.get(end - 1), near.get(end)) {
+    match (near.get(end.saturating_sub(1)), near.get(end)) {
         (Some(one), Some(next)) => scope_of(variables, *one) != scope_of(variables, *next),
         _ => true,
     }
