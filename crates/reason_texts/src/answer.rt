@@ -14,7 +14,7 @@ pub(crate) fn put_response<W: fmt::Write>(
     match reason {
         Reason::NothingToAnswer { number } => write!(
             f,
-            "RS# is not idle at {clock}. There are no more than {number} requests, and each has its response."
+            "RS# is not idle at {clock}, and no request waits for a response. {number} came before."
         ),
         Reason::ResponseEarly {
             request,
@@ -49,7 +49,7 @@ pub(crate) fn put_code<W: fmt::Write>(
     match reason {
         Reason::CodeForNone { number, code } => write!(
             f,
-            "RS# is {code:03b} at {clock}. There are no more than {number} requests, and each has its response."
+            "RS# is {code:03b} at {clock}, and no request waits for a response. {number} came before."
         ),
         Reason::CodeUnsettled {
             request,
@@ -95,7 +95,7 @@ pub(crate) fn put_ready<W: fmt::Write>(
     match reason {
         Reason::ReadyForNone { number } => write!(
             f,
-            "TRDY# is asserted at {clock}. There are no more than {number} requests, and each has its response."
+            "TRDY# is asserted at {clock}, and no request waits for a response. {number} came before."
         ),
         Reason::ReadyUnsettled { request } => write!(
             f,
