@@ -64,7 +64,7 @@ module _ {S O D : Type 0} {source : SourceGhosts S} {out : SinkGhosts O}
 
   abbrev LookedAs : List ℕ → Look → Status → Type 0
   LookedAs name look status =
-      HasLookedAt call.weights name look source call.was call.now out call.before call.after status
+      HasLookedAt (look.text call.weights) name look source call.was call.now out call.before call.after status
 
   abbrev StoppedAs : FileKind → List ℕ → Status → Type 0
   StoppedAs kind name status = IsStopped source kind name call.was call.now status
