@@ -35,7 +35,7 @@ use Rattle.fsb_calls.specs.Calls.{Call, EndsAs, held, left_of, named_as}
 use Rattle.fsb_top.specs.FileRead.{DumpKind, FileKind, IsStopped, bench_file, file_of, in_pieces, kept_whole}
 use Rattle.fsb_calls.specs.FileSays.{HasBegunNoOther, HasReadSome, HasReadTooLong}
 use Rattle.fsb_top.specs.declared.status.Status.{Status}
-use Rattle.fsb_top.specs.declared.status.Status.TheVariants.{Done, BadWords, BadBench, BadDump, ReadFault}
+use Rattle.fsb_top.specs.declared.status.Status.TheVariants.{BadWords, BadBench, BadDump, ReadFault}
 use Rattle.fsb_top.specs.declared.status.Status.TheVariants.{WriteFault, DumpFault, OutOfMemory, TooLong}
 use Rattle.fsb_top.proofs.Statuses.{audit_as, audit_ends, broken_as, match_as, played_ends, played_made}
 use Rattle.fsb_top.proofs.Interface.{may_end}
