@@ -35,7 +35,7 @@ use Rattle.fsb_calls.specs.Calls.{Call, EndsAs, held, left_of, named_as}
 use Rattle.fsb_top.specs.FileRead.{DumpKind, FileKind, IsStopped, bench_file, file_of, in_pieces, kept_whole}
 use Rattle.fsb_calls.specs.FileSays.{HasBegunNoOther, HasReadSome, HasReadTooLong}
 use Rattle.fsb_top.specs.declared.status.Status.{Status}
-use Rattle.fsb_top.specs.declared.status.Status.TheVariants.{Done, BadWords, BadBench, BadDump, ReadFault}
+use Rattle.fsb_top.specs.declared.status.Status.TheVariants.{BadWords, BadBench, BadDump, ReadFault}
 use Rattle.fsb_top.specs.declared.status.Status.TheVariants.{WriteFault, DumpFault, OutOfMemory, TooLong}
 use Rattle.fsb_top.proofs.Statuses.{audit_as, audit_ends, broken_as, match_as, played_ends, played_made}
 use Rattle.fsb_top.proofs.Interface.{may_end}
@@ -64,7 +64,7 @@ module _ {S O D : Type 0} {source : SourceGhosts S} {out : SinkGhosts O}
 
   abbrev LookedAs : List ℕ → Look → Status → Type 0
   LookedAs name look status =
-      HasLookedAt call.weights name look source call.was call.now out call.before call.after status
+      HasLookedAt (look.text call.weights) name look source call.was call.now out call.before call.after status
 
   abbrev StoppedAs : FileKind → List ℕ → Status → Type 0
   StoppedAs kind name status = IsStopped source kind name call.was call.now status

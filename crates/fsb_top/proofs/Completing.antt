@@ -1,10 +1,9 @@
 -- A readable dump has no first fault, and is not too long.
-use Rattle.std.proofs.Common.{◌≡◌, ◌≤◌, ◌<◌, ◌-◌, ◌^◌, ◌⊎◌, ℕ, zero, suc, List, [], ◌∷◌, ◌++◌, length, take, Option}
-use Rattle.std.proofs.Common.{Some, None, refl, sym, ap, ◌∙◌, subst, arith, inl, inr, length-append}
+use Rattle.std.proofs.Common.{◌≤◌, ◌<◌, ◌-◌, ◌^◌, ◌⊎◌, ℕ, zero, suc, List, [], ◌∷◌, length, take}
+use Rattle.std.proofs.Common.{sym, ap, ◌∙◌, arith, inl, inr, length-append}
 use Rattle.fsb_show.specs.ShownDump.{IsLongDump}
-use Rattle.fsb_signal.specs.declared.sample.Sample.{Sample}
 use Rattle.fsb_watch.specs.Watched.{HasManySamples}
-use Rattle.vcd_grammar.specs.Blocks.{Block, blocks_of, ended}
+use Rattle.vcd_grammar.specs.Blocks.{Block, blocks_of}
 use Rattle.vcd_grammar.specs.Judging.{events_in, nothing}
 use Rattle.vcd_grammar.specs.Reading.{FirstFault, samples_before_end, samples_of}
 use Rattle.vcd_grammar.specs.Tokens.{tokens_of}

@@ -1,6 +1,6 @@
 -- What follows from how a call ends (`CallEnds`), for proofs elsewhere: that a call that nothing stops is complete, and
 -- that each command ends in a status of its own.
-use Rattle.std.proofs.Common.{◌≡◌, ◌≢◌, ◌≤◌, ◌<◌, ◌⊎◌, ℕ, IsTrue, List, Option, Some, None, inl, inr, length, refl}
+use Rattle.std.proofs.Common.{◌≡◌, ◌≢◌, ◌≤◌, ℕ, IsTrue, List, Option, Some, None, inl, inr, length, refl}
 use Rattle.std.proofs.Common.{subst, sym}
 use Rattle.fsb_command.specs.Form.{Form, ask, gen, run}
 use Rattle.fsb_hazard.specs.Told.{Told}

@@ -1,5 +1,5 @@
 -- What stopped a call, out of what stopped the reading of its file.
-use Rattle.std.proofs.Common.{◌≡◌, ◌++◌, ℕ, IsTrue, List, Option, Some, Result, Err, ap, inl, inr, refl, subst, sym}
+use Rattle.std.proofs.Common.{◌≡◌, ◌++◌, ℕ, IsTrue, List, Option, Some, Err, ap, inl, inr, refl, subst, sym}
 use Rattle.std.proofs.Common.{◌∙◌}
 use Rattle.std.proofs.lemmas.List.{append-nil}
 use Rattle.fsb_io.specs.Faults.{Rose}

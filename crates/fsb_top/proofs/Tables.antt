@@ -1,5 +1,5 @@
 -- What is shown of a trace is told as its text.
-use Rattle.std.proofs.Common.{◌≡◌, ◌∙◌, ℕ, List, Option, Some, None, refl, sym, ap, subst}
+use Rattle.std.proofs.Common.{◌≡◌, ◌∙◌, ℕ, List, Option, Some, None, refl, sym, ap}
 use Rattle.fsb_probe.specs.Weights.{totals_of}
 use Rattle.fsb_rules.specs.Checker.{as_broken}
 use Rattle.fsb_rules.specs.declared.broken.Broken.{Broken}

@@ -23,9 +23,9 @@ use Rattle.fsb_top.specs.Looks.{Look, look_at, status_of}
 
 -- ---- commands that look at a dump
 
--- the dump was read whole, this was found in its trace, and the sink has the text behind what it
--- held, or a first part of the text where it failed
-pub record HasTold {S O : Type 0} (weights : List (Sample → ℕ)) (name : List ℕ) (look : Look)
+-- the dump was read whole, this was found in its trace, and the sink has the text of the trace
+-- behind what it held, or a first part of the text where it failed
+pub record HasTold {S O : Type 0} (text : Marks → List Sample → List ℕ) (name : List ℕ) (look : Look)
     (source : SourceGhosts S) (was now : S) (out : SinkGhosts O) (before after : O) (found : look.Found)
     (status : Status)
     : Type 0 where
@@ -36,7 +36,7 @@ pub record HasTold {S O : Type 0} (weights : List (Sample → ℕ)) (name : List
   pub few : length trace ≤ sample_limit (file_of look.kind)
   pub is_found : found ≡ look.found marks trace
   pub printed : IsTrue out.tells
-      → IsWritten status (look.text weights marks trace) (out.holds before) (out.holds after)
+      → IsWritten status (text marks trace) (out.holds before) (out.holds after)
 
 -- the status is this one, or the sink of what is printed failed
 abbrev pub EndsTold : {O : Type 0} → SinkGhosts O → O → O → Status → Status → Type 0
@@ -44,13 +44,13 @@ EndsTold out before after told status =
     (status ≡ told) ⊎ ((status ≡ WriteFault) × Rose (out.faults before) (out.faults after))
 
 -- something was found, and the status is that of the answer to what was found, or the sink failed
-pub record HasLookedAt {S O : Type 0} (weights : List (Sample → ℕ)) (name : List ℕ) (look : Look)
+pub record HasLookedAt {S O : Type 0} (text : Marks → List Sample → List ℕ) (name : List ℕ) (look : Look)
     (source : SourceGhosts S) (was now : S) (out : SinkGhosts O) (before after : O) (status : Status)
     : Type 0 where
   pub found : look.Found
   pub ends : EndsTold out before after (status_of (look.answer found)) status
   pub told : IsTrue source.tells
-      → HasTold weights name look source was now out before after found status
+      → HasTold text name look source was now out before after found status
 
 -- a dump was looked at, or the call was stopped before, and then nothing was printed
 abbrev pub LookEnds
@@ -58,7 +58,7 @@ abbrev pub LookEnds
     → Look → Status → Type 0
 LookEnds source out was now before after weights name look status =
     (IsStopped source (file_of look.kind) name was now status × (after ≡ before))
-    ⊎ HasLookedAt weights name look source was now out before after status
+    ⊎ HasLookedAt (look.text weights) name look source was now out before after status
 
 -- ---- the whole call
 

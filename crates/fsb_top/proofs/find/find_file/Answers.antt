@@ -1,4 +1,4 @@
-use Rattle.std.proofs.Common.{◌∙◌, ap, inl, inr, length, option_map, refl, subst}
+use Rattle.std.proofs.Common.{◌∙◌, ap, inl, inr, option_map, refl, subst}
 use Rattle.fsb_look.specs.Looked.{IsSearch}
 use Rattle.fsb_look.specs.SearchText.{search_text}
 use Rattle.fsb_trigger.specs.Hunt.{steps_in}
