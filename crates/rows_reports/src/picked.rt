@@ -56,7 +56,8 @@ fn what_pick_writes_is_judged_alike(rt: HostRuntime) {
     assert!(rt; matches!(is_judged_alike(rt.alloc()), Ok(true)));
 }
 
-const NO_CLOCK: &str = "x.vcd: no clock of the part is there, so none was written: p6scope check tells why\n";
+const NO_CLOCK: &str =
+    "x.vcd: no clock of the part is there, so none was written: p6scope check tells why\n";
 
 /// Whether a part without a clock is told so, and a scope that is not there as by a check.
 fn is_nothing_told(alloc: Global) -> Result<bool, Memory> {
