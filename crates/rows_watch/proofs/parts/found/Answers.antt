@@ -18,6 +18,6 @@ pub loop-letter-preserved : goal.loop-letter-preserved
 loop-letter-preserved c =
     let i = c.loop-letter.invariant in
     elim c.match-told.branch [
-      | in-Some+in_ok-take w ↦ stands_as _ _ i.0 i.1 _ w.judge-is (w.in_ok-take.stands i.0 i.1 i.2 i.3)
+      | in-Some+in_ok-take w ↦ stands_as _ _ i.0 i.1 _ w.judge-is (w.in_ok-take.ensures.stands i.0 i.1 i.2 i.3)
       | in_default w ↦ stands_as _ _ i.0 i.1 i.2 w.judge-is i.3
     ]
