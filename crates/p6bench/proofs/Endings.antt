@@ -18,7 +18,7 @@ use Rattle.fsb_top.specs.CallEnds.{DumpCall, GenEnds, IsPlayed, LookEnds, RowEnd
 use Rattle.fsb_top.specs.Looks.{Answer, Look, look_at, status_of}
 use Rattle.fsb_top.specs.FileRead.{IsStopped, bench_file}
 use Rattle.fsb_top.specs.RunOf.{IsRunOf}
-use Rattle.fsb_top.specs.Writing.{HasDump, HasDumpPart, HasPart}
+use Rattle.fsb_top.specs.Writing.{HasDump, HasDumpPart}
 use Rattle.fsb_script.specs.Plans.{PlanView}
 use Rattle.fsb_timely.specs.Runs.{Run}
 use Rattle.fsb_io.specs.Faults.{Rose}

@@ -1,4 +1,4 @@
-use Rattle.std.proofs.Common.{◌≡◌, Some, subst, sym}
+use Rattle.std.proofs.Common.{Some, subst, sym}
 use Rattle.fsb_calls.specs.Calls.{held, printed, printed_before}
 use Rattle.fsb_top.specs.Printed.{run_dump, run_log}
 use Rattle.fsb_calls.specs.StatusSays.{HasRun}
