@@ -143,7 +143,7 @@ impl Table {
 
     /// Whether the snoop of the request with this row, which is snooped next, ends with the sample.
     #[tactic(auto, unfolding(fsb_laws::specs::Progress::ends_snoop_of))]
-    fn ends_snoop(&self, row: &Row, clock: u32, sample: &Sample) -> bool
+    pub fn ends_snoop(&self, row: &Row, clock: u32, sample: &Sample) -> bool
         ensures { (h : Trace) → Stands self.now h → IsRowOf h (snooped_count h) row.now →
             clock ≡ length h → result ≡ ends_snoop_of h (snooped_count h) sample.now }
     {
