@@ -1,0 +1,26 @@
+use Rattle.std.proofs.Common.{sym, ap, cond, ◌∙◌, [], ◌∷◌, ◌++◌, ◌+◌, arith}
+use Rattle.std.proofs.Common.{is_some}
+use Rattle.fsb_laws.specs.OneMore.{responds}
+use Rattle.fsb_laws.proofs.Interface.{one_more, response_count-more}
+use Rattle.fsb_why_queue.proofs.Ends.{end-fed, few_responses}
+use Rattle.fsb_why_queue.proofs.queue.Queue.feed.Goals as goal
+
+pub returns : goal.returns
+returns c = λ h s o after.
+    let x : _ = c.args.sample.now in
+    let table = (c.in_ok-feed.ensures).stands h (record { stands = s.table; before = o; after = after }) in
+    let clock = c.clock-clock.ensures ∙ (s.table).clock in
+    let few = few_responses h in
+    let p = c.requires in
+    let low = (p.1).responses in
+    let fits = few_responses p.0 in
+    let before = c.ended_with-before.ensures h (record { stands = s; orderly = o; clock = clock }) in
+    record {
+      table = table;
+      responses = c.responses_after-self.ensures (omega (arith, low, fits, p.2))
+          ∙ (ap (λ k. k + cond (responds x) 1 0) s.responses
+          ∙ sym (response_count-more h x (h ++ x ∷ []) (one_more h x)));
+      ended = c.ended_after-self.ensures
+          ∙ end-fed h x c.clock-clock.result c.ended_with-before.result c.is_some-moving.result o after clock
+          (c.is_some-moving.ensures ∙ ap is_some (c.chunks.ensures (h ++ x ∷ []) table)) before;
+    }

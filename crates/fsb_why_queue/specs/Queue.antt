@@ -1,0 +1,25 @@
+-- For which traces the queue stands.
+use Rattle.std.specs.Prelude.{◌≡◌, ℕ, Bool, nat_eq, length}
+use Rattle.fsb_trace.specs.At.{Trace}
+use Rattle.fsb_trace.specs.Response.{end_of}
+use Rattle.fsb_laws.specs.Orderly.{Orderly}
+use Rattle.fsb_laws.specs.Progress.{response_count}
+use Rattle.fsb_heads.specs.Heads.{value_before}
+use Rattle.fsb_owner_feed.specs.Table.{Stands as TableStands}
+use Rattle.fsb_why_queue.specs.declared.queue.Queue.{Queue}
+
+-- the queue was fed these samples
+pub record Stands (queue : Queue) (h : Trace) : Type 0 where
+  pub table : TableStands queue.table h
+  pub responses : queue.responses ≡ response_count h
+  pub ended : queue.ended ≡ value_before (end_of h) (response_count h)
+
+-- clock n comes after a trace that the queue stands for, whose requests keep their distance and responses their time
+pub record IsAt (queue : Queue) (n : ℕ) (h : Trace) : Type 0 where
+  pub stands : Stands queue h
+  pub orderly : Orderly h
+  pub clock : n ≡ length h
+
+-- the rules for which an answer is exact
+unfoldable pub is_explained : ℕ → Bool
+is_explained j = nat_eq j 13

@@ -1,0 +1,268 @@
+//! The machine that follows a trace.
+
+ghost use Rattle.std.specs.Prelude.{◌≡◌, ◌<◌, ◌+◌, ◌^◌, ◌&&◌, true, nat_eq, [], ◌∷◌, ◌++◌, length, OnOk, if◌then◌else◌, Some, None};
+ghost use Rattle.fsb_signal.specs.declared.marks.Marks.{Marks};
+ghost use Rattle.fsb_signal.specs.declared.lines.TheConstants.Lines.{ADS, DRDY};
+ghost use Rattle.fsb_signal.specs.Samples.{has_line};
+ghost use Rattle.fsb_trace.specs.At.{Trace};
+ghost use Rattle.fsb_trace.specs.Requests.{live_clock_of};
+ghost use Rattle.fsb_trace.specs.Rules.{breaks};
+ghost use Rattle.fsb_trace.specs.Snoop.{snoop_end_of};
+ghost use Rattle.fsb_trace.specs.Response.{end_of};
+ghost use Rattle.fsb_laws.specs.OneMore.{cancels, responds};
+ghost use Rattle.fsb_laws.specs.Orderly.{Orderly};
+ghost use Rattle.fsb_laws.specs.Progress.{response_count};
+ghost use Rattle.fsb_heads.specs.Heads.{snooped_count, value_before};
+ghost use Rattle.fsb_owner_feed.specs.Table.{IsRowOf, SaysAsking};
+ghost use Rattle.fsb_why.specs.Explains.{Explains, Tells};
+ghost use Rattle.fsb_why_queue.specs.Next.{SaysNext};
+ghost use Rattle.fsb_why_queue.specs.Queue.{IsAt, Stands, is_explained};
+
+use crate::next::Next;
+use fsb_heads::responds;
+use fsb_io::Memory;
+use fsb_owner_feed::Table;
+use fsb_owner_table::Row;
+use fsb_reasons::{Concerned, Reason};
+use fsb_signal::{Lines, Sample};
+use std::alloc::Global;
+
+/// Follows a trace, and says why a rule of the queue is broken with the next sample.
+#[derive(Drop)]
+pub struct Queue {
+    table: Table,
+    /// How many responses came.
+    responses: u32,
+    /// The end of the request that responded last.
+    ended: Option<u32>,
+}
+
+/// Whether the answers for the rule of this number are exact.
+#[tactic(auto, unfolding(crate::specs::Queue::is_explained))]
+pub fn is_explained(rule: u8) -> bool
+    ensures { result ≡ is_explained rule }
+{
+    rule == 13
+}
+
+/// This clock, where a request begins with its sample.
+fn begins_now(clock: u32, sample: &Sample) -> Option<u32>
+    ensures { result ≡ (if has_line sample.now ADS then Some clock else None) }
+{
+    if sample.has(Lines::ADS) {
+        Some(clock)
+    } else {
+        None
+    }
+}
+
+/// Whether the sample of this clock cancels the request that began then.
+#[tactic(auto, unfolding(fsb_laws::specs::OneMore::cancels))]
+fn cancels(begun: u32, clock: u32, sample: &Sample) -> bool
+    ensures { result ≡ cancels sample.now clock begun }
+{
+    sample.has(Lines::AERR) && u64::from(begun) + 3 == u64::from(clock)
+}
+
+/// Whether the sample has the chunk after three that came.
+fn is_last_chunk(came: u8, sample: &Sample) -> bool
+    ensures { result ≡ (nat_eq came 3 && has_line sample.now DRDY) }
+{
+    came == 3 && sample.has(Lines::DRDY)
+}
+
+/// How many responses came, after this sample.
+fn responses_after(responses: u32, sample: &Sample) -> u32
+    ensures { responses + 1 < 2 ^ 32 → result ≡ responses + (if responds sample.now then 1 else 0) }
+{
+    if responds(sample) {
+        responses.saturating_add(1)
+    } else {
+        responses
+    }
+}
+
+/// The end of the request that responded last, after the sample of this clock: the one before, where it is no response,
+/// and else this clock or none, where data move after it.
+fn ended_after(before: Option<u32>, clock: u32, sample: &Sample, moving: bool) -> Option<u32>
+    ensures { result
+        ≡ (if responds sample.now then (if moving then None else Some clock) else before) }
+{
+    if !responds(sample) {
+        before
+    } else if moving {
+        None
+    } else {
+        Some(clock)
+    }
+}
+
+impl Queue {
+    /// Before the first sample. It takes no memory.
+    pub fn new(alloc: Global) -> Queue
+        ensures { Stands result [] }
+    {
+        Queue {
+            table: Table::new(alloc),
+            responses: 0,
+            ended: None,
+        }
+    }
+
+    /// The first clock of the request that is snooped next, with the sample of this clock.
+    fn asking_clock(&self, clock: u32, sample: &Sample) -> Option<u32>
+        ensures { (h : Trace) → IsAt self.now clock h →
+            result ≡ live_clock_of (h ++ sample.now ∷ []) (snooped_count h) }
+    {
+        match self.table.asking() {
+            Some(row) => {
+                if cancels(row.seen.clock, clock, sample) {
+                    begins_now(clock, sample)
+                } else {
+                    Some(row.seen.clock)
+                }
+            }
+            None => self.begun_clock(clock, sample),
+        }
+    }
+
+    /// The first clock of the request that began at the last clock, or begins at this one.
+    fn begun_clock(&self, clock: u32, sample: &Sample) -> Option<u32>
+        ensures { (h : Trace) → IsAt self.now clock h → SaysAsking h None →
+            result ≡ live_clock_of (h ++ sample.now ∷ []) (snooped_count h) }
+    {
+        match self.table.begun_last() {
+            Some(_) => Some(clock.saturating_sub(1)),
+            None => begins_now(clock, sample),
+        }
+    }
+
+    /// The snoop end of that request.
+    fn asking_snoop(&self, clock: u32, sample: &Sample) -> Option<u32>
+        ensures { (h : Trace) → IsAt self.now clock h →
+            result ≡ snoop_end_of (h ++ sample.now ∷ []) (snooped_count h) }
+    {
+        match self.table.asking() {
+            Some(row) => {
+                if self.table.ends_snoop(&row, clock, sample) {
+                    Some(clock)
+                } else {
+                    None
+                }
+            }
+            None => None,
+        }
+    }
+
+    /// The end of the request that responded last before this clock, with its sample.
+    fn ended_with(&self, clock: u32, sample: &Sample) -> Option<u32>
+        ensures { (h : Trace) → IsAt self.now clock h →
+            result ≡ value_before (end_of (h ++ sample.now ∷ [])) (response_count h) }
+    {
+        match self.table.chunks() {
+            Some(came) => {
+                if is_last_chunk(came, sample) {
+                    Some(clock)
+                } else {
+                    None
+                }
+            }
+            None => self.ended,
+        }
+    }
+
+    /// The request that responds next, where none has its snoop end and waits for its response.
+    fn next_asking(&self, clock: u32, sample: &Sample) -> Option<Next>
+        ensures { (h : Trace) → IsAt self.now clock h → snoop_end_of h (response_count h) ≡ None →
+            SaysNext (h ++ sample.now ∷ []) clock result }
+    {
+        match self.asking_clock(clock, sample) {
+            Some(begun) => Some(Next {
+                request: Concerned {
+                    number: self.responses,
+                    clock: begun,
+                },
+                snoop: self.asking_snoop(clock, sample),
+                ended: self.ended_with(clock, sample),
+            }),
+            None => None,
+        }
+    }
+
+    /// The request that responds next, which has this row.
+    fn next_of(&self, row: &Row, clock: u32, sample: &Sample) -> Option<Next>
+        ensures { (h : Trace) → IsAt self.now clock h → IsRowOf h (response_count h) row.now →
+            SaysNext (h ++ sample.now ∷ []) clock result }
+    {
+        match row.snoop {
+            Some(snoop) => Some(Next {
+                request: Concerned {
+                    number: self.responses,
+                    clock: row.seen.clock,
+                },
+                snoop: Some(snoop.clock),
+                ended: self.ended_with(clock, sample),
+            }),
+            None => self.next_asking(clock, sample),
+        }
+    }
+
+    /// The request that responds next, with the sample of this clock.
+    fn next(&self, clock: u32, sample: &Sample) -> Option<Next>
+        ensures { (h : Trace) → IsAt self.now clock h →
+            SaysNext (h ++ sample.now ∷ []) clock result }
+    {
+        match self.table.waiting() {
+            Some(row) => self.next_of(&row, clock, sample),
+            None => self.next_asking(clock, sample),
+        }
+    }
+
+    /// Rule 13, response timing.
+    pub fn response_timing(&self, clock: u32, sample: &Sample) -> Option<Reason>
+        ensures { (m : Marks) (h : Trace) → IsAt self.now clock h →
+            Explains m (h ++ sample.now ∷ []) clock 13 result }
+    {
+        if responds(sample) {
+            match self.next(clock, sample) {
+                Some(next) => next.early(clock),
+                None => Some(Reason::NothingToAnswer {
+                    number: self.responses,
+                }),
+            }
+        } else {
+            None
+        }
+    }
+
+    /// Why the rule of this number, 1 to 20, is broken with the next sample: of a rule that `is_explained`, a reason where it
+    /// is broken, and none where it is kept. None for any other rule.
+    pub fn why(&self, rule: u8, sample: &Sample) -> Option<Reason>
+        requires { (h : Trace) × Stands self.now h × (length h < 2 ^ 32) }
+        ensures { (m : Marks) (h : Trace) → Stands self.now h → Orderly h →
+            Tells m (h ++ sample.now ∷ []) (length h) rule
+            (is_explained rule && breaks m (h ++ sample.now ∷ []) (length h) rule) result }
+    {
+        let clock = self.table.clock() as u32;
+        if rule == 13 {
+            self.response_timing(clock, sample)
+        } else {
+            None
+        }
+    }
+
+    /// Takes the next sample. Where memory lacks the queue stands for nothing any more.
+    pub fn feed(&mut self, sample: &Sample) -> Result<(), Memory>
+        requires { (h : Trace) × Stands self.old h × (length h + 1 < 2 ^ 32) }
+        ensures { OnOk result ((h : Trace) → Stands self.old h → Orderly h →
+            Orderly (h ++ sample.now ∷ []) → Stands self.new (h ++ sample.now ∷ [])) }
+    {
+        let clock = self.table.clock() as u32;
+        let before = self.ended_with(clock, sample);
+        self.table.feed(sample)?;
+        let moving = self.table.chunks().is_some();
+        self.ended = ended_after(before, clock, sample, moving);
+        self.responses = responses_after(self.responses, sample);
+        Ok(())
+    }
+}
