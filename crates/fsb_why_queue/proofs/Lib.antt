@@ -1,3 +1,5 @@
 pub mod Head
 pub mod Ends
 pub mod Early
+pub mod Codes
+pub mod Readiness

@@ -1,10 +1,11 @@
 -- For which traces the queue stands.
-use Rattle.std.specs.Prelude.{◌≡◌, ℕ, Bool, nat_eq, length}
+use Rattle.std.specs.Prelude.{◌≡◌, ◌≤◌, ℕ, ◌+◌, Bool, ◌||◌, nat_eq, Some, length}
 use Rattle.fsb_trace.specs.At.{Trace}
+use Rattle.fsb_trace.specs.Requests.{live_clock_of}
 use Rattle.fsb_trace.specs.Response.{end_of}
 use Rattle.fsb_laws.specs.Orderly.{Orderly}
 use Rattle.fsb_laws.specs.Progress.{response_count}
-use Rattle.fsb_heads.specs.Heads.{value_before}
+use Rattle.fsb_heads.specs.Heads.{snooped_count, value_before}
 use Rattle.fsb_owner_feed.specs.Table.{Stands as TableStands}
 use Rattle.fsb_why_queue.specs.declared.queue.Queue.{Queue}
 
@@ -20,6 +21,10 @@ pub record IsAt (queue : Queue) (n : ℕ) (h : Trace) : Type 0 where
   pub orderly : Orderly h
   pub clock : n ≡ length h
 
+-- no request that is snooped next is decoded
+abbrev pub HasNone : Trace → Type 0
+HasNone h = (q : ℕ) → live_clock_of h (snooped_count h) ≡ Some q → length h ≤ q + 1
+
 -- the rules for which an answer is exact
 unfoldable pub is_explained : ℕ → Bool
-is_explained j = nat_eq j 13
+is_explained j = nat_eq j 13 || nat_eq j 14 || nat_eq j 15

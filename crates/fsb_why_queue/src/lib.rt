@@ -11,5 +11,8 @@
 pub use next::Next;
 pub use queue::{Queue, is_explained};
 
+mod code;
+mod kinds;
 mod next;
 mod queue;
+mod ready;

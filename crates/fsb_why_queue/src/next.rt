@@ -8,6 +8,7 @@ ghost use Rattle.fsb_trace.specs.Response.{answer_from, is_clear_before};
 ghost use Rattle.fsb_why.specs.Explains.{Explains};
 ghost use Rattle.fsb_why_queue.specs.Next.{IsNext, SaysWait, later_after};
 
+use fsb_encode::Request;
 use fsb_reasons::{Concerned, Reason, Wait};
 
 /// The live request that responds next, as a trace shows it with its last clock.
@@ -19,10 +20,18 @@ pub struct Next {
     pub snoop: Option<u32>,
     /// The end of the live request before it; none too where it is the first.
     pub ended: Option<u32>,
+    /// The request as it is decoded, where it is.
+    pub decoded: Option<Request>,
+    /// Whether HITM# is asserted at its snoop end.
+    pub handed: bool,
+    /// Whether DEFER# is.
+    pub defer: bool,
+    /// Its ready clock.
+    pub ready: Option<u32>,
 }
 
 /// Whether the earlier clock lies two clocks before this one at least.
-fn is_two_before(earlier: u32, clock: u32) -> bool
+pub fn is_two_before(earlier: u32, clock: u32) -> bool
     ensures { result ≡ nat_le (earlier + 2) clock }
 {
     u64::from(earlier) + 2 <= u64::from(clock)
@@ -56,7 +65,7 @@ impl Next {
     }
 
     /// Why it may not be answered at this clock.
-    fn wait(&self, clock: u32) -> Option<Wait>
+    pub fn wait(&self, clock: u32) -> Option<Wait>
         ensures { (v : Trace) → IsNext self.now v clock →
             SaysWait v clock self.now.request.number result }
     {
@@ -77,7 +86,7 @@ impl Next {
     }
 
     /// The earliest clock at which it may be answered, where its snoop end and the end before it are reached.
-    fn earliest(&self, clock: u32) -> Option<u64>
+    pub fn earliest(&self, clock: u32) -> Option<u64>
         ensures { (v : Trace) → IsNext self.now v clock →
             result ≡ answer_from v self.now.request.number }
     {

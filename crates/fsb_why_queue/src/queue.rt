@@ -1,30 +1,34 @@
 //! The machine that follows a trace.
 
-ghost use Rattle.std.specs.Prelude.{◌≡◌, ◌<◌, ◌+◌, ◌^◌, ◌&&◌, true, nat_eq, [], ◌∷◌, ◌++◌, length, OnOk, if◌then◌else◌, Some, None};
+ghost use Rattle.std.specs.Prelude.{◌≡◌, ◌<◌, ◌≤◌, ℕ, ◌+◌, ◌^◌, ◌&&◌, not, true, nat_eq, nat_le, is_some, [], ◌∷◌, ◌++◌, length, OnOk, if◌then◌else◌, Some, None};
 ghost use Rattle.fsb_signal.specs.declared.marks.Marks.{Marks};
 ghost use Rattle.fsb_signal.specs.declared.lines.TheConstants.Lines.{ADS, DRDY};
-ghost use Rattle.fsb_signal.specs.Samples.{has_line};
+ghost use Rattle.fsb_signal.specs.Samples.{has_line, response_of};
 ghost use Rattle.fsb_trace.specs.At.{Trace};
-ghost use Rattle.fsb_trace.specs.Requests.{live_clock_of};
-ghost use Rattle.fsb_trace.specs.Rules.{breaks};
+ghost use Rattle.fsb_trace.specs.Requests.{live_count};
+ghost use Rattle.fsb_trace.specs.Rules.{breaks, next_response};
 ghost use Rattle.fsb_trace.specs.Snoop.{snoop_end_of};
-ghost use Rattle.fsb_trace.specs.Response.{end_of};
+ghost use Rattle.fsb_trace.specs.Response.{end_of, ready_clock_of};
+ghost use Rattle.fsb_trace.specs.Outcome.{response_code_of};
+ghost use Rattle.fsb_trace.specs.declared.outcome.Outcome.TheVariants.{Failed};
 ghost use Rattle.fsb_laws.specs.OneMore.{cancels, responds};
 ghost use Rattle.fsb_laws.specs.Orderly.{Orderly};
 ghost use Rattle.fsb_laws.specs.Progress.{response_count};
 ghost use Rattle.fsb_heads.specs.Heads.{snooped_count, value_before};
-ghost use Rattle.fsb_owner_feed.specs.Table.{IsRowOf, SaysAsking};
+ghost use Rattle.fsb_owner_feed.specs.Table.{IsRowOf};
 ghost use Rattle.fsb_why.specs.Explains.{Explains, Tells};
-ghost use Rattle.fsb_why_queue.specs.Next.{SaysNext};
-ghost use Rattle.fsb_why_queue.specs.Queue.{IsAt, Stands, is_explained};
+ghost use Rattle.fsb_why_queue.specs.Next.{IsNext, SaysAsked, SaysNext};
+ghost use Rattle.fsb_why_queue.specs.Queue.{HasNone, IsAt, Stands, is_explained};
 
 use crate::next::Next;
+use fsb_encode::Request;
 use fsb_heads::responds;
 use fsb_io::Memory;
 use fsb_owner_feed::Table;
 use fsb_owner_table::Row;
 use fsb_reasons::{Concerned, Reason};
 use fsb_signal::{Lines, Sample};
+use fsb_trace::{Outcome, code_of};
 use std::alloc::Global;
 
 /// Follows a trace, and says why a rule of the queue is broken with the next sample.
@@ -42,17 +46,75 @@ pub struct Queue {
 pub fn is_explained(rule: u8) -> bool
     ensures { result ≡ is_explained rule }
 {
-    rule == 13
+    rule == 13 || rule == 14 || rule == 15
 }
 
-/// This clock, where a request begins with its sample.
-fn begins_now(clock: u32, sample: &Sample) -> Option<u32>
-    ensures { result ≡ (if has_line sample.now ADS then Some clock else None) }
+/// A request without its snoop end.
+#[derive(Clone, Copy, Debug, PartialEq, Eq)]
+struct Asked {
+    /// Its first clock.
+    clock: u32,
+    /// The request as it is decoded, where it is.
+    request: Option<Request>,
+}
+
+/// The request that begins at this clock with its sample.
+fn asked_now(clock: u32, sample: &Sample) -> Option<Asked>
+    ensures { result ≡ (if has_line sample.now ADS
+        then Some (record { clock = clock; request = None }) else None) }
 {
     if sample.has(Lines::ADS) {
-        Some(clock)
+        Some(Asked {
+            clock,
+            request: None,
+        })
     } else {
         None
+    }
+}
+
+/// Whether a request that began then has its second clock before this one.
+fn is_decoded(begun: u32, clock: u32) -> bool
+    ensures { result ≡ nat_le (begun + 2) clock }
+{
+    u64::from(begun) + 2 <= u64::from(clock)
+}
+
+/// Whether both hold.
+fn both(one: bool, other: bool) -> bool
+    ensures { result ≡ (one && other) }
+{
+    one && other
+}
+
+/// Whether a snoop ends with the sample, in which the line is asserted.
+fn has_then(snoop: Option<u32>, sample: &Sample, line: Lines) -> bool
+    ensures { result ≡ (is_some snoop && has_line sample.now line) }
+{
+    snoop.is_some() && sample.has(line)
+}
+
+/// Whether the sample has a response that is no hard failure.
+fn is_sound(sample: &Sample) -> bool
+    ensures { result ≡ (responds sample.now
+        && not (nat_eq (response_of sample.now) (response_code_of Failed))) }
+{
+    responds(sample) && sample.response() != code_of(Outcome::Failed)
+}
+
+/// The request with this row, which is snooped next, unless the sample of this clock cancels it, and else the one that begins
+/// with it.
+fn asked_by(row: &Row, clock: u32, sample: &Sample) -> Option<Asked>
+    ensures { (h : Trace) → Orderly h → clock ≡ length h → IsRowOf h (snooped_count h) row.now →
+        row.now.seen.clock + 2 ≤ clock → SaysAsked (h ++ sample.now ∷ []) (snooped_count h) result }
+{
+    if cancels(row.seen.clock, clock, sample) {
+        asked_now(clock, sample)
+    } else {
+        Some(Asked {
+            clock: row.seen.clock,
+            request: row.seen.request,
+        })
     }
 }
 
@@ -109,31 +171,34 @@ impl Queue {
         }
     }
 
-    /// The first clock of the request that is snooped next, with the sample of this clock.
-    fn asking_clock(&self, clock: u32, sample: &Sample) -> Option<u32>
+    /// The request that is snooped next, with the sample of this clock.
+    fn asked(&self, clock: u32, sample: &Sample) -> Option<Asked>
         ensures { (h : Trace) → IsAt self.now clock h →
-            result ≡ live_clock_of (h ++ sample.now ∷ []) (snooped_count h) }
+            SaysAsked (h ++ sample.now ∷ []) (snooped_count h) result }
     {
         match self.table.asking() {
             Some(row) => {
-                if cancels(row.seen.clock, clock, sample) {
-                    begins_now(clock, sample)
+                if is_decoded(row.seen.clock, clock) {
+                    asked_by(&row, clock, sample)
                 } else {
-                    Some(row.seen.clock)
+                    self.asked_last(clock, sample)
                 }
             }
-            None => self.begun_clock(clock, sample),
+            None => self.asked_last(clock, sample),
         }
     }
 
-    /// The first clock of the request that began at the last clock, or begins at this one.
-    fn begun_clock(&self, clock: u32, sample: &Sample) -> Option<u32>
-        ensures { (h : Trace) → IsAt self.now clock h → SaysAsking h None →
-            result ≡ live_clock_of (h ++ sample.now ∷ []) (snooped_count h) }
+    /// The request that began at the last clock, or begins at this one.
+    fn asked_last(&self, clock: u32, sample: &Sample) -> Option<Asked>
+        ensures { (h : Trace) → IsAt self.now clock h → HasNone h →
+            SaysAsked (h ++ sample.now ∷ []) (snooped_count h) result }
     {
         match self.table.begun_last() {
-            Some(_) => Some(clock.saturating_sub(1)),
-            None => begins_now(clock, sample),
+            Some(begun) => Some(Asked {
+                clock: clock.saturating_sub(1),
+                request: begun.request(sample),
+            }),
+            None => asked_now(clock, sample),
         }
     }
 
@@ -171,21 +236,52 @@ impl Queue {
         }
     }
 
+    /// The ready clock of the request that responds next, with the sample of this clock.
+    fn ready_with(&self, clock: u32, sample: &Sample) -> Option<u32>
+        ensures { (h : Trace) → IsAt self.now clock h →
+            result ≡ ready_clock_of (h ++ sample.now ∷ []) (response_count h) }
+    {
+        match self.table.ready() {
+            Some(ready) => Some(ready),
+            None => {
+                if both(sample.has(Lines::TRDY), self.table.may_answer(clock)) {
+                    Some(clock)
+                } else {
+                    None
+                }
+            }
+        }
+    }
+
     /// The request that responds next, where none has its snoop end and waits for its response.
     fn next_asking(&self, clock: u32, sample: &Sample) -> Option<Next>
         ensures { (h : Trace) → IsAt self.now clock h → snoop_end_of h (response_count h) ≡ None →
             SaysNext (h ++ sample.now ∷ []) clock result }
     {
-        match self.asking_clock(clock, sample) {
-            Some(begun) => Some(Next {
-                request: Concerned {
-                    number: self.responses,
-                    clock: begun,
-                },
-                snoop: self.asking_snoop(clock, sample),
-                ended: self.ended_with(clock, sample),
-            }),
+        match self.asked(clock, sample) {
+            Some(asked) => Some(self.next_asked(&asked, clock, sample)),
             None => None,
+        }
+    }
+
+    /// The request that responds next, which is this one, and is snooped next too.
+    fn next_asked(&self, asked: &Asked, clock: u32, sample: &Sample) -> Next
+        ensures { (h : Trace) → IsAt self.now clock h → snoop_end_of h (response_count h) ≡ None →
+            SaysAsked (h ++ sample.now ∷ []) (snooped_count h) (Some asked.now) →
+            IsNext result (h ++ sample.now ∷ []) clock }
+    {
+        let snoop = self.asking_snoop(clock, sample);
+        Next {
+            request: Concerned {
+                number: self.responses,
+                clock: asked.clock,
+            },
+            snoop,
+            ended: self.ended_with(clock, sample),
+            decoded: asked.request,
+            handed: has_then(snoop, sample, Lines::HITM),
+            defer: has_then(snoop, sample, Lines::DEFER),
+            ready: self.ready_with(clock, sample),
         }
     }
 
@@ -202,6 +298,10 @@ impl Queue {
                 },
                 snoop: Some(snoop.clock),
                 ended: self.ended_with(clock, sample),
+                decoded: row.seen.request,
+                handed: snoop.hitm,
+                defer: snoop.defer,
+                ready: self.ready_with(clock, sample),
             }),
             None => self.next_asking(clock, sample),
         }
@@ -235,6 +335,50 @@ impl Queue {
         }
     }
 
+    /// Rule 14, response code.
+    pub fn response_code(&self, clock: u32, sample: &Sample) -> Option<Reason>
+        ensures { (m : Marks) (h : Trace) → IsAt self.now clock h →
+            Explains m (h ++ sample.now ∷ []) clock 14 result }
+    {
+        if is_sound(sample) {
+            match self.next(clock, sample) {
+                Some(next) => next.wrong_code(sample.response()),
+                None => Some(Reason::CodeForNone {
+                    number: self.responses,
+                    code: sample.response(),
+                }),
+            }
+        } else {
+            None
+        }
+    }
+
+    /// Rule 15, target ready.
+    pub fn target_ready(&self, clock: u32, sample: &Sample) -> Option<Reason>
+        ensures { (m : Marks) (h : Trace) → IsAt self.now clock h →
+            Explains m (h ++ sample.now ∷ []) clock 15 result }
+    {
+        match self.next(clock, sample) {
+            Some(next) => next.wrongly_ready(clock, sample.has(Lines::TRDY), is_sound(sample)),
+            None => self.ready_for_none(sample),
+        }
+    }
+
+    /// Why TRDY# is for no request, where there is none that responds next.
+    fn ready_for_none(&self, sample: &Sample) -> Option<Reason>
+        ensures { (m : Marks) (h : Trace) (c : ℕ) → IsAt self.now c h →
+            live_count (h ++ sample.now ∷ []) ≤ next_response (h ++ sample.now ∷ []) c →
+            Explains m (h ++ sample.now ∷ []) c 15 result }
+    {
+        if sample.has(Lines::TRDY) {
+            Some(Reason::ReadyForNone {
+                number: self.responses,
+            })
+        } else {
+            None
+        }
+    }
+
     /// Why the rule of this number, 1 to 20, is broken with the next sample: of a rule that `is_explained`, a reason where it
     /// is broken, and none where it is kept. None for any other rule.
     pub fn why(&self, rule: u8, sample: &Sample) -> Option<Reason>
@@ -246,6 +390,10 @@ impl Queue {
         let clock = self.table.clock() as u32;
         if rule == 13 {
             self.response_timing(clock, sample)
+        } else if rule == 14 {
+            self.response_code(clock, sample)
+        } else if rule == 15 {
+            self.target_ready(clock, sample)
         } else {
             None
         }

@@ -1,19 +1,18 @@
-use Rattle.std.proofs.Common.{sym, ap, ◌∙◌, [], ◌∷◌, ◌++◌}
+use Rattle.std.proofs.Common.{sym, ap, subst, refl, cond, ◌∙◌, ◌≡◌, [], ◌∷◌, ◌++◌, length, true, false, Some, None, nat_eq, ◌||◌, ◌&&◌, ◌+◌, arith}
 use Rattle.fsb_trace.specs.Requests.{live_clock_of}
-use Rattle.fsb_trace.specs.Snoop.{snoop_end_of}
-use Rattle.fsb_why_queue.proofs.Head.{next_is, none_next, same_head}
+use Rattle.fsb_heads.specs.Heads.{snooped_count}
+use Rattle.fsb_why_queue.specs.Next.{SaysAsked}
+use Rattle.fsb_why_queue.proofs.Head.{none_next, same_head}
 use Rattle.fsb_why_queue.proofs.queue.Queue.next_asking.Goals as goal
 
 pub returns-in-Some : goal.returns-in-Some
 returns-in-Some c = λ h g none.
-    let same = same_head h g.orderly none in
-    next_is h c.args.sample.now c.args.clock _ g.clock (g.stands).responses
-    (ap (live_clock_of (h ++ c.args.sample.now ∷ [])) (sym same) ∙ (sym (c.asking_clock.ensures h g) ∙ c.in-Some.is))
-    (c.asking_snoop.ensures h g ∙ ap (snoop_end_of (h ++ c.args.sample.now ∷ [])) same)
-    (c.ended_with.ensures h g)
+    c.next_asked.ensures h g none
+    (subst (SaysAsked (h ++ c.args.sample.now ∷ []) (snooped_count h)) c.in-Some.is (c.asked.ensures h g))
 
 pub returns-in-None : goal.returns-in-None
 returns-in-None c = λ h g none.
-    let same = same_head h g.orderly none in
+    let v : _ = h ++ c.args.sample.now ∷ [] in
     none_next h c.args.sample.now c.args.clock g.clock
-    (ap (live_clock_of (h ++ c.args.sample.now ∷ [])) (sym same) ∙ (sym (c.asking_clock.ensures h g) ∙ c.in-None.is))
+    (ap (live_clock_of v) (sym (same_head h g.orderly none))
+    ∙ subst (SaysAsked v (snooped_count h)) c.in-None.is (c.asked.ensures h g))

@@ -1,18 +1,22 @@
-use Rattle.std.proofs.Common.{sym, ◌∙◌}
-use Rattle.fsb_why_queue.proofs.Head.{next_is, row_snoop, snooped_parts, unsnooped, snoop_stays, clock_stays}
+use Rattle.std.proofs.Common.{sym, ap, subst, refl, cond, ◌∙◌, ◌≡◌, [], ◌∷◌, ◌++◌, length, true, false, Some, None, nat_eq, ◌||◌, ◌&&◌, ◌+◌, arith}
+use Rattle.fsb_why_queue.proofs.Head.{clock_stays, next_is, request_stays, row_snoop, snoop_stays, snooped_lines, snooped_parts, unsnooped}
 use Rattle.fsb_trace.specs.Snoop.{snoop_end_of}
 use Rattle.fsb_laws.specs.Progress.{response_count}
 use Rattle.fsb_why_queue.proofs.queue.Queue.next_of.Goals as goal
 
 pub returns-in-Some : goal.returns-in-Some
 returns-in-Some c = λ h g r.
+    let x : _ = c.args.sample.now in
     let i : _ = response_count h in
-    let end = snooped_parts h c.in-Some.snoop (snoop_end_of h i)
-    (sym c.in-Some.is ∙ row_snoop h i c.args.row.now r) in
-    next_is h c.args.sample.now c.args.clock _ g.clock (g.stands).responses
-    (clock_stays h c.args.sample.now i c.in-Some.snoop.clock c.args.row.now.seen.clock (g.orderly).spaced r.clock end)
-    (sym (snoop_stays h c.args.sample.now i c.in-Some.snoop.clock end))
+    let is = sym c.in-Some.is ∙ row_snoop h i c.args.row.now r in
+    let end = snooped_parts h c.in-Some.snoop (snoop_end_of h i) is in
+    let lines = snooped_lines h x i c.in-Some.snoop is in
+    next_is h x c.args.clock _ g.clock (g.stands).responses
+    (clock_stays h x i c.in-Some.snoop.clock c.args.row.now.seen.clock (g.orderly).spaced r.clock end)
+    (sym (snoop_stays h x i c.in-Some.snoop.clock end))
     (c.ended_with.ensures h g)
+    (request_stays h x i c.in-Some.snoop.clock c.args.row.now r end)
+    lines.0 lines.1 (c.ready_with.ensures h g)
 
 pub returns-in-None : goal.returns-in-None
 returns-in-None c = λ h g r.
