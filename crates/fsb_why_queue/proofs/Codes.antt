@@ -1,16 +1,15 @@
 -- Reasons of rule 14.
-use Rattle.std.proofs.Common.{ℕ, ◌+◌, ◌<◌, ◌≤◌, ◌≡◌, Bool, true, false, cond, ◌&&◌, ◌||◌, not, Option, Some, None}
-use Rattle.std.proofs.Common.{[], ◌∷◌, ◌++◌, length, refl, sym, ap, subst, ◌∙◌, arith, nat_eq, nat_lt}
+use Rattle.std.proofs.Common.{ℕ, ◌≤◌, ◌≡◌, Bool, true, false, cond, ◌&&◌, ◌||◌, not, Some, None}
+use Rattle.std.proofs.Common.{[], ◌∷◌, ◌++◌, length, refl, sym, ap, subst, ◌∙◌, nat_eq, nat_lt}
 use Rattle.std.proofs.lemmas.Bool.{and_from, and_left, and_right, lt-ltb, or_parts}
-use Rattle.fsb_signal.specs.declared.lines.TheConstants.Lines.{DEFER, HITM}
 use Rattle.fsb_signal.specs.declared.marks.Marks.{Marks}
 use Rattle.fsb_signal.specs.declared.sample.Sample.{Sample}
 use Rattle.fsb_signal.specs.Samples.{response_of}
 use Rattle.fsb_trace.specs.declared.outcome.Outcome.{Outcome}
 use Rattle.fsb_trace.specs.declared.outcome.Outcome.TheVariants.{Granted, Handed, Retried, Deferred, Written, Upgraded, Failed}
 use Rattle.fsb_trace.specs.At.{Trace, response_code_at}
-use Rattle.fsb_trace.specs.Requests.{is_upgrade, is_write_back, live_count, live_request_of}
-use Rattle.fsb_trace.specs.Snoop.{line_at_snoop_end, snoop_end_of}
+use Rattle.fsb_trace.specs.Requests.{is_upgrade, is_write_back, live_count}
+use Rattle.fsb_trace.specs.Snoop.{snoop_end_of}
 use Rattle.fsb_trace.specs.Outcome.{response_code_of}
 use Rattle.fsb_trace.specs.Rules.{breaks, has_code_at, has_den, is_code_for, is_code_wrong, next_response, phase_rules, responds_soundly}
 use Rattle.fsb_trace.proofs.Interface.{live_below_count}

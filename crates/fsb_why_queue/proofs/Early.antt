@@ -103,10 +103,11 @@ explains-at m v c j k (Some reason) e h = subst (λ i. IsReason m v c i reason) 
 off : (j k : ℕ) → (j ≡ k → ⊥) → nat_eq j k ≡ false
 off j k n = false_from_ne_true _ (λ t. n (eqb-true j k t))
 
-not_explained : (j : ℕ) → (j ≡ 13 → ⊥) → (j ≡ 14 → ⊥) → (j ≡ 15 → ⊥) → is_explained j ≡ false
+not_explained : (j : ℕ) → (j ≡ 11 → ⊥) → (j ≡ 12 → ⊥) → (j ≡ 13 → ⊥) → (j ≡ 14 → ⊥) → (j ≡ 15 → ⊥)
+    → is_explained j ≡ false
 unfolding is_explained
-not_explained j a b d = rw (off j 13 a, off j 14 b, off j 15 d) refl
+not_explained j a b d e f = rw (off j 11 a, off j 12 b, off j 13 d, off j 14 e, off j 15 f) refl
 
-pub unexplained : (m : Marks) (v : Trace) (c j : ℕ) → (j ≡ 13 → ⊥) → (j ≡ 14 → ⊥) → (j ≡ 15 → ⊥)
-    → (is_explained j && breaks m v c j) ≡ false
-unexplained m v c j a b d = and_left (is_explained j) (breaks m v c j) (not_explained j a b d)
+pub unexplained : (m : Marks) (v : Trace) (c j : ℕ) → (j ≡ 11 → ⊥) → (j ≡ 12 → ⊥) → (j ≡ 13 → ⊥) → (j ≡ 14 → ⊥)
+    → (j ≡ 15 → ⊥) → (is_explained j && breaks m v c j) ≡ false
+unexplained m v c j a b d e f = and_left (is_explained j) (breaks m v c j) (not_explained j a b d e f)

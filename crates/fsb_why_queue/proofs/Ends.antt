@@ -9,6 +9,8 @@ use Rattle.fsb_signal.specs.declared.sample.Sample.{Sample}
 use Rattle.fsb_signal.specs.Samples.{has_line, line_at}
 use Rattle.fsb_trace.specs.At.{Trace, responds_at}
 use Rattle.fsb_trace.specs.Outcome.{moves_data, response_clock_of}
+use Rattle.fsb_trace.specs.Requests.{is_live, live_count}
+use Rattle.fsb_trace.specs.Snoop.{snoop_end_of}
 use Rattle.fsb_trace.specs.Response.{data_clock_of, end_of}
 use Rattle.fsb_trace.proofs.Interface.{end_of-response}
 use Rattle.fsb_laws.specs.OneMore.{OneMore, responds}
@@ -17,7 +19,7 @@ use Rattle.fsb_laws.specs.Progress.{response_count, transfer_of}
 use Rattle.fsb_laws.proofs.Interface.{chunks_of-form, end_of-kept, ends_to-moving, ends_to-still, line_at-new, line_at-old}
 use Rattle.fsb_laws.proofs.Interface.{moves_data-old, one_more, response_clock_of-new, response_clock_of-old, response_there}
 use Rattle.fsb_laws.proofs.Interface.{transfer_parts, transferring_form, response_count-empty, response_count-kept}
-use Rattle.fsb_heads.specs.Heads.{value_before}
+use Rattle.fsb_heads.specs.Heads.{last_snoop_end, snooped_count, value_before}
 use Rattle.fsb_heads.proofs.Interface.{count_answered}
 
 before_suc : (f : ℕ → Option ℕ) (n i : ℕ) → n ≡ suc i → value_before f n ≡ f i
@@ -161,3 +163,17 @@ most p (suc n) = let less = most p n in let one = one_at_most (p n) in omega (ar
 pub few_responses : (h : Trace) → response_count h ≤ length h
 unfolding response_count
 few_responses h = most (responds_at h) (length h)
+
+-- nor more snoops
+pub few_snoops : (h : Trace) → snooped_count h ≤ length h
+unfolding snooped_count live_count
+few_snoops h =
+    let a = most (λ i. is_some (snoop_end_of h i)) (count_where (is_live h) (length h)) in
+    let b = most (is_live h) (length h) in omega (arith, a, b)
+
+pub snooped-empty : 0 ≡ snooped_count []
+snooped-empty = let few = few_snoops [] in omega (arith, few)
+
+pub last-empty : None ≡ last_snoop_end []
+unfolding last_snoop_end value_before
+last-empty = rw (sym snooped-empty) refl

@@ -211,7 +211,7 @@ next_is h x n next e a q s d r hitm defer ready = record {
   ready = ready ∙ sym (ap (ready_clock_of (h ++ x ∷ [])) a);
 }
 
-none_left : (v : Trace) (i : ℕ) → live_clock_of v i ≡ None → live_count v ≤ i
+pub none_left : (v : Trace) (i : ℕ) → live_clock_of v i ≡ None → live_count v ≤ i
 unfolding live_clock_of live_count
 none_left v i e =
     elim (cases_lt i (live_count v)) [

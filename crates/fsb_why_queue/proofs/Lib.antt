@@ -3,3 +3,4 @@ pub mod Ends
 pub mod Early
 pub mod Codes
 pub mod Readiness
+pub mod Asking

@@ -1,10 +1,10 @@
 -- Reasons of rule 15.
 use Rattle.std.proofs.Common.{ℕ, ◌+◌, ◌<◌, ◌≤◌, ◌≡◌, Bool, true, false, ◌&&◌, ◌||◌, not, Option, Some, None}
-use Rattle.std.proofs.Common.{[], ◌∷◌, ◌++◌, length, refl, sym, ap, subst, ◌∙◌, arith, nat_le, nat_lt}
-use Rattle.std.proofs.lemmas.Bool.{and_from, and_left, and_right, le-ltb, not_from_true, or_from, or_parts}
+use Rattle.std.proofs.Common.{[], ◌∷◌, ◌++◌, length, refl, sym, ap, subst, ◌∙◌, nat_le}
+use Rattle.std.proofs.lemmas.Bool.{and_left, and_right, le-ltb, not_from_true, or_from, or_parts}
 use Rattle.std.specs.Option.{option_map}
 use Rattle.fsb_count.specs.Options.{is_before, is_some_and}
-use Rattle.fsb_signal.specs.declared.lines.TheConstants.Lines.{HITM, TRDY}
+use Rattle.fsb_signal.specs.declared.lines.TheConstants.Lines.{TRDY}
 use Rattle.fsb_signal.specs.declared.marks.Marks.{Marks}
 use Rattle.fsb_signal.specs.declared.sample.Sample.{Sample}
 use Rattle.fsb_signal.specs.Samples.{has_line, line_at}

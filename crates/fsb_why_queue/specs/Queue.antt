@@ -5,7 +5,7 @@ use Rattle.fsb_trace.specs.Requests.{live_clock_of}
 use Rattle.fsb_trace.specs.Response.{end_of}
 use Rattle.fsb_laws.specs.Orderly.{Orderly}
 use Rattle.fsb_laws.specs.Progress.{response_count}
-use Rattle.fsb_heads.specs.Heads.{snooped_count, value_before}
+use Rattle.fsb_heads.specs.Heads.{last_snoop_end, snooped_count, value_before}
 use Rattle.fsb_owner_feed.specs.Table.{Stands as TableStands}
 use Rattle.fsb_why_queue.specs.declared.queue.Queue.{Queue}
 
@@ -13,6 +13,8 @@ use Rattle.fsb_why_queue.specs.declared.queue.Queue.{Queue}
 pub record Stands (queue : Queue) (h : Trace) : Type 0 where
   pub table : TableStands queue.table h
   pub responses : queue.responses ≡ response_count h
+  pub snooped : queue.snooped ≡ snooped_count h
+  pub last : queue.last ≡ last_snoop_end h
   pub ended : queue.ended ≡ value_before (end_of h) (response_count h)
 
 -- clock n comes after a trace that the queue stands for, whose requests keep their distance and responses their time
@@ -27,4 +29,4 @@ HasNone h = (q : ℕ) → live_clock_of h (snooped_count h) ≡ Some q → lengt
 
 -- the rules for which an answer is exact
 unfoldable pub is_explained : ℕ → Bool
-is_explained j = nat_eq j 13 || nat_eq j 14 || nat_eq j 15
+is_explained j = nat_eq j 11 || nat_eq j 12 || nat_eq j 13 || nat_eq j 14 || nat_eq j 15

@@ -1,7 +1,7 @@
 //! What a request is, where it is decoded.
 
 ghost use Rattle.std.specs.Prelude.{◌≡◌};
-ghost use Rattle.fsb_trace.specs.Requests.{is_upgrade, is_write_back};
+ghost use Rattle.fsb_trace.specs.Requests.{is_reply, is_upgrade, is_write_back};
 ghost use Rattle.fsb_trace.specs.Rules.{has_den};
 
 use fsb_encode::{Kind, Request};
@@ -15,6 +15,20 @@ pub fn is_write_back(request: Option<Request>) -> bool
         Some(request) => match request.kind {
             Kind::WriteBack => true,
             Kind::Reply | Kind::Invalidate | Kind::Read | Kind::Upgrade => false,
+        },
+        None => false,
+    }
+}
+
+/// Whether the request is decoded and is a reply.
+#[tactic(auto, unfolding(fsb_trace::specs::Requests::is_reply, fsb_trace::specs::Requests::is_reply_kind, fsb_count::specs::Options::is_some_and))]
+pub fn is_reply(request: Option<Request>) -> bool
+    ensures { result ≡ is_reply request }
+{
+    match request {
+        Some(request) => match request.kind {
+            Kind::Reply => true,
+            Kind::WriteBack | Kind::Invalidate | Kind::Read | Kind::Upgrade => false,
         },
         None => false,
     }

@@ -10,9 +10,11 @@
 
 pub use next::Next;
 pub use queue::{Queue, is_explained};
+pub use snoops::Snooping;
 
 mod code;
 mod kinds;
 mod next;
 mod queue;
 mod ready;
+mod snoops;

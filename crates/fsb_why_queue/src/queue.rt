@@ -2,12 +2,13 @@
 
 ghost use Rattle.std.specs.Prelude.{◌≡◌, ◌<◌, ◌≤◌, ℕ, ◌+◌, ◌^◌, ◌&&◌, not, true, nat_eq, nat_le, is_some, [], ◌∷◌, ◌++◌, length, OnOk, if◌then◌else◌, Some, None};
 ghost use Rattle.fsb_signal.specs.declared.marks.Marks.{Marks};
+ghost use Rattle.fsb_signal.specs.declared.sample.Sample.{Sample};
 ghost use Rattle.fsb_signal.specs.declared.lines.TheConstants.Lines.{ADS, DRDY};
 ghost use Rattle.fsb_signal.specs.Samples.{has_line, response_of};
 ghost use Rattle.fsb_trace.specs.At.{Trace};
-ghost use Rattle.fsb_trace.specs.Requests.{live_count};
+ghost use Rattle.fsb_trace.specs.Requests.{live_clock_of, live_count};
 ghost use Rattle.fsb_trace.specs.Rules.{breaks, next_response};
-ghost use Rattle.fsb_trace.specs.Snoop.{snoop_end_of};
+ghost use Rattle.fsb_trace.specs.Snoop.{snoop_end_of, snoop_start_of};
 ghost use Rattle.fsb_trace.specs.Response.{end_of, ready_clock_of};
 ghost use Rattle.fsb_trace.specs.Outcome.{response_code_of};
 ghost use Rattle.fsb_trace.specs.declared.outcome.Outcome.TheVariants.{Failed};
@@ -18,9 +19,11 @@ ghost use Rattle.fsb_heads.specs.Heads.{snooped_count, value_before};
 ghost use Rattle.fsb_owner_feed.specs.Table.{IsRowOf};
 ghost use Rattle.fsb_why.specs.Explains.{Explains, Tells};
 ghost use Rattle.fsb_why_queue.specs.Next.{IsNext, SaysAsked, SaysNext};
+ghost use Rattle.fsb_why_queue.specs.Snoops.{SaysSnooping};
 ghost use Rattle.fsb_why_queue.specs.Queue.{HasNone, IsAt, Stands, is_explained};
 
 use crate::next::Next;
+use crate::snoops::{Snooping, is_any, snoop_lines};
 use fsb_encode::Request;
 use fsb_heads::responds;
 use fsb_io::Memory;
@@ -37,6 +40,10 @@ pub struct Queue {
     table: Table,
     /// How many responses came.
     responses: u32,
+    /// How many snoops ended.
+    snooped: u32,
+    /// The last snoop end.
+    last: Option<u32>,
     /// The end of the request that responded last.
     ended: Option<u32>,
 }
@@ -46,7 +53,7 @@ pub struct Queue {
 pub fn is_explained(rule: u8) -> bool
     ensures { result ≡ is_explained rule }
 {
-    rule == 13 || rule == 14 || rule == 15
+    rule == 11 || rule == 12 || rule == 13 || rule == 14 || rule == 15
 }
 
 /// A request without its snoop end.
@@ -144,6 +151,24 @@ fn responses_after(responses: u32, sample: &Sample) -> u32
     }
 }
 
+/// How many snoops ended, after one more or none.
+fn snooped_after(snooped: u32, end: Option<u32>) -> u32
+    ensures { snooped + 1 < 2 ^ 32 → result ≡ snooped + (if is_some end then 1 else 0) }
+{
+    if end.is_some() {
+        snooped.saturating_add(1)
+    } else {
+        snooped
+    }
+}
+
+/// The last snoop end, after this one or none.
+fn last_after(last: Option<u32>, end: Option<u32>) -> Option<u32>
+    ensures { result ≡ (if is_some end then end else last) }
+{
+    if end.is_some() { end } else { last }
+}
+
 /// The end of the request that responded last, after the sample of this clock: the one before, where it is no response,
 /// and else this clock or none, where data move after it.
 fn ended_after(before: Option<u32>, clock: u32, sample: &Sample, moving: bool) -> Option<u32>
@@ -167,6 +192,8 @@ impl Queue {
         Queue {
             table: Table::new(alloc),
             responses: 0,
+            snooped: 0,
+            last: None,
             ended: None,
         }
     }
@@ -318,6 +345,65 @@ impl Queue {
         }
     }
 
+    /// The first snoop clock of the request that is snooped next, which began at this clock.
+    fn start_of(&self, begun: u32) -> u64
+        ensures { (h : Trace) (x : Sample) (n : ℕ) → IsAt self.now n h →
+            live_clock_of (h ++ x ∷ []) (snooped_count h) ≡ Some begun →
+            snoop_start_of (h ++ x ∷ []) (snooped_count h) ≡ Some result }
+    {
+        let earliest = u64::from(begun) + 4;
+        match self.last {
+            Some(end) => earliest.max(u64::from(end) + 3),
+            None => earliest,
+        }
+    }
+
+    /// The request that is snooped next, with what a trace shows of its snoop with the sample of this clock.
+    fn snooping(&self, clock: u32, sample: &Sample) -> Option<Snooping>
+        ensures { (h : Trace) → IsAt self.now clock h →
+            SaysSnooping (h ++ sample.now ∷ []) clock result }
+    {
+        match self.asked(clock, sample) {
+            Some(asked) => Some(Snooping {
+                request: Concerned {
+                    number: self.snooped,
+                    clock: asked.clock,
+                },
+                start: self.start_of(asked.clock),
+                ends: self.asking_snoop(clock, sample).is_some(),
+                decoded: asked.request,
+            }),
+            None => None,
+        }
+    }
+
+    /// Rule 11, snoop lines in snoop clocks.
+    pub fn snoop_line(&self, clock: u32, sample: &Sample) -> Option<Reason>
+        ensures { (m : Marks) (h : Trace) → IsAt self.now clock h →
+            Explains m (h ++ sample.now ∷ []) clock 11 result }
+    {
+        let lines = snoop_lines(sample);
+        if is_any(lines) {
+            match self.snooping(clock, sample) {
+                Some(snooping) => snooping.alone(lines, clock),
+                None => Some(Reason::SnoopsOver { lines }),
+            }
+        } else {
+            None
+        }
+    }
+
+    /// Rule 12, snoop results of write-backs and replies.
+    pub fn snoop_result(&self, clock: u32, sample: &Sample) -> Option<Reason>
+        ensures { (m : Marks) (h : Trace) → IsAt self.now clock h →
+            Explains m (h ++ sample.now ∷ []) clock 12 result }
+    {
+        match self.snooping(clock, sample) {
+            Some(snooping) => snooping.unfit(snoop_lines(sample)),
+            None => None,
+        }
+    }
+
     /// Rule 13, response timing.
     pub fn response_timing(&self, clock: u32, sample: &Sample) -> Option<Reason>
         ensures { (m : Marks) (h : Trace) → IsAt self.now clock h →
@@ -388,7 +474,11 @@ impl Queue {
             (is_explained rule && breaks m (h ++ sample.now ∷ []) (length h) rule) result }
     {
         let clock = self.table.clock() as u32;
-        if rule == 13 {
+        if rule == 11 {
+            self.snoop_line(clock, sample)
+        } else if rule == 12 {
+            self.snoop_result(clock, sample)
+        } else if rule == 13 {
             self.response_timing(clock, sample)
         } else if rule == 14 {
             self.response_code(clock, sample)
@@ -407,10 +497,13 @@ impl Queue {
     {
         let clock = self.table.clock() as u32;
         let before = self.ended_with(clock, sample);
+        let end = self.asking_snoop(clock, sample);
         self.table.feed(sample)?;
         let moving = self.table.chunks().is_some();
         self.ended = ended_after(before, clock, sample, moving);
         self.responses = responses_after(self.responses, sample);
+        self.snooped = snooped_after(self.snooped, end);
+        self.last = last_after(self.last, end);
         Ok(())
     }
 }

@@ -1,4 +1,4 @@
-use Rattle.std.proofs.Common.{sym, ap, subst, refl, cond, ◌∙◌, ◌≡◌, [], ◌∷◌, ◌++◌, length, true, false, Some, None, nat_eq, ◌||◌, ◌&&◌, ◌+◌, arith}
+use Rattle.std.proofs.Common.{sym, ap, subst, ◌∙◌, [], ◌∷◌, ◌++◌, arith}
 use Rattle.fsb_laws.specs.OneMore.{cancels}
 use Rattle.fsb_heads.specs.Heads.{snooped_count}
 use Rattle.fsb_why_queue.specs.Next.{SaysAsked}

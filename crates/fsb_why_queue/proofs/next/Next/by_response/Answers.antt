@@ -1,4 +1,4 @@
-use Rattle.std.proofs.Common.{sym, ap, subst, refl, cond, ◌∙◌, ◌≡◌, [], ◌∷◌, ◌++◌, length, true, false, Some, None, nat_eq, ◌||◌, ◌&&◌, ◌+◌, arith}
+use Rattle.std.proofs.Common.{sym, ◌∙◌}
 use Rattle.std.proofs.lemmas.Bool.{and_from, and_left, and_right}
 use Rattle.fsb_why_queue.proofs.Readiness.{takes-is, tells-and}
 use Rattle.fsb_why_queue.proofs.next.Next.by_response.Goals as goal

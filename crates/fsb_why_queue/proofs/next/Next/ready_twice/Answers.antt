@@ -1,4 +1,4 @@
-use Rattle.std.proofs.Common.{sym, ap, subst, refl, cond, ◌∙◌, ◌≡◌, [], ◌∷◌, ◌++◌, length, true, false, Some, None, nat_eq, ◌||◌, ◌&&◌, ◌+◌, arith}
+use Rattle.std.proofs.Common.{sym, ◌∙◌, Some, None, arith}
 use Rattle.fsb_why_queue.proofs.Readiness.{late-not, none-not, twice-is, twice-not}
 use Rattle.fsb_why_queue.proofs.next.Next.ready_twice.Goals as goal
 

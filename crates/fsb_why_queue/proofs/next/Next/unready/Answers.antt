@@ -1,4 +1,4 @@
-use Rattle.std.proofs.Common.{sym, ap, subst, refl, cond, ◌∙◌, ◌≡◌, [], ◌∷◌, ◌++◌, length, true, false, Some, None, nat_eq, ◌||◌, ◌&&◌, ◌+◌, arith}
+use Rattle.std.proofs.Common.{sym, ap, ◌∙◌, true, false}
 use Rattle.std.proofs.Common.{not}
 use Rattle.fsb_why_queue.proofs.Readiness.{in_time-is, unready-is}
 use Rattle.fsb_why_queue.proofs.next.Next.unready.Goals as goal

@@ -1,4 +1,4 @@
-use Rattle.std.proofs.Common.{sym, ap, subst, refl, cond, ◌∙◌, ◌≡◌, [], ◌∷◌, ◌++◌, length, true, false, Some, None, nat_eq, ◌||◌, ◌&&◌, ◌+◌, arith}
+use Rattle.std.proofs.Common.{sym, ◌∙◌}
 use Rattle.fsb_why_queue.proofs.Codes.{code-kept}
 use Rattle.fsb_why_queue.proofs.next.Next.wrong_code.Goals as goal
 

@@ -1,4 +1,4 @@
-use Rattle.std.proofs.Common.{sym, ap, subst, refl, cond, ◌∙◌, ◌≡◌, [], ◌∷◌, ◌++◌, length, true, false, Some, None, nat_eq, ◌||◌, ◌&&◌, ◌+◌, arith}
+use Rattle.std.proofs.Common.{sym, subst}
 use Rattle.fsb_why.specs.Explains.{Explains}
 use Rattle.fsb_why_queue.proofs.Readiness.{both_told}
 use Rattle.fsb_why_queue.proofs.next.Next.wrongly_ready.Goals as goal

@@ -1,6 +1,5 @@
-use Rattle.std.proofs.Common.{sym, ap, subst, refl, cond, ◌∙◌, ◌≡◌, [], ◌∷◌, ◌++◌, length, true, false, Some, None, nat_eq, ◌||◌, ◌&&◌, ◌+◌, arith}
-use Rattle.std.proofs.Common.{ℕ, ◌<◌, ◌≤◌}
-use Rattle.std.proofs.lemmas.Bool.{leb-true, cases_lt, le-leb, both_ways}
+use Rattle.std.proofs.Common.{sym, subst, ◌∙◌, ◌+◌}
+use Rattle.std.proofs.lemmas.Bool.{leb-true}
 use Rattle.fsb_owner_feed.specs.Table.{SaysAsking}
 use Rattle.fsb_why_queue.proofs.Head.{near_none}
 use Rattle.fsb_why_queue.proofs.queue.Queue.asked.Goals as goal

@@ -1,4 +1,4 @@
-use Rattle.std.proofs.Common.{sym, ap, subst, refl, cond, ◌∙◌, ◌≡◌, [], ◌∷◌, ◌++◌, length, true, false, Some, None, nat_eq, ◌||◌, ◌&&◌, ◌+◌, arith}
+use Rattle.std.proofs.Common.{sym, ap, subst, ◌∙◌, [], ◌∷◌, ◌++◌, length}
 use Rattle.std.proofs.Common.{◌-◌}
 use Rattle.fsb_owner_feed.specs.Begins.{SaysBegins}
 use Rattle.fsb_heads.specs.Heads.{snooped_count}

@@ -2,7 +2,8 @@ use Rattle.std.proofs.Common.{sym, ap, cond, ◌∙◌, [], ◌∷◌, ◌++◌,
 use Rattle.std.proofs.Common.{is_some}
 use Rattle.fsb_laws.specs.OneMore.{responds}
 use Rattle.fsb_laws.proofs.Interface.{one_more, response_count-more}
-use Rattle.fsb_why_queue.proofs.Ends.{end-fed, few_responses}
+use Rattle.fsb_why_queue.proofs.Ends.{end-fed, few_responses, few_snoops}
+use Rattle.fsb_why_queue.proofs.Asking.{count-after, last-after}
 use Rattle.fsb_why_queue.proofs.queue.Queue.feed.Goals as goal
 
 pub returns : goal.returns
@@ -14,12 +15,19 @@ returns c = λ h s o after.
     let p = c.requires in
     let low = (p.1).responses in
     let fits = few_responses p.0 in
+    let low_snoops = (p.1).snooped in
+    let fits_snoops = few_snoops p.0 in
+    let end = c.asking_snoop-end.ensures h (record { stands = s; orderly = o; clock = clock }) in
     let before = c.ended_with-before.ensures h (record { stands = s; orderly = o; clock = clock }) in
     record {
       table = table;
       responses = c.responses_after-self.ensures (omega (arith, low, fits, p.2))
           ∙ (ap (λ k. k + cond (responds x) 1 0) s.responses
           ∙ sym (response_count-more h x (h ++ x ∷ []) (one_more h x)));
+      snooped = c.snooped_after-self.ensures (omega (arith, low_snoops, fits_snoops, p.2))
+          ∙ count-after h x o.spaced c.asking_snoop-end.result c.args.self.now.snooped end s.snooped;
+      last = c.last_after-self.ensures
+          ∙ last-after h x o.spaced c.asking_snoop-end.result c.args.self.now.last end s.last;
       ended = c.ended_after-self.ensures
           ∙ end-fed h x c.clock-clock.result c.ended_with-before.result c.is_some-moving.result o after clock
           (c.is_some-moving.ensures ∙ ap is_some (c.chunks.ensures (h ++ x ∷ []) table)) before;

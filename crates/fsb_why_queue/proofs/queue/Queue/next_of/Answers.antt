@@ -1,4 +1,4 @@
-use Rattle.std.proofs.Common.{sym, ap, subst, refl, cond, ◌∙◌, ◌≡◌, [], ◌∷◌, ◌++◌, length, true, false, Some, None, nat_eq, ◌||◌, ◌&&◌, ◌+◌, arith}
+use Rattle.std.proofs.Common.{sym, ◌∙◌}
 use Rattle.fsb_why_queue.proofs.Head.{clock_stays, next_is, request_stays, row_snoop, snoop_stays, snooped_lines, snooped_parts, unsnooped}
 use Rattle.fsb_trace.specs.Snoop.{snoop_end_of}
 use Rattle.fsb_laws.specs.Progress.{response_count}

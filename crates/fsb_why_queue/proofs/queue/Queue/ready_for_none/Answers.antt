@@ -1,4 +1,4 @@
-use Rattle.std.proofs.Common.{sym, ap, subst, refl, cond, ◌∙◌, ◌≡◌, [], ◌∷◌, ◌++◌, length, true, false, Some, None, nat_eq, ◌||◌, ◌&&◌, ◌+◌, arith}
+use Rattle.std.proofs.Common.{sym, ap, ◌∙◌, [], ◌∷◌, ◌++◌}
 use Rattle.fsb_trace.specs.Rules.{next_response}
 use Rattle.fsb_laws.proofs.Interface.{next_response-new, one_more}
 use Rattle.fsb_why_queue.proofs.Readiness.{none-is, none-kept, trdy-new}

@@ -1,7 +1,4 @@
-use Rattle.std.proofs.Common.{sym, ap, subst, refl, cond, ◌∙◌, ◌≡◌, [], ◌∷◌, ◌++◌, length, true, false, Some, None, nat_eq, ◌||◌, ◌&&◌, ◌+◌, arith}
-use Rattle.fsb_signal.specs.Samples.{has_line}
-use Rattle.fsb_signal.specs.declared.lines.TheConstants.Lines.{TRDY}
-use Rattle.fsb_laws.specs.Progress.{may_answer_next}
+use Rattle.std.proofs.Common.{sym, ap, ◌∙◌, true, false, Some}
 use Rattle.fsb_why_queue.proofs.Head.{ready-new, ready-old, trdy-is}
 use Rattle.fsb_why_queue.proofs.queue.Queue.ready_with.Goals as goal
 

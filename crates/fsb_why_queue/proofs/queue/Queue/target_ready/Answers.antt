@@ -1,4 +1,4 @@
-use Rattle.std.proofs.Common.{sym, ap, subst, refl, cond, ◌∙◌, ◌≡◌, [], ◌∷◌, ◌++◌, length, true, false, Some, None, nat_eq, ◌||◌, ◌&&◌, ◌+◌, arith}
+use Rattle.std.proofs.Common.{subst, ◌∙◌, [], ◌∷◌, ◌++◌}
 use Rattle.fsb_why_queue.specs.Next.{SaysNext}
 use Rattle.fsb_why_queue.proofs.Codes.{sound-new}
 use Rattle.fsb_why_queue.proofs.Readiness.{trdy-new}
