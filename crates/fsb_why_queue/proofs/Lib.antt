@@ -4,3 +4,4 @@ pub mod Early
 pub mod Codes
 pub mod Readiness
 pub mod Asking
+pub mod Order

@@ -8,12 +8,14 @@
 //! Next: fsb_reasons, whose `specs/Holds.antt` says what each reason claims.
 #![tactic(auto)]
 
+pub use laws::{kept_rules_keep_order, unbroken_traces_are_orderly};
 pub use next::Next;
 pub use queue::{Queue, is_explained};
 pub use snoops::Snooping;
 
 mod code;
 mod kinds;
+mod laws;
 mod next;
 mod queue;
 mod ready;
