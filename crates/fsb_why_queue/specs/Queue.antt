@@ -6,7 +6,7 @@ use Rattle.fsb_trace.specs.Response.{end_of}
 use Rattle.fsb_laws.specs.Orderly.{Orderly}
 use Rattle.fsb_laws.specs.Progress.{response_count}
 use Rattle.fsb_heads.specs.Heads.{last_snoop_end, snooped_count, value_before}
-use Rattle.fsb_owner_feed.specs.Table.{Stands as TableStands}
+use Rattle.fsb_owner_feed.specs.Table.{Stands as TableStands, fed as fed_to}
 use Rattle.fsb_why_queue.specs.declared.queue.Queue.{Queue}
 
 -- the queue was fed these samples
@@ -30,3 +30,7 @@ HasNone h = (q : ℕ) → live_clock_of h (snooped_count h) ≡ Some q → lengt
 -- the rules for which an answer is exact
 unfoldable pub is_explained : ℕ → Bool
 is_explained j = nat_eq j 11 || nat_eq j 12 || nat_eq j 13 || nat_eq j 14 || nat_eq j 15
+
+-- how many samples the queue was fed
+abbrev pub fed : Queue → ℕ
+fed queue = fed_to queue.table

@@ -20,7 +20,7 @@ ghost use Rattle.fsb_owner_feed.specs.Table.{IsRowOf};
 ghost use Rattle.fsb_why.specs.Explains.{Explains, Tells};
 ghost use Rattle.fsb_why_queue.specs.Next.{IsNext, SaysAsked, SaysNext};
 ghost use Rattle.fsb_why_queue.specs.Snoops.{SaysSnooping};
-ghost use Rattle.fsb_why_queue.specs.Queue.{HasNone, IsAt, Stands, is_explained};
+ghost use Rattle.fsb_why_queue.specs.Queue.{HasNone, IsAt, Stands, fed, is_explained};
 
 use crate::next::Next;
 use crate::snoops::{Snooping, is_any, snoop_lines};
@@ -187,7 +187,8 @@ fn ended_after(before: Option<u32>, clock: u32, sample: &Sample, moving: bool) -
 impl Queue {
     /// Before the first sample. It takes no memory.
     pub fn new(alloc: Global) -> Queue
-        ensures { Stands result [] }
+        ensures stands { Stands result [] }
+        ensures fed { fed result ≡ 0 }
     {
         Queue {
             table: Table::new(alloc),
@@ -468,7 +469,7 @@ impl Queue {
     /// Why the rule of this number, 1 to 20, is broken with the next sample: of a rule that `is_explained`, a reason where it
     /// is broken, and none where it is kept. None for any other rule.
     pub fn why(&self, rule: u8, sample: &Sample) -> Option<Reason>
-        requires { (h : Trace) × Stands self.now h × (length h < 2 ^ 32) }
+        requires { fed self.now < 2 ^ 32 }
         ensures { (m : Marks) (h : Trace) → Stands self.now h → Orderly h →
             Tells m (h ++ sample.now ∷ []) (length h) rule
             (is_explained rule && breaks m (h ++ sample.now ∷ []) (length h) rule) result }
@@ -491,8 +492,9 @@ impl Queue {
 
     /// Takes the next sample. Where memory lacks the queue stands for nothing any more.
     pub fn feed(&mut self, sample: &Sample) -> Result<(), Memory>
-        requires { (h : Trace) × Stands self.old h × (length h + 1 < 2 ^ 32) }
-        ensures { OnOk result ((h : Trace) → Stands self.old h → Orderly h →
+        requires { fed self.old + 1 < 2 ^ 32 }
+        ensures fed { fed self.new ≤ fed self.old + 1 }
+        ensures stands { OnOk result ((h : Trace) → Stands self.old h → Orderly h →
             Orderly (h ++ sample.now ∷ []) → Stands self.new (h ++ sample.now ∷ [])) }
     {
         let clock = self.table.clock() as u32;
