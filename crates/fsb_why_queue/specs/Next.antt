@@ -40,7 +40,8 @@ SaysWait v c i (Some wait) = Waits v c i wait
 -- this clock, or, if that is later, the one after the end of the request before
 abbrev pub later_after : Next → ℕ → Option ℕ
 later_after next from =
-    if nat_eq next.request.number 0 then Some from else option_map (λ t. max from (t + 1)) next.ended
+    if nat_eq next.request.number 0 then Some from
+    else option_map (λ t. max from (t + 1)) next.ended
 
 -- memory is to take its data
 abbrev pub takes_by : Next → Bool
@@ -56,7 +57,8 @@ expected_by next =
 
 -- it may be told Deferred in place of a retry
 abbrev pub may_defer_by : Next → Bool
-may_defer_by next = not next.handed && not (is_write_back next.decoded) && next.defer && has_den next.decoded
+may_defer_by next =
+    not next.handed && not (is_write_back next.decoded) && next.defer && has_den next.decoded
 
 -- the code is the one for it
 abbrev pub fits_by : Next → ℕ → Bool
@@ -67,4 +69,5 @@ fits_by next found =
 -- it is the live request of this number, by its clock and as it is decoded; or there is none
 abbrev pub SaysAsked : Trace → ℕ → Option Asked → Type 0
 SaysAsked v i None = live_clock_of v i ≡ None
-SaysAsked v i (Some asked) = (live_clock_of v i ≡ Some asked.clock) × (asked.request ≡ live_request_of v i)
+SaysAsked v i (Some asked) =
+    (live_clock_of v i ≡ Some asked.clock) × (asked.request ≡ live_request_of v i)

@@ -17,7 +17,8 @@ pub record Stands (queue : Queue) (h : Trace) : Type 0 where
   pub last : queue.last ≡ last_snoop_end h
   pub ended : queue.ended ≡ value_before (end_of h) (response_count h)
 
--- clock n comes after a trace that the queue stands for, whose requests keep their distance and responses their time
+-- clock n comes after a trace that the queue stands for, whose requests keep their distance and
+-- responses their time
 pub record IsAt (queue : Queue) (n : ℕ) (h : Trace) : Type 0 where
   pub stands : Stands queue h
   pub orderly : Orderly h

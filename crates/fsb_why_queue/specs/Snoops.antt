@@ -7,7 +7,8 @@ use Rattle.fsb_reasons.specs.declared.reason.SnoopLines.{SnoopLines}
 use Rattle.fsb_reasons.specs.Holds.{next_snoop}
 use Rattle.fsb_why_queue.specs.declared.snoops.Snooping.{Snooping}
 
--- it is the live request that is snooped next at c, the last clock of v, and no other has its snoop end there
+-- it is the live request that is snooped next at c, the last clock of v, and no other has its snoop
+-- end there
 pub record IsSnooping (snooping : Snooping) (v : Trace) (c : ℕ) : Type 0 where
   pub next : next_snoop v c ≡ Some snooping.request.number
   pub clock : live_clock_of v snooping.request.number ≡ Some snooping.request.clock

@@ -85,7 +85,8 @@ impl Next {
         }
     }
 
-    /// The earliest clock at which it may be answered, where its snoop end and the end before it are reached.
+    /// The earliest clock at which it may be answered, where its snoop end and the end before it
+    /// are reached.
     pub fn earliest(&self, clock: u32) -> Option<u64>
         ensures { (v : Trace) → IsNext self.now v clock →
             result ≡ answer_from v self.now.request.number }

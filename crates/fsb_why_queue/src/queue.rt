@@ -109,8 +109,8 @@ fn is_sound(sample: &Sample) -> bool
     responds(sample) && sample.response() != code_of(Outcome::Failed)
 }
 
-/// The request with this row, which is snooped next, unless the sample of this clock cancels it, and else the one that begins
-/// with it.
+/// The request with this row, which is snooped next, unless the sample of this clock cancels it,
+/// and else the one that begins with it.
 fn asked_by(row: &Row, clock: u32, sample: &Sample) -> Option<Asked>
     ensures { (h : Trace) → Orderly h → clock ≡ length h → IsRowOf h (snooped_count h) row.now →
         row.now.seen.clock + 2 ≤ clock → SaysAsked (h ++ sample.now ∷ []) (snooped_count h) result }
@@ -169,8 +169,8 @@ fn last_after(last: Option<u32>, end: Option<u32>) -> Option<u32>
     if end.is_some() { end } else { last }
 }
 
-/// The end of the request that responded last, after the sample of this clock: the one before, where it is no response,
-/// and else this clock or none, where data move after it.
+/// The end of the request that responded last, after the sample of this clock: the one before,
+/// where it is no response, and else this clock or none, where data move after it.
 fn ended_after(before: Option<u32>, clock: u32, sample: &Sample, moving: bool) -> Option<u32>
     ensures { result
         ≡ (if responds sample.now then (if moving then None else Some clock) else before) }
@@ -359,7 +359,8 @@ impl Queue {
         }
     }
 
-    /// The request that is snooped next, with what a trace shows of its snoop with the sample of this clock.
+    /// The request that is snooped next, with what a trace shows of its snoop with the sample of
+    /// this clock.
     fn snooping(&self, clock: u32, sample: &Sample) -> Option<Snooping>
         ensures { (h : Trace) → IsAt self.now clock h →
             SaysSnooping (h ++ sample.now ∷ []) clock result }
@@ -466,8 +467,9 @@ impl Queue {
         }
     }
 
-    /// Why the rule of this number, 1 to 20, is broken with the next sample: of a rule that `is_explained`, a reason where it
-    /// is broken, and none where it is kept. None for any other rule.
+    /// Why the rule of this number, 1 to 20, is broken with the next sample: of a rule that
+    /// `is_explained`, a reason where it is broken, and none where it is kept. None for any other
+    /// rule.
     pub fn why(&self, rule: u8, sample: &Sample) -> Option<Reason>
         requires { fed self.now < 2 ^ 32 }
         ensures { (m : Marks) (h : Trace) → Stands self.now h → Orderly h →

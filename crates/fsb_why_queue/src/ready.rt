@@ -71,7 +71,8 @@ impl Next {
         }
     }
 
-    /// Why TRDY# at this clock is not for it, which may be answered and whose data memory is to take.
+    /// Why TRDY# at this clock is not for it, which may be answered and whose data memory is to
+    /// take.
     fn ready_twice(&self, clock: u32) -> Option<Reason>
         ensures { (m : Marks) (v : Trace) → IsNext self.now v clock → line_at TRDY v clock ≡ true →
             (takes v self.now.request.number && may_answer v clock self.now.request.number) ≡ true →
@@ -110,7 +111,8 @@ impl Next {
 
     /// Why TRDY#, if it is asserted at this clock, is not for it.
     fn by_ready(&self, clock: u32, asserted: bool) -> Option<Reason>
-        ensures { (m : Marks) (v : Trace) → IsNext self.now v clock → asserted ≡ line_at TRDY v clock →
+        ensures { (m : Marks) (v : Trace) → IsNext self.now v clock →
+            asserted ≡ line_at TRDY v clock →
             Tells m v clock 15
             (line_at TRDY v clock && is_ready_wrongly v clock self.now.request.number) result }
     {
@@ -127,7 +129,8 @@ impl Next {
 
     /// Why a response at this clock, which is no hard failure, comes before its target is ready.
     fn unready(&self, clock: u32) -> Option<Reason>
-        ensures { (m : Marks) (v : Trace) → IsNext self.now v clock → responds_soundly v clock ≡ true →
+        ensures { (m : Marks) (v : Trace) → IsNext self.now v clock →
+            responds_soundly v clock ≡ true →
             takes v self.now.request.number ≡ true →
             Tells m v clock 15 (not (is_ready_in_time v clock self.now.request.number)) result }
     {
@@ -142,9 +145,11 @@ impl Next {
         }
     }
 
-    /// Why a response, if one that is no hard failure comes at this clock, comes before its target is ready.
+    /// Why a response, if one that is no hard failure comes at this clock, comes before its target
+    /// is ready.
     fn by_response(&self, clock: u32, sound: bool) -> Option<Reason>
-        ensures { (m : Marks) (v : Trace) → IsNext self.now v clock → sound ≡ responds_soundly v clock →
+        ensures { (m : Marks) (v : Trace) → IsNext self.now v clock →
+            sound ≡ responds_soundly v clock →
             Tells m v clock 15 (responds_soundly v clock && takes v self.now.request.number
             && not (is_ready_in_time v clock self.now.request.number)) result }
     {
@@ -159,10 +164,11 @@ impl Next {
         }
     }
 
-    /// Rule 15, target ready, of a clock at which TRDY# is asserted or not, and at which a response that is no hard failure
-    /// comes or not.
+    /// Rule 15, target ready, of a clock at which TRDY# is asserted or not, and at which a response
+    /// that is no hard failure comes or not.
     pub fn wrongly_ready(&self, clock: u32, asserted: bool, sound: bool) -> Option<Reason>
-        ensures { (m : Marks) (v : Trace) → IsNext self.now v clock → asserted ≡ line_at TRDY v clock →
+        ensures { (m : Marks) (v : Trace) → IsNext self.now v clock →
+            asserted ≡ line_at TRDY v clock →
             sound ≡ responds_soundly v clock → Explains m v clock 15 result }
     {
         first_of(

@@ -120,7 +120,8 @@ impl Snooping {
         }
     }
 
-    /// Rule 12, snoop results of write-backs and replies, where these lines are asserted at the clock.
+    /// Rule 12, snoop results of write-backs and replies, where these lines are asserted at the
+    /// clock.
     pub fn unfit(&self, lines: SnoopLines) -> Option<Reason>
         ensures { (m : Marks) (v : Trace) (c : ℕ) → IsSnooping self.now v c →
             AreSnooped v c lines → Explains m v c 12 result }
