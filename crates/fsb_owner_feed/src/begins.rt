@@ -43,6 +43,13 @@ fn line_by(who: Option<Who>, first: &Sample) -> Option<u64>
 }
 
 impl FirstClock {
+    /// The request, where it is a lawful one with this sample in its second clock.
+    pub fn request(&self, second: &Sample) -> Option<Request>
+        ensures { result ≡ decoded_by self.now.first second.now }
+    {
+        decoded_by(&self.first, second)
+    }
+
     /// The request as it is seen in its second clock, which has this sample.
     fn seen(&self, clock: u32, second: &Sample) -> Seen
         ensures { (h : Trace) → IsLast self.now clock h →

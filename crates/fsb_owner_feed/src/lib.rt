@@ -5,6 +5,7 @@
 //! winner, the next snoop, the next response and the data on the way rest on. `Stands` says for which traces it stands.
 #![tactic(auto)]
 
+pub use begins::FirstClock;
 pub use table::Table;
 
 mod begins;

@@ -1,16 +1,17 @@
 //! The table: what happens with the next sample, and the table after it.
 
-ghost use Rattle.std.specs.Prelude.{◌≡◌, ◌<◌, ◌≤◌, ◌+◌, ◌^◌, nat_le, false, ◌∷◌, ◌++◌, [], length, ◌&&◌, is_none, is_some, OnOk, IfOk};
+ghost use Rattle.std.specs.Prelude.{◌≡◌, ◌<◌, ◌≤◌, ◌+◌, ◌^◌, nat_le, false, Some, ◌∷◌, ◌++◌, [], length, ◌&&◌, is_none, is_some, OnOk, IfOk};
 ghost use Rattle.std.specs.Option.{option_map};
 ghost use Rattle.fsb_count.specs.Options.{is_some_and};
 ghost use Rattle.fsb_signal.specs.declared.lines.TheConstants.Lines.{TRDY};
 ghost use Rattle.fsb_signal.specs.Samples.{has_line};
 ghost use Rattle.fsb_trace.specs.At.{Trace};
-ghost use Rattle.fsb_trace.specs.Snoop.{snoop_end_of};
-ghost use Rattle.fsb_trace.specs.Response.{end_of};
+ghost use Rattle.fsb_trace.specs.Requests.{live_clock_of};
+ghost use Rattle.fsb_trace.specs.Snoop.{snoop_end_of, snoop_start_of};
+ghost use Rattle.fsb_trace.specs.Response.{end_of, ready_clock_of};
 ghost use Rattle.fsb_laws.specs.OneMore.{responds};
 ghost use Rattle.fsb_laws.specs.Orderly.{Orderly};
-ghost use Rattle.fsb_laws.specs.Progress.{ends_snoop_of, may_answer_next, transfer_of};
+ghost use Rattle.fsb_laws.specs.Progress.{ends_snoop_of, may_answer_next, response_count, transfer_of};
 ghost use Rattle.fsb_heads.specs.Heads.{Stands as HeadsStands, snooped_count};
 ghost use Rattle.fsb_owner_table.specs.Happened.{Happens, begun_row};
 ghost use Rattle.fsb_owner_table.specs.Kept.{rows_of};
@@ -84,29 +85,65 @@ impl Table {
     }
 
     /// The row of the request that is snooped next.
-    fn asking(&self) -> Option<Row>
+    pub fn asking(&self) -> Option<Row>
         ensures { (h : Trace) → Stands self.now h → Orderly h → SaysAsking h result }
     {
         first_asking(self.rows.as_slice())
     }
 
     /// The row of the request that responds next.
-    fn waiting(&self) -> Option<Row>
+    pub fn waiting(&self) -> Option<Row>
         ensures { (h : Trace) → Stands self.now h → Orderly h → SaysWaiting h result }
     {
         first_waiting(self.rows.as_slice())
     }
 
     /// The row of the request whose data are on the way.
-    fn moving(&self) -> Option<Row>
+    pub fn moving(&self) -> Option<Row>
         ensures { (h : Trace) → Stands self.now h → Orderly h → SaysMoving h result }
     {
         first_moving(self.rows.as_slice())
     }
 
+    /// How many samples were fed.
+    pub fn clock(&self) -> u64
+        ensures { result ≡ fed self.now }
+    {
+        self.clock
+    }
+
+    /// The first clock of the request that began at the last clock.
+    pub fn begun_last(&self) -> Option<FirstClock>
+        ensures { (h : Trace) → Stands self.now h → SaysBegins result h }
+    {
+        self.begins
+    }
+
+    /// The ready clock of the request that responds next.
+    pub fn ready(&self) -> Option<u32>
+        ensures { (h : Trace) → Stands self.now h → result ≡ ready_clock_of h (response_count h) }
+    {
+        self.heads.ready()
+    }
+
+    /// How many chunks came of the data that are on the way; none where no data are.
+    pub fn chunks(&self) -> Option<u8>
+        ensures { (h : Trace) → Stands self.now h → result ≡ transfer_of h }
+    {
+        self.heads.chunks()
+    }
+
+    /// The first snoop clock of the request that is snooped next, which began at this clock.
+    pub fn snoop_start(&self, begun: u32) -> u64
+        ensures { (h : Trace) → Stands self.now h → live_clock_of h (snooped_count h) ≡ Some begun →
+            snoop_start_of h (snooped_count h) ≡ Some result }
+    {
+        self.heads.snoop_start(begun)
+    }
+
     /// Whether the snoop of the request with this row, which is snooped next, ends with the sample.
     #[tactic(auto, unfolding(fsb_laws::specs::Progress::ends_snoop_of))]
-    fn ends_snoop(&self, row: &Row, clock: u32, sample: &Sample) -> bool
+    pub fn ends_snoop(&self, row: &Row, clock: u32, sample: &Sample) -> bool
         ensures { (h : Trace) → Stands self.now h → IsRowOf h (snooped_count h) row.now →
             clock ≡ length h → result ≡ ends_snoop_of h (snooped_count h) sample.now }
     {
@@ -211,7 +248,7 @@ impl Table {
     }
 
     /// Whether a response may come at this clock.
-    fn may_answer(&self, clock: u32) -> bool
+    pub fn may_answer(&self, clock: u32) -> bool
         ensures { (h : Trace) → Stands self.now h → Orderly h → clock ≡ length h →
             result ≡ may_answer_next h }
     {
