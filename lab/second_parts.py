@@ -11,7 +11,6 @@ of the report must be those of the second opinion. Every difference is kept in a
 """
 
 import collections
-import concurrent.futures
 import os
 import random
 import re
@@ -19,11 +18,10 @@ import sys
 import tempfile
 
 sys.dont_write_bytecode = True
-from common import TOP
 from random_dumps import Traffic
 from second_dump import LINES, NEEDED, WIDTHS, Marks, Sample, sample_of
 from second_judge import decode, is_odd, verdict
-from second_wires import DIGITS, answer_of
+from second_wires import DIGITS, answer_of, compared
 
 NO_SECTIONS = ("$dumpvars", "$dumpall", "$dumpon", "$dumpoff", "$end")
 MOST_PARTS = 16
@@ -215,7 +213,7 @@ class Parts:
             if clock > self.last:
                 break
             sample = self.steps[clock].sample
-            quiet = 0 if sample.asserted or sample.unknown else quiet + 1
+            quiet = 0 if [name for name in sample.asserted if not name.startswith(("AP", "RP"))] or sample.unknown else quiet + 1
             if begin is None and self.may_begin(clock, quiet, is_first):
                 begin = clock
             place, clock = place + 1, clock + 1
@@ -470,25 +468,5 @@ def fault_of(wanted, answer, course):
     return "" if parts_told(answer[1]) == (parts[:MOST_PARTS] if len(parts) > 1 else []) else "the parts"
 
 
-def main():
-    given = sys.argv[1:] + [None] * 4
-    program = os.path.abspath(given[0] or os.path.join(TOP, "crates/p6scope/out/p6scope"))
-    count, seed, jobs = int(given[1] or 20_000), given[2] or "1", int(given[3] or 1)
-    if not os.access(program, os.X_OK):
-        sys.exit("no program at %s: build it by 'rt run' in crates/p6scope" % program)
-    sys.setrecursionlimit(100_000)
-    counts, faults = collections.Counter(), 0
-    with tempfile.TemporaryDirectory() as folder, concurrent.futures.ProcessPoolExecutor(jobs) as pool:
-        for what, fault in pool.map(tried, *zip(*((program, folder, seed, number) for number in range(count))), chunksize=50):
-            counts[what] += 1
-            if fault:
-                faults += 1
-                print("DIFFERENCE %s" % fault, flush=True)
-    for what, number in sorted(counts.items()):
-        print("%-30s %6d" % (what, number))
-    print("%d cases, %d differences" % (count, faults))
-    return 1 if faults else 0
-
-
 if __name__ == "__main__":
-    sys.exit(main())
+    sys.exit(compared(tried, 100_000))

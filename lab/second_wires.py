@@ -405,12 +405,15 @@ def shown(found):
     return found[0] if found[1] is None else "%d lines (%s), %d samples" % (len(found[1]), " ".join(found[1]), len(found[2]))
 
 
-def main():
+def compared(tried, depth=1_000):
+    """Tries many cases by the words of the command line, and returns the status: 1 where a case differs. `tried` answers, for one case, what came of it
+    and how it differs."""
     given = sys.argv[1:] + [None] * 4
     program = os.path.abspath(given[0] or os.path.join(TOP, "crates/p6scope/out/p6scope"))
     count, seed, jobs = int(given[1] or 20_000), given[2] or "1", int(given[3] or 1)
     if not os.access(program, os.X_OK):
         sys.exit("no program at %s: build it by 'rt run' in crates/p6scope" % program)
+    sys.setrecursionlimit(depth)
     counts, faults = collections.Counter(), 0
     with tempfile.TemporaryDirectory() as folder, concurrent.futures.ProcessPoolExecutor(jobs) as pool:
         for what, fault in pool.map(tried, *zip(*((program, folder, seed, number) for number in range(count))), chunksize=50):
@@ -419,10 +422,10 @@ def main():
                 faults += 1
                 print("DIFFERENCE %s" % fault, flush=True)
     for what, number in sorted(counts.items()):
-        print("%-20s %6d" % (what, number))
+        print("%-30s %6d" % (what, number))
     print("%d cases, %d differences" % (count, faults))
     return 1 if faults else 0
 
 
 if __name__ == "__main__":
-    sys.exit(main())
+    sys.exit(compared(tried))
