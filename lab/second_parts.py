@@ -203,12 +203,12 @@ class Parts:
         return not sample.unknown
 
     def segment(self, events, place, clock, is_first):
-        quiet, begin = 0, None
+        quiet, begin, has_stopped = 0, None, False
         while place < len(events):
             if events[place] == HOLE:
                 if begin is not None:
                     break
-                quiet, place = 0, place + 1
+                quiet, place, has_stopped = 0, place + 1, True
                 continue
             if clock > self.last:
                 break
@@ -219,7 +219,7 @@ class Parts:
             place, clock = place + 1, clock + 1
         if begin is None:
             return len(events), clock, True
-        is_whole = is_first and (begin == 0 or self.options["at"] is None and self.options["from"] is None)
+        is_whole = is_first and not has_stopped and (begin == 0 or self.options["at"] is None and self.options["from"] is None)
         samples = [step.sample for step in self.steps[begin:clock]]
         found = broken(self.marks, samples, is_whole)
         if found is None:
@@ -227,7 +227,7 @@ class Parts:
             return (place + 1 if place < len(events) else place), clock, clock > self.last
         at, rule = begin + found[0], found[1]
         back = clock - at - 1
-        if not is_whole and rule == 18 and is_reply(samples, found[0] - 1):
+        if not is_whole and rule == 18 and is_foreign(samples, found[0] - 1):
             if at - 2 >= begin:
                 self.found.append((begin, at - 2, None))
             return place - back, at + 1, False
@@ -236,8 +236,12 @@ class Parts:
         return place - back, at + 1, is_last
 
 
-def is_reply(samples, place):
-    return place >= 0 and decode(samples[place], samples[place + 1]).kind == "Reply"
+def is_foreign(samples, place):
+    """Whether a reply begins there with an ID that no request of the part before it had."""
+    if place < 0 or decode(samples[place], samples[place + 1]).kind != "Reply":
+        return False
+    before = [decode(samples[at], samples[at + 1]) for at in range(place) if "ADS" in samples[at].asserted]
+    return decode(samples[place], samples[place + 1]).id not in [request.id for request in before if request and request.kind != "Reply"]
 
 
 def opinion(course, marks, options, scale):
