@@ -1,0 +1,5 @@
+pub mod KeptOnes
+pub mod InFlight
+pub mod Same
+pub mod Taking
+pub mod Awaiting
