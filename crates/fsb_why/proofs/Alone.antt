@@ -21,7 +21,7 @@ use Rattle.fsb_reasons.specs.declared.reason.Reason.{Reason}
 use Rattle.fsb_reasons.specs.declared.reason.Reason.TheVariants.{UnknownLines, Dropped, Held, LockAlone, ErrorAlone, UnknownData, AddressParity, RequestParity}
 use Rattle.fsb_reasons.specs.RuleOf.{rule_of}
 use Rattle.fsb_reasons.specs.Holds.{is_bus_agent}
-use Rattle.fsb_why.specs.Explains.{IsReason, Explains, Tells, either_reason, is_explained}
+use Rattle.fsb_why.specs.Explains.{IsReason, Explains, Tells, either_reason, is_line_rule}
 
 -- 1
 
@@ -180,7 +180,7 @@ request-odd m v c x e t =
 -- which rules are explained
 
 pub explains-at : (m : Marks) (v : Trace) (c j k : ℕ) (o : Option Reason) → j ≡ k → Explains m v c k o
-    → Tells m v c j (is_explained j && breaks m v c j) o
+    → Tells m v c j (is_line_rule j && breaks m v c j) o
 explains-at m v c j k None e h = and_right _ _ (ap (breaks m v c) e ∙ h)
 explains-at m v c j k (Some reason) e h = subst (λ i. IsReason m v c i reason) (sym e) h
 
@@ -188,8 +188,8 @@ off : (j k : ℕ) → (j ≡ k → ⊥) → nat_eq j k ≡ false
 off j k n = false_from_ne_true _ (λ t. n (eqb-true j k t))
 
 not_explained : (j : ℕ) → (j ≡ 1 → ⊥) → (j ≡ 2 → ⊥) → (j ≡ 3 → ⊥) → (j ≡ 5 → ⊥) → (j ≡ 6 → ⊥) → (j ≡ 7 → ⊥)
-    → (j ≡ 8 → ⊥) → (j ≡ 9 → ⊥) → (j ≡ 10 → ⊥) → (j ≡ 17 → ⊥) → (j ≡ 19 → ⊥) → (j ≡ 20 → ⊥) → is_explained j ≡ false
-unfolding is_explained
+    → (j ≡ 8 → ⊥) → (j ≡ 9 → ⊥) → (j ≡ 10 → ⊥) → (j ≡ 17 → ⊥) → (j ≡ 19 → ⊥) → (j ≡ 20 → ⊥) → is_line_rule j ≡ false
+unfolding is_line_rule
 not_explained j a b d e f g h i k l n o =
     rw (
       off j 1 a,
@@ -208,6 +208,6 @@ not_explained j a b d e f g h i k l n o =
 
 pub unexplained : (m : Marks) (v : Trace) (c j : ℕ) → (j ≡ 1 → ⊥) → (j ≡ 2 → ⊥) → (j ≡ 3 → ⊥) → (j ≡ 5 → ⊥)
     → (j ≡ 6 → ⊥) → (j ≡ 7 → ⊥) → (j ≡ 8 → ⊥) → (j ≡ 9 → ⊥) → (j ≡ 10 → ⊥) → (j ≡ 17 → ⊥) → (j ≡ 19 → ⊥)
-    → (j ≡ 20 → ⊥) → (is_explained j && breaks m v c j) ≡ false
+    → (j ≡ 20 → ⊥) → (is_line_rule j && breaks m v c j) ≡ false
 unexplained m v c j a b d e f g h i k l n o =
-    and_left (is_explained j) (breaks m v c j) (not_explained j a b d e f g h i k l n o)
+    and_left (is_line_rule j) (breaks m v c j) (not_explained j a b d e f g h i k l n o)

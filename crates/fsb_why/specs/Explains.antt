@@ -33,7 +33,7 @@ either_reason None second = second
 either_reason (Some reason) second = Some reason
 
 -- the rules for which an answer is exact
-unfoldable pub is_explained : ℕ → Bool
-is_explained j =
+unfoldable pub is_line_rule : ℕ → Bool
+is_line_rule j =
     nat_eq j 1 || nat_eq j 2 || nat_eq j 3 || nat_eq j 5 || nat_eq j 6 || nat_eq j 7 || nat_eq j 8 || nat_eq j 9
     || nat_eq j 10 || nat_eq j 17 || nat_eq j 19 || nat_eq j 20

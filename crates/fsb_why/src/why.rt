@@ -6,7 +6,7 @@ ghost use Rattle.fsb_trace.specs.At.{Trace};
 ghost use Rattle.fsb_trace.specs.Rules.{breaks};
 ghost use Rattle.fsb_trace.specs.Winner.{winner_at};
 ghost use Rattle.fsb_why.specs.Look.{SaysLast, Shows, Stands};
-ghost use Rattle.fsb_why.specs.Explains.{Tells, is_explained};
+ghost use Rattle.fsb_why.specs.Explains.{Tells, is_line_rule};
 
 use crate::look::Look;
 use fsb_arbiter::Arbiter;
@@ -24,9 +24,9 @@ pub struct Why {
 }
 
 /// Whether the answers for the rule of this number are exact.
-#[tactic(auto, unfolding(crate::specs::Explains::is_explained))]
-pub fn is_explained(rule: u8) -> bool
-    ensures { result ≡ is_explained rule }
+#[tactic(auto, unfolding(crate::specs::Explains::is_line_rule))]
+pub fn is_line_rule(rule: u8) -> bool
+    ensures { result ≡ is_line_rule rule }
 {
     rule == 1
         || rule == 2
@@ -97,11 +97,11 @@ impl Why {
         self.arbiter.absorb(sample);
     }
 
-    /// Why the rule of this number, 1 to 20, is broken at the last clock fed: of a rule that `is_explained`, a reason where
-    /// it is broken, and none where it is kept. None for any other rule, and before the first sample.
+    /// Why the rule of this number, 1 to 20, is broken at the last clock fed: where `is_line_rule` holds of it, a reason if
+    /// it is broken, and none if it is kept. None for any other rule, and before the first sample.
     pub fn why(&self, rule: u8) -> Option<Reason>
         ensures { (m : Marks) (h : Trace) (c : ℕ) → Stands self.now m h → length h ≡ c + 1 →
-            Tells m h c rule (is_explained rule && breaks m h c rule) result }
+            Tells m h c rule (is_line_rule rule && breaks m h c rule) result }
     {
         match self.look {
             Some(look) => look.why(rule),
@@ -114,7 +114,7 @@ impl Look {
     /// Why the rule of this number is broken at the clock.
     pub fn why(&self, rule: u8) -> Option<Reason>
         ensures { (m : Marks) (v : Trace) → Shows self.now m v →
-            Tells m v self.now.clock rule (is_explained rule && breaks m v self.now.clock rule) result }
+            Tells m v self.now.clock rule (is_line_rule rule && breaks m v self.now.clock rule) result }
     {
         if rule == 1 {
             self.unknown_lines()

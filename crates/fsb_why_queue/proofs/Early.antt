@@ -20,7 +20,7 @@ use Rattle.fsb_reasons.specs.RuleOf.{rule_of}
 use Rattle.fsb_reasons.specs.Holds.{Waits}
 use Rattle.fsb_why.specs.Explains.{Explains, IsReason, Tells}
 use Rattle.fsb_why_queue.specs.declared.next.Next.{Next}
-use Rattle.fsb_why_queue.specs.Queue.{is_explained}
+use Rattle.fsb_why_queue.specs.Queue.{is_queue_rule}
 use Rattle.fsb_why_queue.specs.Next.{IsNext, SaysWait}
 
 pub clear-is : (v : Trace) (i c : ℕ) (ended : Option ℕ) → ended ≡ value_before (end_of v) i
@@ -96,18 +96,20 @@ nothing-is m v c number t e l = record {
 -- which rules are explained
 
 pub explains-at : (m : Marks) (v : Trace) (c j k : ℕ) (o : Option Reason) → j ≡ k → Explains m v c k o
-    → Tells m v c j (is_explained j && breaks m v c j) o
+    → Tells m v c j (is_queue_rule j && breaks m v c j) o
 explains-at m v c j k None e h = and_right _ _ (ap (breaks m v c) e ∙ h)
 explains-at m v c j k (Some reason) e h = subst (λ i. IsReason m v c i reason) (sym e) h
 
 off : (j k : ℕ) → (j ≡ k → ⊥) → nat_eq j k ≡ false
 off j k n = false_from_ne_true _ (λ t. n (eqb-true j k t))
 
-not_explained : (j : ℕ) → (j ≡ 11 → ⊥) → (j ≡ 12 → ⊥) → (j ≡ 13 → ⊥) → (j ≡ 14 → ⊥) → (j ≡ 15 → ⊥)
-    → is_explained j ≡ false
-unfolding is_explained
-not_explained j a b d e f = rw (off j 11 a, off j 12 b, off j 13 d, off j 14 e, off j 15 f) refl
+not_explained : (j : ℕ) → (j ≡ 4 → ⊥) → (j ≡ 11 → ⊥) → (j ≡ 12 → ⊥) → (j ≡ 13 → ⊥) → (j ≡ 14 → ⊥) → (j ≡ 15 → ⊥)
+    → (j ≡ 16 → ⊥) → (j ≡ 18 → ⊥) → is_queue_rule j ≡ false
+unfolding is_queue_rule
+not_explained j z a b d e f g i =
+    rw (off j 4 z, off j 11 a, off j 12 b, off j 13 d, off j 14 e, off j 15 f, off j 16 g, off j 18 i) refl
 
-pub unexplained : (m : Marks) (v : Trace) (c j : ℕ) → (j ≡ 11 → ⊥) → (j ≡ 12 → ⊥) → (j ≡ 13 → ⊥) → (j ≡ 14 → ⊥)
-    → (j ≡ 15 → ⊥) → (is_explained j && breaks m v c j) ≡ false
-unexplained m v c j a b d e f = and_left (is_explained j) (breaks m v c j) (not_explained j a b d e f)
+pub unexplained : (m : Marks) (v : Trace) (c j : ℕ) → (j ≡ 4 → ⊥) → (j ≡ 11 → ⊥) → (j ≡ 12 → ⊥) → (j ≡ 13 → ⊥)
+    → (j ≡ 14 → ⊥) → (j ≡ 15 → ⊥) → (j ≡ 16 → ⊥) → (j ≡ 18 → ⊥) → (is_queue_rule j && breaks m v c j) ≡ false
+unexplained m v c j z a b d e f g i =
+    and_left (is_queue_rule j) (breaks m v c j) (not_explained j z a b d e f g i)

@@ -53,11 +53,11 @@ module _ (h : Trace) (x : Sample) (o : Orderly h) where
   m : OneMore h x (h ++ x ∷ [])
   m = one_more h x
 
-  chunk_now : (r : ℕ) → r < length h → from_clock r (line_at DRDY v) (length h) ≡ has_line x DRDY
+  pub chunk_now : (r : ℕ) → r < length h → from_clock r (line_at DRDY v) (length h) ≡ has_line x DRDY
   unfolding from_clock
   chunk_now r l = rw (le-leb r (length h) (omega (arith, l)), line_at-new DRDY h x v m) refl
 
-  chunks_before : (r : ℕ)
+  pub chunks_before : (r : ℕ)
       → count_where (from_clock r (line_at DRDY v)) (length h) ≡ count_where (from_clock r (line_at DRDY h)) (length h)
   unfolding from_clock
   chunks_before r =

@@ -1,3 +1,4 @@
 pub mod Next
 pub mod Snoops
+pub mod Data
 pub mod Queue

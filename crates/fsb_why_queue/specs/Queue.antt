@@ -1,6 +1,7 @@
 -- For which traces the queue stands.
 use Rattle.std.specs.Prelude.{◌≡◌, ◌≤◌, ℕ, ◌+◌, Bool, ◌||◌, nat_eq, Some, length}
-use Rattle.fsb_trace.specs.At.{Trace}
+use Rattle.fsb_count.specs.Clocks.{last_where}
+use Rattle.fsb_trace.specs.At.{Trace, responds_at}
 use Rattle.fsb_trace.specs.Requests.{live_clock_of}
 use Rattle.fsb_trace.specs.Response.{end_of}
 use Rattle.fsb_laws.specs.Orderly.{Orderly}
@@ -16,6 +17,7 @@ pub record Stands (queue : Queue) (h : Trace) : Type 0 where
   pub snooped : queue.snooped ≡ snooped_count h
   pub last : queue.last ≡ last_snoop_end h
   pub ended : queue.ended ≡ value_before (end_of h) (response_count h)
+  pub answered : queue.answered ≡ last_where (responds_at h) (length h)
 
 -- clock n comes after a trace that the queue stands for, whose requests keep their distance and
 -- responses their time
@@ -29,8 +31,9 @@ abbrev pub HasNone : Trace → Type 0
 HasNone h = (q : ℕ) → live_clock_of h (snooped_count h) ≡ Some q → length h ≤ q + 1
 
 -- the rules for which an answer is exact
-unfoldable pub is_explained : ℕ → Bool
-is_explained j = nat_eq j 11 || nat_eq j 12 || nat_eq j 13 || nat_eq j 14 || nat_eq j 15
+unfoldable pub is_queue_rule : ℕ → Bool
+is_queue_rule j =
+    nat_eq j 4 || nat_eq j 11 || nat_eq j 12 || nat_eq j 13 || nat_eq j 14 || nat_eq j 15 || nat_eq j 16 || nat_eq j 18
 
 -- how many samples the queue was fed
 abbrev pub fed : Queue → ℕ

@@ -4,17 +4,20 @@
 //! [`Queue`] keeps the rows of the requests that are not over, and is asked with the next sample
 //! before it takes it. It stands for traces in which requests keep their distance and responses
 //! their time, as they do where no rule was broken; of the next sample nothing is asked. The
-//! answers are exact for the rules that `is_explained` names.
+//! answers are exact for the rules of which `is_queue_rule` holds: 4, 11 to 16 and 18. With those of
+//! `is_line_rule` in fsb_why these are all twenty.
 //!
 //! Next: fsb_reasons, whose `specs/Holds.antt` says what each reason claims.
 #![tactic(auto)]
 
+pub use data::Coming;
 pub use laws::{kept_rules_keep_order, unbroken_traces_are_orderly};
 pub use next::Next;
-pub use queue::{Queue, is_explained};
+pub use queue::{Queue, is_queue_rule};
 pub use snoops::Snooping;
 
 mod code;
+mod data;
 mod kinds;
 mod laws;
 mod next;

@@ -14,14 +14,16 @@ ghost use Rattle.fsb_trace.specs.Outcome.{response_code_of};
 ghost use Rattle.fsb_trace.specs.declared.outcome.Outcome.TheVariants.{Failed};
 ghost use Rattle.fsb_laws.specs.OneMore.{cancels, responds};
 ghost use Rattle.fsb_laws.specs.Orderly.{Orderly};
-ghost use Rattle.fsb_laws.specs.Progress.{response_count};
+ghost use Rattle.fsb_laws.specs.Progress.{response_count, transfer_of};
 ghost use Rattle.fsb_heads.specs.Heads.{snooped_count, value_before};
 ghost use Rattle.fsb_owner_feed.specs.Table.{IsRowOf};
 ghost use Rattle.fsb_why.specs.Explains.{Explains, Tells};
+ghost use Rattle.fsb_why_queue.specs.Data.{SaysAnswered, SaysComing, SaysMoving};
 ghost use Rattle.fsb_why_queue.specs.Next.{IsNext, SaysAsked, SaysNext};
 ghost use Rattle.fsb_why_queue.specs.Snoops.{SaysSnooping};
-ghost use Rattle.fsb_why_queue.specs.Queue.{HasNone, IsAt, Stands, fed, is_explained};
+ghost use Rattle.fsb_why_queue.specs.Queue.{HasNone, IsAt, Stands, fed, is_queue_rule};
 
+use crate::data::{Coming, unexpected};
 use crate::next::Next;
 use crate::snoops::{Snooping, is_any, snoop_lines};
 use fsb_encode::Request;
@@ -32,6 +34,7 @@ use fsb_owner_table::Row;
 use fsb_reasons::{Concerned, Reason};
 use fsb_signal::{Lines, Sample};
 use fsb_trace::{Outcome, code_of};
+use fsb_why_open::{outstanding, queue_depth};
 use std::alloc::Global;
 
 /// Follows a trace, and says why a rule of the queue is broken with the next sample.
@@ -46,14 +49,23 @@ pub struct Queue {
     last: Option<u32>,
     /// The end of the request that responded last.
     ended: Option<u32>,
+    /// The clock of the last response.
+    answered: Option<u32>,
 }
 
 /// Whether the answers for the rule of this number are exact.
-#[tactic(auto, unfolding(crate::specs::Queue::is_explained))]
-pub fn is_explained(rule: u8) -> bool
-    ensures { result ≡ is_explained rule }
+#[tactic(auto, unfolding(crate::specs::Queue::is_queue_rule))]
+pub fn is_queue_rule(rule: u8) -> bool
+    ensures { result ≡ is_queue_rule rule }
 {
-    rule == 11 || rule == 12 || rule == 13 || rule == 14 || rule == 15
+    rule == 4
+        || rule == 11
+        || rule == 12
+        || rule == 13
+        || rule == 14
+        || rule == 15
+        || rule == 16
+        || rule == 18
 }
 
 /// A request without its snoop end.
@@ -169,6 +181,17 @@ fn last_after(last: Option<u32>, end: Option<u32>) -> Option<u32>
     if end.is_some() { end } else { last }
 }
 
+/// The clock of the last response, after the sample of this clock.
+fn answered_after(before: Option<u32>, clock: u32, sample: &Sample) -> Option<u32>
+    ensures { result ≡ (if responds sample.now then Some clock else before) }
+{
+    if responds(sample) {
+        Some(clock)
+    } else {
+        before
+    }
+}
+
 /// The end of the request that responded last, after the sample of this clock: the one before,
 /// where it is no response, and else this clock or none, where data move after it.
 fn ended_after(before: Option<u32>, clock: u32, sample: &Sample, moving: bool) -> Option<u32>
@@ -196,6 +219,7 @@ impl Queue {
             snooped: 0,
             last: None,
             ended: None,
+            answered: None,
         }
     }
 
@@ -467,17 +491,91 @@ impl Queue {
         }
     }
 
-    /// Why the rule of this number, 1 to 20, is broken with the next sample: of a rule that
-    /// `is_explained`, a reason where it is broken, and none where it is kept. None for any other
-    /// rule.
+    /// The request whose data are on the way after the samples fed.
+    fn moving(&self) -> Option<Coming>
+        ensures { (h : Trace) → Stands self.now h → Orderly h → SaysMoving h result }
+    {
+        match self.table.chunks() {
+            Some(chunks) => self.moving_with(chunks),
+            None => None,
+        }
+    }
+
+    /// The request that responded last, of whose data so many chunks came.
+    fn moving_with(&self, chunks: u8) -> Option<Coming>
+        ensures { (h : Trace) → Stands self.now h → Orderly h → transfer_of h ≡ Some chunks →
+            SaysMoving h result }
+    {
+        match self.table.moving() {
+            Some(row) => match row.response {
+                Some(response) => Some(Coming {
+                    request: Concerned {
+                        number: self.responses.saturating_sub(1),
+                        clock: row.seen.clock,
+                    },
+                    response,
+                    chunks,
+                }),
+                None => None,
+            },
+            None => None,
+        }
+    }
+
+    /// The request that responds with the sample of this clock, where its data move.
+    fn answered_moving(&self, clock: u32, sample: &Sample) -> Option<Concerned>
+        ensures { (h : Trace) → IsAt self.now clock h →
+            SaysAnswered h sample.now (h ++ sample.now ∷ []) result }
+    {
+        if responds(sample) {
+            match self.next(clock, sample) {
+                Some(next) => next.moving(sample.response()),
+                None => None,
+            }
+        } else {
+            None
+        }
+    }
+
+    /// The request whose data are on the way at this clock, with its sample.
+    fn coming(&self, clock: u32, sample: &Sample) -> Option<Coming>
+        ensures { (h : Trace) → IsAt self.now clock h →
+            SaysComing (h ++ sample.now ∷ []) clock result }
+    {
+        match self.answered_moving(clock, sample) {
+            Some(request) => Some(Coming {
+                request,
+                response: clock,
+                chunks: 0,
+            }),
+            None => self.moving(),
+        }
+    }
+
+    /// Rule 16, data transfer.
+    pub fn data_transfer(&self, clock: u32, sample: &Sample) -> Option<Reason>
+        ensures { (m : Marks) (h : Trace) → IsAt self.now clock h →
+            Explains m (h ++ sample.now ∷ []) clock 16 result }
+    {
+        let last = answered_after(self.answered, clock, sample);
+        match self.coming(clock, sample) {
+            Some(coming) => coming.busy_wrongly(sample, last),
+            None => unexpected(sample, last),
+        }
+    }
+
+    /// Why the rule of this number, 1 to 20, is broken with the next sample: where `is_queue_rule`
+    /// holds of it, a reason if it is broken, and none if it is kept. None for any other rule.
     pub fn why(&self, rule: u8, sample: &Sample) -> Option<Reason>
         requires { fed self.now < 2 ^ 32 }
         ensures { (m : Marks) (h : Trace) → Stands self.now h → Orderly h →
             Tells m (h ++ sample.now ∷ []) (length h) rule
-            (is_explained rule && breaks m (h ++ sample.now ∷ []) (length h) rule) result }
+            (is_queue_rule rule && breaks m (h ++ sample.now ∷ []) (length h) rule) result }
     {
         let clock = self.table.clock() as u32;
-        if rule == 11 {
+        if rule == 4 {
+            queue_depth(&self.table, clock, sample)
+        } else if rule == 11 {
             self.snoop_line(clock, sample)
         } else if rule == 12 {
             self.snoop_result(clock, sample)
@@ -487,6 +585,10 @@ impl Queue {
             self.response_code(clock, sample)
         } else if rule == 15 {
             self.target_ready(clock, sample)
+        } else if rule == 16 {
+            self.data_transfer(clock, sample)
+        } else if rule == 18 {
+            outstanding(&self.table, clock, sample)
         } else {
             None
         }
@@ -505,6 +607,7 @@ impl Queue {
         self.table.feed(sample)?;
         let moving = self.table.chunks().is_some();
         self.ended = ended_after(before, clock, sample, moving);
+        self.answered = answered_after(self.answered, clock, sample);
         self.responses = responses_after(self.responses, sample);
         self.snooped = snooped_after(self.snooped, end);
         self.last = last_after(self.last, end);

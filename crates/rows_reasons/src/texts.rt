@@ -156,3 +156,163 @@ fn responses(rt: HostRuntime) {
         busy,
     );
 }
+
+/// A clock, a reason that holds there, and its sentence.
+type Said = (u32, Reason, &'static str);
+
+fn expect_texts(rt: &impl Abort, alloc: Global, said: &[Said]) {
+    for (clock, reason, text) in said {
+        expect_text(rt, alloc, *clock, *reason, text);
+    }
+}
+
+#[test]
+fn beginnings(rt: HostRuntime) {
+    let said = [
+        (
+            3,
+            Reason::Unlawful {
+                fault: DecodeFault::BadField,
+            },
+            "The request that began at 2 has an address bit that its kind does not have.",
+        ),
+        (
+            1,
+            Reason::NotArbitrated,
+            "ADS# is asserted at 1. Agents ask two clocks before, so that no request begins below 2.",
+        ),
+        (
+            9,
+            Reason::Locked { holder: None },
+            "ADS# is asserted at 9. LOCK# was asserted at 7, and nobody held the bus.",
+        ),
+        (
+            9,
+            Reason::ReplyByOther { winner: None },
+            "The request that began at 8 is a deferred reply, and nobody won the bus. Only the priority agent replies.",
+        ),
+        (
+            0,
+            Reason::AddressParity {
+                low: false,
+                high: true,
+            },
+            "At 0 an odd number of AP1# and A[35:24]# is asserted.",
+        ),
+        (
+            0,
+            Reason::AddressParity {
+                low: true,
+                high: true,
+            },
+            "At 0 an odd number of AP0# and A[23:3]# is asserted, and of AP1# and A[35:24]# too.",
+        ),
+    ];
+    expect_texts(&rt, rt.alloc(), &said);
+}
+
+#[test]
+fn snoops_of_others(rt: HostRuntime) {
+    let hit = SnoopLines {
+        hit: true,
+        hitm: false,
+        defer: false,
+    };
+    let hitm = SnoopLines {
+        hit: false,
+        hitm: true,
+        defer: false,
+    };
+    let said = [
+        (
+            28,
+            Reason::SnoopBetween {
+                lines: hit,
+                request: SECOND,
+                start: 27,
+            },
+            "HIT# is asserted at 28, between two snoop clocks of request 1 (first clock 23). They are every second clock from 27 on.",
+        ),
+        (
+            27,
+            Reason::ReplySnooped {
+                lines: hitm,
+                request: SECOND,
+            },
+            "HITM# is asserted at 27, the snoop end of request 1 (first clock 23). It is a deferred reply, which HIT# alone may answer.",
+        ),
+    ];
+    expect_texts(&rt, rt.alloc(), &said);
+}
+
+#[test]
+fn waits(rt: HostRuntime) {
+    let said = [
+        (
+            29,
+            Reason::ResponseEarly {
+                request: SECOND,
+                wait: Wait::NotClear(None),
+                earliest: None,
+            },
+            "RS# is not idle at 29, and request 1 (first clock 23) waits for the request before it, which has not ended.",
+        ),
+        (
+            29,
+            Reason::ResponseEarly {
+                request: SECOND,
+                wait: Wait::NotClear(Some(29)),
+                earliest: Some(30),
+            },
+            "RS# is not idle at 29. It may answer at 30 at the earliest: request 1 (first clock 23) waits for the request before it, which ends at 29.",
+        ),
+        (
+            25,
+            Reason::ReadyEarly {
+                request: SECOND,
+                wait: Wait::NoSnoopEnd,
+                earliest: None,
+            },
+            "TRDY# is asserted at 25, and request 1 (first clock 23) has no snoop end yet.",
+        ),
+    ];
+    expect_texts(&rt, rt.alloc(), &said);
+}
+
+#[test]
+fn codes_and_targets(rt: HostRuntime) {
+    let said = [
+        (
+            28,
+            Reason::CodeForNone { number: 1, code: 7 },
+            "RS# is 111 at 28, and no request waits for a response. 1 came before.",
+        ),
+        (
+            30,
+            Reason::ReadyTwice {
+                request: SECOND,
+                ready: 29,
+            },
+            "TRDY# is asserted at 30. It was asserted for request 1 (first clock 23) at 29.",
+        ),
+        (
+            30,
+            Reason::ResponseUnready {
+                request: SECOND,
+                ready: Some(29),
+                earliest: Some(31),
+            },
+            "RS# answers request 1 (first clock 23) at 30. It may do so at 31 at the earliest: TRDY# is asserted for it at 29.",
+        ),
+        (
+            29,
+            Reason::ResponseUnready {
+                request: SECOND,
+                ready: None,
+                earliest: None,
+            },
+            "RS# answers request 1 (first clock 23) at 29, and TRDY# was not asserted for it two clocks before.",
+        ),
+    ];
+    expect_texts(&rt, rt.alloc(), &said);
+}

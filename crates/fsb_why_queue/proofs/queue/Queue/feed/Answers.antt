@@ -3,6 +3,7 @@ use Rattle.std.proofs.Common.{is_some}
 use Rattle.fsb_laws.specs.OneMore.{responds}
 use Rattle.fsb_laws.proofs.Interface.{one_more, response_count-more}
 use Rattle.fsb_why_queue.proofs.Ends.{end-fed, few_responses, few_snoops}
+use Rattle.fsb_why_queue.proofs.Busy.{last-fed}
 use Rattle.fsb_why_queue.proofs.Asking.{count-after, last-after}
 use Rattle.fsb_why_queue.proofs.queue.Queue.feed.Goals as goal
 
@@ -31,4 +32,6 @@ returns-clause-stands c = λ h s o after.
       ended = c.ended_after-self.ensures
           ∙ end-fed h x c.clock-clock.result c.ended_with-before.result c.is_some-moving.result o after clock
           (c.is_some-moving.ensures ∙ ap is_some (c.chunks.ensures (h ++ x ∷ []) table)) before;
+      answered = c.answered_after-self.ensures
+          ∙ last-fed h x c.clock-clock.result c.args.self.now.answered clock s.answered;
     }
