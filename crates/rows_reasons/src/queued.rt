@@ -176,8 +176,9 @@ fn data_lines(rt: HostRuntime) {
         "DBSY# is asserted at 11, and no data are left to come. The last response came at 8.";
     expect_after(&rt, a, &ANSWERED, 11, (DBSY | DRDY, 0, 0), 16, late);
     expect_after(&rt, a, &ANSWERED, 11, (DRDY, 0, 0), 16, "");
-    let fifth = "DRDY# is asserted at 8, and no data are on the way. The last response came at 8.";
-    expect_after(&rt, a, &READ, 8, (RS0 | DRDY, 0, 0), 16, fifth);
+    let unmoved =
+        "DRDY# is asserted at 8, and no data are on the way. The last response came at 8.";
+    expect_after(&rt, a, &READ, 8, (RS0 | DRDY, 0, 0), 16, unmoved);
 }
 
 #[test]
