@@ -35,7 +35,7 @@ use Rattle.fsb_owner_feed.proofs.FoundRows.{passes}
 use Rattle.fsb_reasons.specs.declared.reason.Reason.TheVariants.{ReplyUnawaited}
 use Rattle.fsb_reasons.specs.RuleOf.{rule_of}
 use Rattle.fsb_why.specs.Explains.{IsReason}
-use Rattle.fsb_why_open.specs.Open.{Begins, is_row_answered, is_row_answering, is_row_in_flight, is_row_reply_to, row_awaits}
+use Rattle.fsb_why_open.specs.Open.{IsFirstClock, is_row_answered, is_row_answering, is_row_in_flight, is_row_reply_to, row_awaits}
 use Rattle.fsb_why_open.proofs.InFlight.{dropped_more}
 use Rattle.fsb_why_open.proofs.KeptOnes.{any_rows}
 use Rattle.fsb_why_open.proofs.Same.{ads_same, dropped_same, found_reply, live_same, no_replies, number_same, reply_below, reply_to_same}
@@ -116,7 +116,7 @@ neither : (a b : Bool) → (a || b) ≡ false → a ≡ false
 neither true b e = absurd (let no : ⊥ = cc in no)
 neither false b e = refl
 
-module _ {rows : List Row} {q : ℕ} {who : Option Who} {reply : Option Request} {h : Trace} {x : Sample} (b : Begins rows q who reply h x) where
+module _ {rows : List Row} {q : ℕ} {who : Option Who} {reply : Option Request} {h : Trace} {x : Sample} (b : IsFirstClock rows q who reply h x) where
   abbrev v : Trace
   v = h ++ x ∷ []
 

@@ -33,7 +33,7 @@ use Rattle.fsb_reasons.specs.declared.reason.Reason.{Reason}
 use Rattle.fsb_reasons.specs.declared.reason.Reason.TheVariants.{IdTaken, TooMany}
 use Rattle.fsb_reasons.specs.RuleOf.{rule_of}
 use Rattle.fsb_why.specs.Explains.{Explains, IsReason, Tells, either_reason}
-use Rattle.fsb_why_open.specs.Open.{Begins, is_row_of, is_row_outstanding, row_takes}
+use Rattle.fsb_why_open.specs.Open.{IsFirstClock, is_row_of, is_row_unfinished, row_takes}
 use Rattle.fsb_why_open.proofs.InFlight.{dropped_more, found_clock, none_mapped}
 use Rattle.fsb_why_open.proofs.KeptOnes.{count_rows, most}
 use Rattle.fsb_why_open.proofs.Same.{ads_same, outstanding_same, request_same}
@@ -49,7 +49,7 @@ closed_more row d c l t =
       | inr last ↦ or_right (is_row_dropped row c) (is_before (row_last_clock row) c) (before_more (row_last_clock row) d c l last)
     ]
 
-outstanding_open : (row : Row) (c d : ℕ) → d ≤ c → is_row_outstanding c row ≡ true → is_row_closed row d ≡ false
+outstanding_open : (row : Row) (c d : ℕ) → d ≤ c → is_row_unfinished c row ≡ true → is_row_closed row d ≡ false
 outstanding_open row c d l t =
     false_from_ne_true (is_row_closed row d) (λ k.
     both_ways (not (is_row_closed row c)) (not_from_true (is_row_closed row c) (closed_more row d c l k))
@@ -69,7 +69,7 @@ parted a l r d f b t = rw t (grind arith)
 
 -- the row of an outstanding request that passes one more test
 outstanding_and : (h : Trace) (q p : ℕ) (b : Bool) → p < q
-    → (line_at ADS h p && (is_row_outstanding q (row_at h p) && b)) ≡ (is_outstanding h q p && b)
+    → (line_at ADS h p && (is_row_unfinished q (row_at h p) && b)) ≡ (is_outstanding h q p && b)
 unfolding is_outstanding
 outstanding_and h q p b l =
     rw (closed_is (row_at h p) h p q refl, request_of_row h p)
@@ -90,7 +90,7 @@ undecoded w q p e =
     and_right (is_outstanding w q p) (have_same_id (request_at w p) (request_at w q))
     (ap (have_same_id (request_at w p)) e ∙ no_id (request_at w p))
 
-module _ {rows : List Row} {q : ℕ} {who : Option Who} {request : Option Request} {h : Trace} {x : Sample} (b : Begins rows q who request h x) where
+module _ {rows : List Row} {q : ℕ} {who : Option Who} {request : Option Request} {h : Trace} {x : Sample} (b : IsFirstClock rows q who request h x) where
   abbrev v : Trace
   v = h ++ x ∷ []
 
@@ -263,7 +263,7 @@ asked_last h q e t =
 
 pub begins_from : (rows : List Row) (h : Trace) (x : Sample) (begun : FirstClock) (request : Option Request) (c q : ℕ)
     → rows ≡ rows_of h → Orderly h → c ≡ length h → q ≡ c - 1 → SaysBegins (Some begun) h
-    → request ≡ decoded_by begun.first x → (Begins rows q begun.who request h x) × (q + 1 ≡ c)
+    → request ≡ decoded_by begun.first x → (IsFirstClock rows q begun.who request h x) × (q + 1 ≡ c)
 begins_from rows h x begun request c q kept o e back says decoded =
     let at : length h - 1 ≡ q = sym (back ∙ ap (λ n. n - 1) e) in
     let last : length h ≡ q + 1 = let l = says.1.last in omega (arith, l, at) in (

@@ -26,7 +26,7 @@ pub record IsAfter (table : Table) (n : ℕ) (h : Trace) : Type 0 where
 
 -- the rows are those of h, and with its last clock q this request of this agent begins, which is
 -- decoded with the sample x
-pub record Begins (rows : List Row) (q : ℕ) (who : Option Who) (request : Option Request) (h : Trace) (x : Sample) : Type 0 where
+pub record IsFirstClock (rows : List Row) (q : ℕ) (who : Option Who) (request : Option Request) (h : Trace) (x : Sample) : Type 0 where
   pub kept : rows ≡ rows_of h
   pub orderly : Orderly h
   pub last : length h ≡ q + 1
@@ -39,16 +39,16 @@ abbrev pub is_row_in_flight : ℕ → Row → Bool
 is_row_in_flight c row = not (is_row_dropped row c || is_before row.end c)
 
 -- it is outstanding at c
-abbrev pub is_row_outstanding : ℕ → Row → Bool
-is_row_outstanding c row = not (is_reply row.seen.request) && not (is_row_closed row c)
+abbrev pub is_row_unfinished : ℕ → Row → Bool
+is_row_unfinished c row = not (is_reply row.seen.request) && not (is_row_closed row c)
 
 -- and has the ID of this request
 abbrev pub row_takes : ℕ → Option Request → Row → Bool
-row_takes c request row = is_row_outstanding c row && have_same_id row.seen.request request
+row_takes c request row = is_row_unfinished c row && have_same_id row.seen.request request
 
 -- and is of this agent
 abbrev pub is_row_of : ℕ → Who → Row → Bool
-is_row_of c who row = is_row_outstanding c row && is_agent row.seen.who who
+is_row_of c who row = is_row_unfinished c row && is_agent row.seen.who who
 
 -- the other request is a reply to it
 abbrev pub is_row_reply_to : Row → Row → Bool

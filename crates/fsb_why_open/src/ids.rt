@@ -11,7 +11,7 @@ ghost use Rattle.fsb_trace.specs.Requests.{is_reply};
 ghost use Rattle.fsb_trace.specs.Rules.{is_id_taken_by, is_outstanding_of_winner};
 ghost use Rattle.fsb_count.specs.Clocks.{any_where, count_where};
 ghost use Rattle.fsb_why.specs.Explains.{Explains, Tells, either_reason};
-ghost use Rattle.fsb_why_open.specs.Open.{Begins, IsAfter, is_row_answered, is_row_answering, is_row_of, is_row_outstanding, is_row_reply_to, row_awaits, row_takes};
+ghost use Rattle.fsb_why_open.specs.Open.{IsFirstClock, IsAfter, is_row_answered, is_row_answering, is_row_of, is_row_unfinished, is_row_reply_to, row_awaits, row_takes};
 
 use crate::words::{have_same_id, is_agent, is_before, is_reply, number};
 use fsb_encode::Request;
@@ -69,7 +69,7 @@ fn is_awaited(rows: &[Row], clock: u32, reply: Option<Request>) -> bool
 
 /// Whether the request of the row is outstanding at the clock.
 fn is_outstanding(row: &Row, clock: u32) -> bool
-    ensures { result ≡ is_row_outstanding clock row.now }
+    ensures { result ≡ is_row_unfinished clock row.now }
 {
     !row.is_reply() && !row.is_closed(clock)
 }
@@ -94,7 +94,7 @@ fn count_of(rows: &[Row], clock: u32, who: Who) -> usize
 /// Why the reply, which begins at the clock, answers nobody.
 fn unawaited(rows: &[Row], clock: u32, reply: Option<Request>) -> Option<Reason>
     ensures { (m : Marks) (h : Trace) (x : Sample) (who : Option Who) →
-        Begins rows.now clock who reply h x → is_reply reply ≡ true →
+        IsFirstClock rows.now clock who reply h x → is_reply reply ≡ true →
         Explains m (h ++ x ∷ []) (clock + 1) 18 result }
 {
     if is_awaited(rows, clock, reply) {
@@ -110,7 +110,7 @@ fn unawaited(rows: &[Row], clock: u32, reply: Option<Request>) -> Option<Reason>
 /// Why the request, which begins at the clock and is no reply, may not have its ID.
 fn taken(rows: &[Row], clock: u32, request: Option<Request>) -> Option<Reason>
     ensures { (m : Marks) (h : Trace) (x : Sample) (who : Option Who) →
-        Begins rows.now clock who request h x → is_reply request ≡ false →
+        IsFirstClock rows.now clock who request h x → is_reply request ≡ false →
         Tells m (h ++ x ∷ []) (clock + 1) 18
         (any_where (is_id_taken_by (h ++ x ∷ []) clock) clock) result }
 {
@@ -129,7 +129,7 @@ fn taken(rows: &[Row], clock: u32, request: Option<Request>) -> Option<Reason>
 /// Why the request, which begins at the clock and is no reply, is one too many of its agent.
 fn too_many(rows: &[Row], clock: u32, who: Option<Who>) -> Option<Reason>
     ensures { (m : Marks) (h : Trace) (x : Sample) (request : Option Request) →
-        Begins rows.now clock who request h x → is_reply request ≡ false →
+        IsFirstClock rows.now clock who request h x → is_reply request ≡ false →
         Tells m (h ++ x ∷ []) (clock + 1) 18
         (nat_le 4 (count_where (is_outstanding_of_winner (h ++ x ∷ []) clock) clock)) result }
 {
@@ -163,7 +163,7 @@ fn begun_wrongly(
     who: Option<Who>,
     request: Option<Request>,
 ) -> Option<Reason>
-    ensures { (m : Marks) (h : Trace) (x : Sample) → Begins rows.now clock who request h x →
+    ensures { (m : Marks) (h : Trace) (x : Sample) → IsFirstClock rows.now clock who request h x →
         Explains m (h ++ x ∷ []) (clock + 1) 18 result }
 {
     if is_reply(request) {

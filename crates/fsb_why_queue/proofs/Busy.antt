@@ -22,9 +22,9 @@ use Rattle.fsb_reasons.specs.declared.reason.Reason.{Reason}
 use Rattle.fsb_reasons.specs.declared.reason.Reason.TheVariants.{BusyForNone, BusyMissing, DataForNone}
 use Rattle.fsb_reasons.specs.RuleOf.{rule_of}
 use Rattle.fsb_why.specs.Explains.{Explains, IsReason}
-use Rattle.fsb_why_queue.specs.declared.data.Coming.{Coming}
+use Rattle.fsb_why_queue.specs.declared.data.Transfer.{Transfer}
 use Rattle.fsb_why_queue.specs.declared.next.Next.{Next}
-use Rattle.fsb_why_queue.specs.Data.{HasNoData, IsComing, IsEnd, SaysAnswered}
+use Rattle.fsb_why_queue.specs.Data.{HasNoData, IsTransfer, IsEnd, SaysMover}
 use Rattle.fsb_why_queue.specs.Next.{IsNext}
 
 -- the last response, one sample on
@@ -101,7 +101,7 @@ told_is v i code next c g e = rw (sym e, g.handed, g.decoded) refl
 answered_cases : (h : Trace) (x : Sample) (request : Concerned) (b : Bool) → responds x ≡ true
     → moves_data (h ++ x ∷ []) (response_count h) ≡ b → request.number ≡ response_count h
     → live_clock_of (h ++ x ∷ []) request.number ≡ Some request.clock
-    → SaysAnswered h x (h ++ x ∷ []) (cond b (Some request) None)
+    → SaysMover h x (h ++ x ∷ []) (cond b (Some request) None)
 answered_cases h x request true t moves number clock =
     record { responds = t; moves = moves; number = number; clock = clock }
 answered_cases h x request false t moves number clock = and_right (responds x) _ moves
@@ -109,7 +109,7 @@ answered_cases h x request false t moves number clock = and_right (responds x) _
 pub answered-some : (h : Trace) (x : Sample) (c : ℕ) (next : Next) (o : Option Concerned) → c ≡ length h
     → responds x ≡ true → IsNext next (h ++ x ∷ []) c
     → o ≡ cond (does_move (told_with next.handed next.decoded (response_of x))) (Some next.request) None
-    → SaysAnswered h x (h ++ x ∷ []) o
+    → SaysMover h x (h ++ x ∷ []) o
 answered-some h x c next o e t g is_told =
     let v : Trace = h ++ x ∷ [] in
     let number : next.request.number ≡ response_count h =
@@ -120,17 +120,17 @@ answered-some h x c next o e t g is_told =
     let moves = outcome_there v (response_count h) (length h) (response_of x) clock
     (response_code_at-new h x v (one_more h x)) in
     let told = told_is v (response_count h) (response_of x) next c g number in
-    subst (SaysAnswered h x v) (sym is_told)
+    subst (SaysMover h x v) (sym is_told)
     (answered_cases h x next.request _ t (moves ∙ ap does_move told) number g.clock)
 
 pub answered-none : (h : Trace) (x : Sample) (c : ℕ) → c ≡ length h
-    → live_count (h ++ x ∷ []) ≤ next_response (h ++ x ∷ []) c → SaysAnswered h x (h ++ x ∷ []) None
+    → live_count (h ++ x ∷ []) ≤ next_response (h ++ x ∷ []) c → SaysMover h x (h ++ x ∷ []) None
 answered-none h x c e l =
     let number = ap (next_response (h ++ x ∷ [])) e ∙ next_response-new h x (h ++ x ∷ []) (one_more h x) in
     and_right (responds x) (moves_data (h ++ x ∷ []) (response_count h))
     (response_none (h ++ x ∷ []) (response_count h) (omega (arith, l, number)))
 
-pub answered-quiet : (h : Trace) (x : Sample) → responds x ≡ false → SaysAnswered h x (h ++ x ∷ []) None
+pub answered-quiet : (h : Trace) (x : Sample) → responds x ≡ false → SaysMover h x (h ++ x ∷ []) None
 answered-quiet h x f = and_left (responds x) (moves_data (h ++ x ∷ []) (response_count h)) f
 
 -- the rule
@@ -160,8 +160,8 @@ pub none-used : (m : Marks) (v : Trace) (c : ℕ) (x : Sample) (last : Option �
 none-used m v c x last e n f g =
     data_kept m v c false false false false (e.drdy ∙ f) (e.dbsy ∙ g) n.there n.after refl refl refl
 
-fourth : (m : Marks) (v : Trace) (c : ℕ) (x : Sample) (last : Option ℕ) (coming : Coming) → IsEnd v c x last
-    → IsComing coming v c → is_transferring v (c + 1) ≡ nat_lt (coming.chunks + cond (has_line x DRDY) 1 0) 4
+fourth : (m : Marks) (v : Trace) (c : ℕ) (x : Sample) (last : Option ℕ) (coming : Transfer) → IsEnd v c x last
+    → IsTransfer coming v c → is_transferring v (c + 1) ≡ nat_lt (coming.chunks + cond (has_line x DRDY) 1 0) 4
 fourth m v c x last coming e g = g.after ∙ ap (λ b. nat_lt (coming.chunks + cond b 1 0) 4) e.drdy
 
 chunks_now : (v : Trace) (c r : ℕ) → r ≤ c → count_where (from_clock r (line_at DRDY v)) (c + 1)
@@ -176,8 +176,8 @@ and_not true = refl
 and_not false = refl
 
 -- more chunks are to come
-pub missing : (m : Marks) (v : Trace) (c n : ℕ) (x : Sample) (last : Option ℕ) (coming : Coming) (o : Option Reason) (busy : Bool)
-    → IsEnd v c x last → IsComing coming v c → n ≡ coming.chunks + cond (has_line x DRDY) 1 0 → n < 4
+pub missing : (m : Marks) (v : Trace) (c n : ℕ) (x : Sample) (last : Option ℕ) (coming : Transfer) (o : Option Reason) (busy : Bool)
+    → IsEnd v c x last → IsTransfer coming v c → n ≡ coming.chunks + cond (has_line x DRDY) 1 0 → n < 4
     → has_line x DBSY ≡ busy → o ≡ cond busy None (Some (BusyMissing coming.request coming.response n))
     → Explains m v c 16 o
 unfolding rule_of
@@ -194,8 +194,8 @@ missing m v c n x last coming o false e g is_count few f is_told =
     (record { rule = refl; holds = (e.dbsy ∙ f, g.clock, g.moves, g.response, all, few) })
 
 -- or the last one came
-pub over : (m : Marks) (v : Trace) (c n : ℕ) (x : Sample) (last : Option ℕ) (coming : Coming) (o : Option Reason) (busy : Bool)
-    → IsEnd v c x last → IsComing coming v c → n ≡ coming.chunks + cond (has_line x DRDY) 1 0 → 4 ≤ n
+pub over : (m : Marks) (v : Trace) (c n : ℕ) (x : Sample) (last : Option ℕ) (coming : Transfer) (o : Option Reason) (busy : Bool)
+    → IsEnd v c x last → IsTransfer coming v c → n ≡ coming.chunks + cond (has_line x DRDY) 1 0 → 4 ≤ n
     → has_line x DBSY ≡ busy → o ≡ cond busy (Some (BusyForNone last)) None → Explains m v c 16 o
 over m v c n x last coming o busy e g is_count many t is_told =
     let after : is_transferring v (c + 1) ≡ false =

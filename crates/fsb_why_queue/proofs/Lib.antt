@@ -5,5 +5,5 @@ pub mod Codes
 pub mod Readiness
 pub mod Asking
 pub mod Order
-pub mod Transfer
+pub mod OnTheWay
 pub mod Busy

@@ -8,7 +8,7 @@ ghost use Rattle.fsb_trace.specs.At.{Trace};
 ghost use Rattle.fsb_trace.specs.Outcome.{does_move, told_with};
 ghost use Rattle.fsb_reasons.specs.declared.reason.Reason.TheVariants.{BusyForNone, BusyMissing};
 ghost use Rattle.fsb_why.specs.Explains.{Explains};
-ghost use Rattle.fsb_why_queue.specs.Data.{HasNoData, IsComing, IsEnd};
+ghost use Rattle.fsb_why_queue.specs.Data.{HasNoData, IsTransfer, IsEnd};
 
 use crate::next::Next;
 use fsb_reasons::{Concerned, Reason};
@@ -17,7 +17,7 @@ use fsb_trace::{moves, told_with};
 
 /// The request whose data are on the way at a clock.
 #[derive(Clone, Copy, Debug, PartialEq, Eq)]
-pub struct Coming {
+pub struct Transfer {
     /// Its number among the live requests, and its first clock.
     pub request: Concerned,
     /// The clock of its response.
@@ -55,7 +55,7 @@ impl Next {
     }
 }
 
-impl Coming {
+impl Transfer {
     /// How many of its chunks came with the sample of the clock.
     fn chunks_with(&self, sample: &Sample) -> u32
         ensures { result ≡ self.now.chunks + (if has_line sample.now DRDY then 1 else 0) }
@@ -66,7 +66,7 @@ impl Coming {
     /// Why DBSY# is not as its data ask at the clock, with this sample and the last response up to it.
     pub fn busy_wrongly(&self, sample: &Sample, last: Option<u32>) -> Option<Reason>
         ensures { (m : Marks) (v : Trace) (c : ℕ) → IsEnd v c sample.now last →
-            IsComing self.now v c → Explains m v c 16 result }
+            IsTransfer self.now v c → Explains m v c 16 result }
     {
         let chunks = self.chunks_with(sample);
         let busy = sample.has(Lines::DBSY);

@@ -10,7 +10,7 @@
 //! Next: fsb_reasons, whose `specs/Holds.antt` says what each reason claims.
 #![tactic(auto)]
 
-pub use data::Coming;
+pub use data::Transfer;
 pub use laws::{kept_rules_keep_order, unbroken_traces_are_orderly};
 pub use next::Next;
 pub use queue::{Queue, is_queue_rule};

@@ -18,12 +18,12 @@ ghost use Rattle.fsb_laws.specs.Progress.{response_count, transfer_of};
 ghost use Rattle.fsb_heads.specs.Heads.{snooped_count, value_before};
 ghost use Rattle.fsb_owner_feed.specs.Table.{IsRowOf};
 ghost use Rattle.fsb_why.specs.Explains.{Explains, Tells};
-ghost use Rattle.fsb_why_queue.specs.Data.{SaysAnswered, SaysComing, SaysMoving};
+ghost use Rattle.fsb_why_queue.specs.Data.{SaysMover, SaysTransfer, SaysUnderWay};
 ghost use Rattle.fsb_why_queue.specs.Next.{IsNext, SaysAsked, SaysNext};
 ghost use Rattle.fsb_why_queue.specs.Snoops.{SaysSnooping};
 ghost use Rattle.fsb_why_queue.specs.Queue.{HasNone, IsAt, Stands, fed, is_queue_rule};
 
-use crate::data::{Coming, unexpected};
+use crate::data::{Transfer, unexpected};
 use crate::next::Next;
 use crate::snoops::{Snooping, is_any, snoop_lines};
 use fsb_encode::Request;
@@ -492,8 +492,8 @@ impl Queue {
     }
 
     /// The request whose data are on the way after the samples fed.
-    fn moving(&self) -> Option<Coming>
-        ensures { (h : Trace) → Stands self.now h → Orderly h → SaysMoving h result }
+    fn moving(&self) -> Option<Transfer>
+        ensures { (h : Trace) → Stands self.now h → Orderly h → SaysUnderWay h result }
     {
         match self.table.chunks() {
             Some(chunks) => self.moving_with(chunks),
@@ -502,13 +502,13 @@ impl Queue {
     }
 
     /// The request that responded last, of whose data so many chunks came.
-    fn moving_with(&self, chunks: u8) -> Option<Coming>
+    fn moving_with(&self, chunks: u8) -> Option<Transfer>
         ensures { (h : Trace) → Stands self.now h → Orderly h → transfer_of h ≡ Some chunks →
-            SaysMoving h result }
+            SaysUnderWay h result }
     {
         match self.table.moving() {
             Some(row) => match row.response {
-                Some(response) => Some(Coming {
+                Some(response) => Some(Transfer {
                     request: Concerned {
                         number: self.responses.saturating_sub(1),
                         clock: row.seen.clock,
@@ -525,7 +525,7 @@ impl Queue {
     /// The request that responds with the sample of this clock, where its data move.
     fn answered_moving(&self, clock: u32, sample: &Sample) -> Option<Concerned>
         ensures { (h : Trace) → IsAt self.now clock h →
-            SaysAnswered h sample.now (h ++ sample.now ∷ []) result }
+            SaysMover h sample.now (h ++ sample.now ∷ []) result }
     {
         if responds(sample) {
             match self.next(clock, sample) {
@@ -538,12 +538,12 @@ impl Queue {
     }
 
     /// The request whose data are on the way at this clock, with its sample.
-    fn coming(&self, clock: u32, sample: &Sample) -> Option<Coming>
+    fn coming(&self, clock: u32, sample: &Sample) -> Option<Transfer>
         ensures { (h : Trace) → IsAt self.now clock h →
-            SaysComing (h ++ sample.now ∷ []) clock result }
+            SaysTransfer (h ++ sample.now ∷ []) clock result }
     {
         match self.answered_moving(clock, sample) {
-            Some(request) => Some(Coming {
+            Some(request) => Some(Transfer {
                 request,
                 response: clock,
                 chunks: 0,

@@ -1,5 +1,5 @@
 use Rattle.std.proofs.Common.{subst, [], ◌∷◌, ◌++◌}
-use Rattle.fsb_why_queue.specs.Data.{SaysComing}
+use Rattle.fsb_why_queue.specs.Data.{SaysTransfer}
 use Rattle.fsb_why_queue.proofs.Busy.{end-is}
 use Rattle.fsb_why_queue.proofs.queue.Queue.data_transfer.Goals as goal
 
@@ -9,7 +9,7 @@ returns-in-Some c = λ m h g.
     c.busy_wrongly.ensures m (h ++ x ∷ []) c.args.clock
     (end-is h x c.args.clock c.args.self.now.answered c.answered_after-last.result g.clock (g.stands).answered
     c.answered_after-last.ensures)
-    (subst (SaysComing (h ++ x ∷ []) c.args.clock) c.in-Some.is (c.coming.ensures h g))
+    (subst (SaysTransfer (h ++ x ∷ []) c.args.clock) c.in-Some.is (c.coming.ensures h g))
 
 pub returns-in-None : goal.returns-in-None
 returns-in-None c = λ m h g.
@@ -17,4 +17,4 @@ returns-in-None c = λ m h g.
     c.unexpected.ensures m (h ++ x ∷ []) c.args.clock
     (end-is h x c.args.clock c.args.self.now.answered c.answered_after-last.result g.clock (g.stands).answered
     c.answered_after-last.ensures)
-    (subst (SaysComing (h ++ x ∷ []) c.args.clock) c.in-None.is (c.coming.ensures h g))
+    (subst (SaysTransfer (h ++ x ∷ []) c.args.clock) c.in-None.is (c.coming.ensures h g))

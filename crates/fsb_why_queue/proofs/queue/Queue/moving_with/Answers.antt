@@ -1,6 +1,6 @@
 use Rattle.std.proofs.Common.{subst}
 use Rattle.fsb_owner_feed.specs.Table.{SaysMoving}
-use Rattle.fsb_why_queue.proofs.Transfer.{moved-none, moving-is}
+use Rattle.fsb_why_queue.proofs.OnTheWay.{moved-none, moving-is}
 use Rattle.fsb_why_queue.proofs.queue.Queue.moving_with.Goals as goal
 
 pub returns-in-Some-response : goal.returns-in-Some-response

@@ -27,8 +27,8 @@ use Rattle.fsb_owner_table.specs.Rows.{row_at}
 use Rattle.fsb_owner_table.proofs.Reached.{reached-live}
 use Rattle.fsb_owner_feed.specs.Table.{SaysMoving as RowMoves}
 use Rattle.fsb_reasons.specs.declared.reason.Concerned.{Concerned}
-use Rattle.fsb_why_queue.specs.declared.data.Coming.{Coming}
-use Rattle.fsb_why_queue.specs.Data.{HasNoData, IsAnswered, IsComing, IsMoving, SaysAnswered, SaysComing, SaysMoving}
+use Rattle.fsb_why_queue.specs.declared.data.Transfer.{Transfer}
+use Rattle.fsb_why_queue.specs.Data.{HasNoData, IsMover, IsTransfer, IsUnderWay, SaysMover, SaysTransfer, SaysUnderWay}
 use Rattle.fsb_why_queue.proofs.Ends.{chunk_now, chunks_before}
 
 -- without a response, or where no data move, nothing is on the way
@@ -154,8 +154,8 @@ module _ (h : Trace) (x : Sample) (o : Orderly h) where
       live_clock_of-more h x v i q m o.spaced e
       (not_cancelled x (length h) q (λ t. omega (arith, t, same, c.above, a.before, r.2)))
 
-  pub coming_last : (coming : Coming) → IsMoving coming h → (responds x && moves_data v (response_count h)) ≡ false
-      → IsComing coming v (length h)
+  pub coming_last : (coming : Transfer) → IsUnderWay coming h → (responds x && moves_data v (response_count h)) ≡ false
+      → IsTransfer coming v (length h)
   coming_last coming g f =
       let i : ℕ = coming.request.number in
       let r : ℕ = coming.response in
@@ -205,8 +205,8 @@ module _ (h : Trace) (x : Sample) (o : Orderly h) where
   few_first true = refl
   few_first false = refl
 
-  pub coming_now : (request : Concerned) → IsAnswered request h x v
-      → IsComing (record { request = request; response = length h; chunks = 0 }) v (length h)
+  pub coming_now : (request : Concerned) → IsMover request h x v
+      → IsTransfer (record { request = request; response = length h; chunks = 0 }) v (length h)
   unfolding is_transferring
   coming_now request g =
       let response : response_clock_of v request.number ≡ Some (length h) =
@@ -227,12 +227,12 @@ module _ (h : Trace) (x : Sample) (o : Orderly h) where
             ∙ sym (rw (line_at-new DRDY h x v m) (few_first (has_line x DRDY)));
       }
 
-pub coming-kept : (h : Trace) (x : Sample) (n : ℕ) (k : Option Coming) → Orderly h → n ≡ length h → SaysMoving h k
-    → SaysAnswered h x (h ++ x ∷ []) None → SaysComing (h ++ x ∷ []) n k
+pub coming-kept : (h : Trace) (x : Sample) (n : ℕ) (k : Option Transfer) → Orderly h → n ≡ length h → SaysUnderWay h k
+    → SaysMover h x (h ++ x ∷ []) None → SaysTransfer (h ++ x ∷ []) n k
 coming-kept h x n None o e g f =
-    subst (λ c. SaysComing (h ++ x ∷ []) c None) (sym e) (no_data h x o g f)
+    subst (λ c. SaysTransfer (h ++ x ∷ []) c None) (sym e) (no_data h x o g f)
 coming-kept h x n (Some coming) o e g f =
-    subst (λ c. SaysComing (h ++ x ∷ []) c (Some coming)) (sym e) (coming_last h x o coming g f)
+    subst (λ c. SaysTransfer (h ++ x ∷ []) c (Some coming)) (sym e) (coming_last h x o coming g f)
 
 -- the row of the request that responded last
 row_response : (h : Trace) (i q : ℕ) (row : Row) → live_clock_of h i ≡ Some q → row ≡ row_at h q
@@ -244,7 +244,7 @@ row_response h i q row e is_row =
 
 pub moving-is : (h : Trace) (row : Row) (responses number response chunks : ℕ) → RowMoves h (Some row)
     → responses ≡ response_count h → number ≡ responses - 1 → row.response ≡ Some response → transfer_of h ≡ Some chunks
-    → IsMoving (record {
+    → IsUnderWay (record {
       request = record { number = number; clock = row.seen.clock };
       response = response;
       chunks = chunks;

@@ -1,6 +1,6 @@
 use Rattle.std.proofs.Common.{sym}
 use Rattle.fsb_why_queue.proofs.Busy.{missing, over}
-use Rattle.fsb_why_queue.proofs.data.Coming.busy_wrongly.Goals as goal
+use Rattle.fsb_why_queue.proofs.data.Transfer.busy_wrongly.Goals as goal
 
 pub returns-then-chunks-lt4 : goal.returns-then-chunks-lt4
 returns-then-chunks-lt4 c = λ m v k e g.
