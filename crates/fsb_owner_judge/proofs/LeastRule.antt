@@ -33,7 +33,7 @@ off true r = refl
 off false r = refl
 
 -- a rule at the last clock is judged over the whole trace
-whole : (v : Trace) (n : ℕ) → length v ≡ n + 1 → take (n + 1) v ≡ v
+pub whole : (v : Trace) (n : ℕ) → length v ≡ n + 1 → take (n + 1) v ≡ v
 whole v n e = take_all (n + 1) v (omega (arith, e))
 
 below : (first : List Joint) (v : Trace) (n j : ℕ) → j < 21 → is_ownership_broken first v n j ≡ false
@@ -100,7 +100,7 @@ rule_30 : (first : List Joint) (v : Trace) (n : ℕ) → nat_lt n (length v) ≡
 unfolding is_ownership_broken ownership_rules is_some_and
 rule_30 first v n l w = rw (l, w) refl
 
-rule_31 : (first : List Joint) (v : Trace) (n : ℕ) → nat_lt n (length v) ≡ true → take (n + 1) v ≡ v
+pub rule_31 : (first : List Joint) (v : Trace) (n : ℕ) → nat_lt n (length v) ≡ true → take (n + 1) v ≡ v
     → is_ownership_broken first v n 31 ≡ is_given_again first v n
 unfolding is_ownership_broken ownership_rules is_some_and
 rule_31 first v n l w = rw (l, w) refl

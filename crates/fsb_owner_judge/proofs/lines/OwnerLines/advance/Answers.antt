@@ -8,7 +8,7 @@ use Rattle.fsb_owner_judge.proofs.LineSights.{begun-at}
 use Rattle.fsb_owner_judge.proofs.lines.OwnerLines.advance.Goals as goal
 
 pub returns-clause-rule : goal.returns-clause-rule
-returns-clause-rule c = λ first h x v s z w.
+returns-clause-rule c = λ first h x v s z none w.
     let shown = c.args.shown.now in
     let waits = c.args.waits.now in
     let on = c.spoil_failed.new.self in
@@ -24,7 +24,7 @@ returns-clause-rule c = λ first h x v s z w.
     (c.begun_rule-begun.ensures first v (length h - 1) f k (w.begun z) ∙ ap (begun_rule first v) last)
     (c.answered-late.ensures first v (length h - 1) f k (w.ended_before z)
     (λ line. ap (begun_for line) (w.begun z) ∙ sym (begun-at v line (length h - 1)))
-    ∙ late-then first v (length h) z) w.given_again
+    ∙ late-then first v (length h) z) (w.given_again none)
 
 pub returns-clause-stands : goal.returns-clause-stands
 returns-clause-stands c = λ first h x v s z w.

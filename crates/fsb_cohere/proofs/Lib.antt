@@ -1,0 +1,3 @@
+pub mod QuietLines
+pub mod Showing
+pub mod Passing
