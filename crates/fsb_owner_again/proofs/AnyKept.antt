@@ -19,7 +19,7 @@ use Rattle.fsb_owner_table.proofs.KeptRows.{kept_is, not_kept}
 abbrev passes : (Row → Bool) → Trace → ℕ → Bool
 passes p v q = line_at ADS v q && (not (is_row_closed (row_at v q) (length v - 3)) && p (row_at v q))
 
-one : (p : Row → Bool) (r : Row) (open : Bool) → list_any p (option_to_list (cond open (Some r) None)) ≡ (open && p r)
+one : (p : Row → Bool) (r : Row) (going : Bool) → list_any p (option_to_list (cond going (Some r) None)) ≡ (going && p r)
 one p r true = or_false (p r)
   where
     or_false : (b : Bool) → (b || false) ≡ b

@@ -1,6 +1,6 @@
 -- A line that is given again, by its parts.
 use Rattle.std.proofs.Common.{ℕ, ◌<◌, ◌≡◌, Bool, true, false, not, ◌&&◌, nat_lt, Option, Some, None, List}
-use Rattle.std.proofs.Common.{refl, sym, ap, ◌∙◌, inl, inr}
+use Rattle.std.proofs.Common.{refl, sym, ap, ◌∙◌, arith, inl, inr}
 use Rattle.std.specs.Option.{option_and_then}
 use Rattle.std.proofs.lemmas.Bool.{and_parts, both_ways, cases_Bool, ltb-true}
 use Rattle.fsb_count.specs.Clocks.{any_where}
@@ -94,9 +94,26 @@ given_parts v i j d t =
     let e = some_and (snoop_end_of v j) (λ l. nat_lt s.0 l && not (is_answered_below v i l)) s.2 in
     let o = and_parts (nat_lt s.0 e.0) (not (is_answered_below v i e.0)) e.2 in
     record {
-      deferred = d; snoop = s.0; is_snoop = s.1; late = e.0; is_late = e.1; before = ltb-true _ _ o.0;
-      unanswered = not_true _ o.1; first = q.0; is_first = q.1; second = p.0; is_second = p.1; line = n.line; named = n.named;
-      sound = n.sound; agent = n.agent; is_agent = n.is_agent; named_too = n.named_too; kind = k.0; is_kind = p.2; asks = k.2;
+      deferred = d;
+      snoop = s.0;
+      is_snoop = s.1;
+      late = e.0;
+      is_late = e.1;
+      before = ltb-true _ _ o.0;
+      unanswered = not_true _ o.1;
+      first = q.0;
+      is_first = q.1;
+      second = p.0;
+      is_second = p.1;
+      line = n.line;
+      named = n.named;
+      sound = n.sound;
+      agent = n.agent;
+      is_agent = n.is_agent;
+      named_too = n.named_too;
+      kind = k.0;
+      is_kind = p.2;
+      asks = k.2;
       served = a.1;
     }
 
@@ -105,8 +122,8 @@ given_from first v c i j g =
     elim (cases_Bool (is_given_again first v c)) [
       | inl t ↦ t
       | inr f ↦ absurd (both_ways _
-        (not_given first v g.line c i j g.first g.second g.agent g.snoop g.late g.kind f g.deferred g.is_snoop g.is_late g.before
-        g.unanswered g.is_first g.named g.sound g.is_agent g.is_second g.named_too g.is_kind g.asks) g.served)
+          (not_given first v g.line c i j g.first g.second g.agent g.snoop g.late g.kind f g.deferred g.is_snoop g.is_late g.before
+          g.unanswered g.is_first g.named g.sound g.is_agent g.is_second g.named_too g.is_kind g.asks) g.served)
     ]
 
 pub given_found : (first : List Joint) (v : Trace) (c : ℕ) → is_given_again first v c ≡ true

@@ -102,12 +102,14 @@ module _ {v : Trace} {i j q p : ℕ} (g : ArePair v i j q p) (o : Orderly v) (k 
   first_deferred : is_row_deferred (row_at v q) ≡ true
   first_deferred = deferred_is v q ∙ (rw (g.live, g.number, g.deferred) refl)
 
+  last_is : row_last_clock (row_at v q) ≡ reached_by_reply end_of v q
+  last_is = last_of v q ∙ (rw first_deferred refl)
+
   first_open : is_row_closed (row_at v q) d ≡ false
   first_open =
       closed_live v q d g.live (false_from_ne_true _ (λ t.
       let e = is_before-parts (row_last_clock (row_at v q)) d t in
-      let is : reached_by_reply end_of v q ≡ Some e.0 =
-      (let f = sym (last_of v q) ∙ e.1 in rw first_deferred at f) in
+      let is : reached_by_reply end_of v q ≡ Some e.0 = sym last_is ∙ e.1 in
       let c = reply_ended v q e.0 is in
       let at : reply_clock_of v i ≡ Some c.0 =
       ap (reply_clock_of v) (sym g.number)

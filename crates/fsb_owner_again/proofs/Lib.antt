@@ -3,4 +3,4 @@ pub mod PairRows
 pub mod Given
 pub mod PastPairs
 pub mod KeptPairs
-pub mod Again
+pub mod GivenRows

@@ -74,8 +74,10 @@ between_ends v i reply (Some t) (Some s) f = ap (λ b. nat_lt t s && not b) (f s
 -- the line
 by_agent : (g : Option ℕ) (s n : Bool) → (not s && is_some g && n) ≡ (not s && is_some_and g (λ a. n))
 unfolding is_some_and
-by_agent None s n = refl
-by_agent (Some a) s n = refl
+by_agent None true n = refl
+by_agent None false n = refl
+by_agent (Some a) true n = refl
+by_agent (Some a) false n = refl
 
 row_agent_line : (v : Trace) (q : ℕ) → row_line (row_at v q) ≡ cond (is_reply (request_at v q)) None (line_of v q)
 unfolding row_at

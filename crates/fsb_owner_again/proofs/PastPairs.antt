@@ -13,7 +13,6 @@ use Rattle.fsb_trace.specs.Requests.{live_clock_of, live_number_of}
 use Rattle.fsb_trace.specs.Snoop.{snoop_end_of}
 use Rattle.fsb_trace.proofs.Interface.{is_deferred-stays, line_at_snoop_end-stays, live_clock_of-number, live_clock_of-stays}
 use Rattle.fsb_trace.proofs.Interface.{snoop_end_of-clock, snoop_end_of-rises, snoop_end_of-stays}
-use Rattle.fsb_timely.proofs.Interface.{line_of-agree}
 use Rattle.fsb_laws.proofs.Interface.{deferred_response, live_of_reply, response_counted, response_there}
 use Rattle.fsb_owners.specs.Joint.{Joint}
 use Rattle.fsb_owners.specs.Rules.{is_answered_below, is_given_again, is_ownership_broken, is_served_or_deferred, ownership_verdict}

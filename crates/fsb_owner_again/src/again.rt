@@ -107,14 +107,19 @@ fn is_given_to(judge: &OwnerJudge, failed: Option<u64>, row: &Row, other: &Row) 
         && is_served(other)
 }
 
+/// Whether the line of the row, which is deferred, is given to another one.
+fn given_to_some(rows: &[Row], judge: &OwnerJudge, failed: Option<u64>, row: &Row) -> bool
+    ensures { result ≡ list_any (is_given_to (is_spoiled_now judge.now failed) row.now) rows.now }
+{
+    rows.iter()
+        .any(|other| is_given_to(judge, failed, row, other))
+}
+
 /// Whether the line of the row is deferred and given to another one.
 fn is_given(rows: &[Row], judge: &OwnerJudge, failed: Option<u64>, row: &Row) -> bool
     ensures { result ≡ row_given rows.now (is_spoiled_now judge.now failed) row.now }
 {
-    row.is_deferred()
-        && rows
-            .iter()
-            .any(|other| is_given_to(judge, failed, row, other))
+    row.is_deferred() && given_to_some(rows, judge, failed, row)
 }
 
 /// Whether the line of some row is deferred and given to another one.

@@ -1,5 +1,5 @@
 use Rattle.std.proofs.Common.{◌∙◌}
-use Rattle.fsb_owner_again.proofs.Again.{again}
+use Rattle.fsb_owner_again.proofs.GivenRows.{again}
 use Rattle.fsb_owner_again.proofs.again.is_given_again.Goals as goal
 
 pub returns : goal.returns

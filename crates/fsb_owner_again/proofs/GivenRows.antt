@@ -45,7 +45,7 @@ second_off a b f = grind arith
 
 module _ {first : List Joint} {h : Trace} {x : Sample} {v : Trace} {rows : List Row} {judge : OwnerJudge} {failed : Option ℕ}
     (g : KnowsPast first h x v rows judge failed) where
-  spoiled : ℕ → Bool
+  abbrev spoiled : ℕ → Bool
   spoiled line = is_spoiled_now judge failed line
 
   spoiled_is : (line : ℕ) → spoiled line ≡ is_spoiled v line
@@ -66,7 +66,14 @@ module _ {first : List Joint} {h : Trace} {x : Sample} {v : Trace} {rows : List 
       let two = live_clock_of-number v p (ads_before_end v p c.1) live_too in
       let pair : ArePair v (live_number_of v q) (live_number_of v p) q p =
       record {
-        first = one; second = two; live = d.0; live_too = live_too; number = refl; number_too = refl; asks = a.1; asks_too = c.1;
+        first = one;
+        second = two;
+        live = d.0;
+        live_too = live_too;
+        number = refl;
+        number_too = refl;
+        asks = a.1;
+        asks_too = c.1;
         deferred = d.1;
       } in
       given_again_from first v (length h) (live_number_of v q) (live_number_of v p) (live_below_count v _ q one)
@@ -106,18 +113,25 @@ module _ {first : List Joint} {h : Trace} {x : Sample} {v : Trace} {rows : List 
       let two = numbered v j p k.is_second in
       let pair : ArePair v i j q p =
       record {
-        first = k.is_first; second = k.is_second; live = one.1; live_too = two.1; number = one.2; number_too = two.2;
-        asks = is_live-ads v q one.1; asks_too = is_live-ads v p two.1; deferred = k.deferred;
+        first = k.is_first;
+        second = k.is_second;
+        live = one.1;
+        live_too = two.1;
+        number = one.2;
+        number_too = two.2;
+        asks = is_live-ads v q one.1;
+        asks_too = is_live-ads v p two.1;
+        deferred = k.deferred;
       } in
       let size : length v ≡ length h + 1 = g.more.size in
-      let open = both_open pair g.kept.orderly k (length v - 3) (λ r e. let l = late i j r k e in omega (arith, l, size)) in
+      let going = both_open pair g.kept.orderly k (length v - 3) (λ r e. let l = late i j r k e in omega (arith, l, size)) in
       let inner : list_any (is_given_to spoiled (row_at v q)) rows ≡ true =
       ap (list_any (is_given_to spoiled (row_at v q))) g.kept.kept
-      ∙ kept_from (is_given_to spoiled (row_at v q)) v (length v - 1) p (in_rows j p k.late k.is_late k.is_second) pair.asks_too open.1
+      ∙ kept_from (is_given_to spoiled (row_at v q)) v (length v - 1) p (in_rows j p k.late k.is_late k.is_second) pair.asks_too going.1
       (pair_is pair spoiled spoiled_is ∙ t) in
       let deferred : is_row_deferred (row_at v q) ≡ true = deferred_is v q ∙ (rw (pair.live, pair.number, pair.deferred) refl) in
       ap (list_any (row_given rows spoiled)) g.kept.kept
-      ∙ kept_from (row_given rows spoiled) v (length v - 1) q (in_rows i q k.snoop k.is_snoop k.is_first) pair.asks open.0
+      ∙ kept_from (row_given rows spoiled) v (length v - 1) q (in_rows i q k.snoop k.is_snoop k.is_first) pair.asks going.0
       (and_from _ _ deferred inner)
 
   forth : is_given_again first v (length h) ≡ true → list_any (row_given rows spoiled) rows ≡ true
