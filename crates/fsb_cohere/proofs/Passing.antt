@@ -1,6 +1,6 @@
 -- A pass, one sample on.
-use Rattle.std.proofs.Common.{ℕ, ◌+◌, ◌-◌, ◌<◌, ◌≤◌, ◌≡◌, Bool, true, false, length, List, [], ◌∷◌, ◌++◌}
-use Rattle.std.proofs.Common.{refl, sym, ap, ◌∙◌, arith, subst}
+use Rattle.std.proofs.Common.{ℕ, ◌+◌, ◌-◌, ◌≡◌, true, false, length, List, [], ◌∷◌, ◌++◌}
+use Rattle.std.proofs.Common.{sym, ap, ◌∙◌, arith, subst}
 use Rattle.std.proofs.lemmas.Bool.{both_ways}
 use Rattle.fsb_signal.specs.declared.sample.Sample.{Sample}
 use Rattle.fsb_trace.specs.At.{Trace}
@@ -10,7 +10,6 @@ use Rattle.fsb_owner_table.specs.declared.row.Row.{Row}
 use Rattle.fsb_owner_table.specs.Kept.{rows_of}
 use Rattle.fsb_owner_rows.specs.Kept.{AreKeptAt}
 use Rattle.fsb_owner_rows.specs.OfRow.{is_named_line}
-use Rattle.fsb_owner_feed.specs.declared.table.Table.{Table}
 use Rattle.fsb_owner_feed.specs.Table.{ComesNext as TakesNext, Stands as TableStands}
 use Rattle.fsb_owner_judge.specs.declared.judge.OwnerJudge.{OwnerJudge}
 use Rattle.fsb_owner_judge.specs.declared.sights.Waiting.{Waiting}

@@ -1,6 +1,6 @@
 -- A line that no row names shows nothing at the clock before the last one.
 use Rattle.std.proofs.Common.{ℕ, ◌+◌, ◌-◌, ◌<◌, ◌≤◌, ◌≡◌, true, false, length, List}
-use Rattle.std.proofs.Common.{refl, sym, ◌∙◌, arith, subst}
+use Rattle.std.proofs.Common.{refl, sym, ◌∙◌, arith}
 use Rattle.fsb_trace.specs.At.{Trace}
 use Rattle.fsb_laws.specs.Orderly.{Orderly}
 use Rattle.fsb_owners.specs.Shown.{is_coming, is_upgrading, may_drop_at}

@@ -1,6 +1,6 @@
 -- What the rows show with the last sample.
-use Rattle.std.proofs.Common.{ℕ, ◌+◌, ◌-◌, ◌<◌, ◌≤◌, ◌≡◌, Bool, true, false, ◌||◌, length, List, Option, None}
-use Rattle.std.proofs.Common.{refl, sym, ap, ◌∙◌, arith}
+use Rattle.std.proofs.Common.{ℕ, ◌-◌, ◌<◌, ◌≡◌, Bool, ◌||◌, length, List, Option, None}
+use Rattle.std.proofs.Common.{sym, ap, ◌∙◌, arith}
 use Rattle.fsb_count.specs.Options.{is_at}
 use Rattle.fsb_signal.specs.declared.sample.Sample.{Sample}
 use Rattle.fsb_trace.specs.At.{Trace}
@@ -12,11 +12,10 @@ use Rattle.fsb_owner_rows.specs.Kept.{AreKeptAt}
 use Rattle.fsb_owner_fails.specs.Fails.{fails_at}
 use Rattle.fsb_owner_fails.proofs.Spoils.{spoils}
 use Rattle.fsb_owner_judge.specs.declared.judge.OwnerJudge.{OwnerJudge}
-use Rattle.fsb_owner_judge.specs.declared.judge.Shown.{Shown}
 use Rattle.fsb_owner_judge.specs.declared.sights.Asking.{Asking}
 use Rattle.fsb_owner_judge.specs.declared.sights.LineEnd.{LineEnd}
 use Rattle.fsb_owner_judge.specs.declared.sights.Waiting.{Waiting}
-use Rattle.fsb_owner_judge.specs.Judge.{Shows, is_spoiled_for}
+use Rattle.fsb_owner_judge.specs.Judge.{Shows}
 use Rattle.fsb_owner_judge.specs.Sights.{asking_at, line_end_at}
 use Rattle.fsb_owner_judge.proofs.Standing.{nothing_yet}
 use Rattle.fsb_owner_again.specs.Pairs.{KnowsPast}

@@ -1,5 +1,4 @@
-use Rattle.std.proofs.Common.{◌≡◌, ◌+◌, ◌-◌, ◌<◌, ℕ, length, subst, sym, ap, ◌∙◌, arith}
-use Rattle.fsb_count.specs.Options.{is_at}
+use Rattle.std.proofs.Common.{◌≡◌, ◌-◌, ◌<◌, ℕ, length, subst, sym, ap, ◌∙◌, arith}
 use Rattle.fsb_owner_fails.specs.Fails.{fails_at}
 use Rattle.fsb_owner_rows.specs.Kept.{AreKeptAt}
 use Rattle.fsb_owner_judge.specs.Sights.{asking_at, line_end_at}

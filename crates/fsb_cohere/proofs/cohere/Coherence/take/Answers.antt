@@ -1,6 +1,6 @@
-use Rattle.std.proofs.Common.{◌≡◌, ◌-◌, ◌++◌, ◌∷◌, [], List, length, ap, ◌∙◌}
+use Rattle.std.proofs.Common.{◌++◌, ◌∷◌, [], sym, subst}
 use Rattle.fsb_trace.specs.At.{Trace}
-use Rattle.fsb_laws.proofs.Interface.{one_more}
+use Rattle.fsb_owner_judge.specs.Judge.{Shows}
 use Rattle.fsb_owner_judge.proofs.Standing.{if_ok, on_ok}
 use Rattle.fsb_cohere.proofs.Passing.{next, passed, takes, waits_shown}
 use Rattle.fsb_cohere.proofs.cohere.Coherence.take.Goals as goal
@@ -11,11 +11,11 @@ returns-clause-found c =
     let x = c.args.sample.now in
     let v : Trace = h ++ x ∷ [] in
     let t = takes c.args.self.now first h x s r n in
-    let g = next c.args.self.now first h x c.rows-rows.result.now s r n (c.rows-rows.ensures v (c.in_ok-feed.ensures.stands h t)) in
-    let clock = (c.in_ok-feed.ensures.happened h t).clock in
-    let w = waits_shown g c.in_ok-waits_of.value.items c.saturating_sub.result c.in_ok-feed.value.clock clock c.saturating_sub.ensures
-    c.in_ok-waits_of.ensures.lines c.in_ok-waits_of.ensures.shown in
-    p first h x v g.stands (c.shown_at-shown.ensures.shows first h x v _ g clock w))
+    let g = next c.args.self.now first h x c.rows-rows.result.now s r n (c.rows-rows.ensures v (c.in_ok-happened.ensures.stands h t)) in
+    let clock = (c.in_ok-happened.ensures.happened h t).clock in
+    let w = waits_shown g c.in_ok-waits.waits.items c.saturating_sub.result c.in_ok-happened.happened.clock clock c.saturating_sub.ensures
+    c.in_ok-waits.ensures.lines c.in_ok-waits.ensures.shown in
+    p first h x v g.stands (subst (Shows first h x v c.shown_at-shown.result) (sym c.as_slice.ensures.value) (c.shown_at-shown.ensures.shows first h x v _ g clock w)))
     c.step.ensures.found
 
 pub returns-clause-stands : goal.returns-clause-stands
@@ -24,10 +24,10 @@ returns-clause-stands c =
     let x = c.args.sample.now in
     let v : Trace = h ++ x ∷ [] in
     let t = takes c.args.self.now first h x s r n in
-    let fed = c.in_ok-feed.ensures.stands h t in
+    let fed = c.in_ok-happened.ensures.stands h t in
     let g = next c.args.self.now first h x c.rows-rows.result.now s r n (c.rows-rows.ensures v fed) in
-    let clock = (c.in_ok-feed.ensures.happened h t).clock in
-    let w = waits_shown g c.in_ok-waits_of.value.items c.saturating_sub.result c.in_ok-feed.value.clock clock c.saturating_sub.ensures
-    c.in_ok-waits_of.ensures.lines c.in_ok-waits_of.ensures.shown in
-    passed _ first v fed (c.step.ensures.stands first h x v g.stands (c.shown_at-shown.ensures.shows first h x v _ g clock w)) room)
+    let clock = (c.in_ok-happened.ensures.happened h t).clock in
+    let w = waits_shown g c.in_ok-waits.waits.items c.saturating_sub.result c.in_ok-happened.happened.clock clock c.saturating_sub.ensures
+    c.in_ok-waits.ensures.lines c.in_ok-waits.ensures.shown in
+    passed _ first v fed (c.step.ensures.stands first h x v g.stands (subst (Shows first h x v c.shown_at-shown.result) (sym c.as_slice.ensures.value) (c.shown_at-shown.ensures.shows first h x v _ g clock w))) room)
     c.step.ensures.room
