@@ -1,6 +1,8 @@
 //! Short traces of one line, each with one thing that a rule of ownership refuses, or just does not.
 
-use rows_store::{ADS, AERR, BPRI, BREQ0, BREQ1, BREQ2, Clock, DBSY, DEFER, DRDY, HIT, HITM, RS0, RS1, RS2, TRDY};
+use rows_store::{
+    ADS, AERR, BPRI, BREQ0, BREQ1, BREQ2, Clock, DBSY, DEFER, DRDY, HIT, HITM, RS0, RS1, RS2, TRDY,
+};
 
 /// A read of an agent whose first read of the line is under way.
 pub const ASKED_TWICE: [Clock; 18] = [

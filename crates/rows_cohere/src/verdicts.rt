@@ -1,6 +1,7 @@
 //! The verdicts of worked runs and of short traces.
 
-ghost use Rattle.std.specs.Prelude.{◌^◌, ◌<◌, length};
+ghost use Rattle.std.specs.Prelude.{◌≡◌, ◌^◌, ◌<◌, length};
+ghost use Rattle.fsb_cohere.specs.Cohere.{fed};
 
 use crate::short::{
     ASKED_TWICE, CANCELLED_UPGRADE, DEFERRED_TWICE, FAILED_HARD, FREE_BEHIND_A_CANCELLED_ONE,
@@ -53,7 +54,21 @@ fn expect_verdict(
 )
     requires { length clocks.now < 2 ^ 32 }
 {
-    let mut pass = Coherence::from_reset(alloc);
+    expect_of(rt, Coherence::from_reset(alloc), clocks, changes, verdict);
+}
+
+/// The same of a pass that was fed no sample yet.
+fn expect_of(
+    rt: &impl Abort,
+    pass: Coherence,
+    clocks: &[Clock],
+    changes: &[Change],
+    verdict: Option<(u32, u8)>,
+)
+    requires few { length clocks.now < 2 ^ 32 }
+    requires none { fed pass ≡ 0 }
+{
+    let mut pass = pass;
     for at in 0..clocks.len() {
         let next = sample(changed(clocks[at], at, changes));
         let found = told(pass.feed(&next).expect(rt, "out of memory"));
@@ -124,4 +139,14 @@ fn verdicts_of_short_traces(rt: HostRuntime) {
     expect_verdict(&rt, a, &STORE_IN_TIME, &[], None);
     expect_verdict(&rt, a, &READ_TOO_SOON, &[], Some((13, 24)));
     expect_verdict(&rt, a, &READ_IN_TIME, &[], None);
+}
+
+#[test]
+fn verdicts_of_traces_that_begin_in_traffic(rt: HostRuntime) {
+    let a = rt.alloc();
+    let nothing = [(2, (BREQ0 | ADS, 0x5, 0x8)), (3, (0, 0x2, 0))];
+    let within = Coherence::from_within(a);
+    expect_of(&rt, within, &LOAD_THEN_STORE_HIT, &nothing, None);
+    let within = Coherence::from_within(a);
+    expect_of(&rt, within, &ASKED_TWICE, &[], Some((7, 21)));
 }
