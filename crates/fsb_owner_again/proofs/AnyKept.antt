@@ -1,6 +1,6 @@
 -- Whether a row that is kept passes a test.
-use Rattle.std.proofs.Common.{ℕ, zero, suc, ◌+◌, ◌<◌, ◌≡◌, Bool, true, false, cond, not, ◌&&◌, ◌||◌, Some, None}
-use Rattle.std.proofs.Common.{length, ◌-◌, refl, sym, ap, ◌∙◌, arith, inl, inr, add-one}
+use Rattle.std.proofs.Common.{ℕ, zero, suc, ◌<◌, ◌≡◌, Bool, true, false, cond, not, ◌&&◌, ◌||◌, Some, None}
+use Rattle.std.proofs.Common.{length, ◌-◌, refl, sym, ap, ◌∙◌, inl, inr, add-one}
 use Rattle.std.specs.List.{list_any}
 use Rattle.std.specs.Option.{option_to_list}
 use Rattle.std.proofs.lemmas.Bool.{and_parts, cases_Bool}

@@ -1,14 +1,11 @@
 -- A line is given again with the last sample where two rows that are kept make it so.
-use Rattle.std.proofs.Common.{ℕ, ◌+◌, ◌-◌, ◌<◌, ◌≤◌, ◌≡◌, Bool, true, false, ◌&&◌, ◌||◌, length, List, Option, Some, None}
+use Rattle.std.proofs.Common.{ℕ, ◌+◌, ◌-◌, ◌<◌, ◌≤◌, ◌≡◌, Bool, true, false, ◌||◌, length, List, Option, Some}
 use Rattle.std.proofs.Common.{refl, sym, ap, ◌∙◌, arith, inl, inr}
 use Rattle.std.specs.List.{list_any}
-use Rattle.std.proofs.lemmas.Bool.{and_from, and_parts, both_ways, cases_Bool, cases_lt, false_from_ne_true}
-use Rattle.fsb_count.specs.Clocks.{any_where}
-use Rattle.fsb_count.specs.Options.{is_at, is_before}
-use Rattle.fsb_count.proofs.Interface.{any_where-at, is_before-from, is_before-parts}
-use Rattle.fsb_signal.specs.declared.lines.TheConstants.Lines.{ADS}
+use Rattle.std.proofs.lemmas.Bool.{and_from, and_parts, cases_lt}
+use Rattle.fsb_count.specs.Options.{is_at}
+use Rattle.fsb_count.proofs.Interface.{any_where-at}
 use Rattle.fsb_signal.specs.declared.sample.Sample.{Sample}
-use Rattle.fsb_signal.specs.Samples.{line_at}
 use Rattle.fsb_trace.specs.At.{Trace}
 use Rattle.fsb_trace.specs.Outcome.{is_deferred, response_clock_of}
 use Rattle.fsb_trace.specs.Requests.{is_live, live_clock_of, live_count, live_number_of}
@@ -19,14 +16,12 @@ use Rattle.fsb_owners.specs.Joint.{Joint}
 use Rattle.fsb_owners.specs.Rules.{is_given_again, is_given_again_to}
 use Rattle.fsb_owners.specs.Shown.{is_spoiled}
 use Rattle.fsb_owner_table.specs.declared.row.Row.{Row}
-use Rattle.fsb_owner_table.specs.Kept.{is_row_closed, rows_of}
 use Rattle.fsb_owner_table.specs.RowAfter.{is_row_deferred}
 use Rattle.fsb_owner_table.specs.Rows.{row_at}
 use Rattle.fsb_owner_table.proofs.RowGoes.{deferred_is}
 use Rattle.fsb_owner_laws.proofs.AgreeWords.{Alike, same_answers, some_same, turned_round}
 use Rattle.fsb_owner_rows.proofs.RowWords.{numbered}
 use Rattle.fsb_owner_judge.specs.declared.judge.OwnerJudge.{OwnerJudge}
-use Rattle.fsb_owner_judge.specs.Judge.{is_spoiled_for}
 use Rattle.fsb_owner_again.specs.Pairs.{KnowsPast, is_given_to, is_spoiled_now, row_given}
 use Rattle.fsb_owner_again.proofs.AnyKept.{kept_found, kept_from}
 use Rattle.fsb_owner_again.proofs.Given.{IsGiven, given_found, given_parts}

@@ -1,13 +1,12 @@
 -- Two rows, and what the trace says of their requests.
-use Rattle.std.proofs.Common.{ℕ, ◌<◌, ◌≡◌, Bool, true, false, cond, not, ◌&&◌, ◌||◌, nat_lt, Option, Some, None}
-use Rattle.std.proofs.Common.{length, refl, sym, ap, ◌∙◌, is_some, inl, inr}
+use Rattle.std.proofs.Common.{ℕ, ◌≡◌, Bool, true, false, cond, not, ◌&&◌, nat_lt, Option, Some, None}
+use Rattle.std.proofs.Common.{refl, ap, ◌∙◌, is_some, inl, inr}
 use Rattle.std.specs.Option.{option_and_then, option_map}
 use Rattle.std.proofs.lemmas.Bool.{both_ways, cases_Bool, eq-eqb}
 use Rattle.fsb_count.specs.Options.{is_at, is_before, is_some_and}
 use Rattle.fsb_signal.specs.declared.lines.Lines.{Lines}
 use Rattle.fsb_signal.specs.declared.lines.TheConstants.Lines.{ADS, DEFER, HITM}
 use Rattle.fsb_signal.specs.Samples.{line_at}
-use Rattle.fsb_line.specs.States.{asks_line}
 use Rattle.fsb_trace.specs.At.{Trace, request_at}
 use Rattle.fsb_trace.specs.Flight.{reply_clock_of, reply_number_of}
 use Rattle.fsb_trace.specs.Outcome.{is_deferred}
@@ -15,17 +14,16 @@ use Rattle.fsb_trace.specs.Requests.{is_live, is_reply, line_of, live_clock_of, 
 use Rattle.fsb_trace.specs.Snoop.{line_at_snoop_end, snoop_end_of}
 use Rattle.fsb_laws.proofs.Interface.{live_of_reply}
 use Rattle.fsb_owners.specs.Rules.{is_answered_below, is_given_again_to, is_served_or_deferred, of_request}
-use Rattle.fsb_owners.specs.Shown.{agent_at, is_spoiled, names, purpose_at}
+use Rattle.fsb_owners.specs.Shown.{agent_at, is_spoiled, names}
 use Rattle.fsb_owner_table.specs.declared.row.Row.{Row}
 use Rattle.fsb_owner_table.specs.declared.row.Snooped.{Snooped}
-use Rattle.fsb_owner_table.specs.RowAfter.{is_row_deferred, is_row_handed}
 use Rattle.fsb_owner_table.specs.Rows.{reached, reached_by_reply, reply_at, row_at, snoop_at, snooped_by}
 use Rattle.fsb_owner_table.proofs.Reached.{reached-live}
 use Rattle.fsb_owner_table.proofs.RowGoes.{deferred_is, reply_deferred}
 use Rattle.fsb_owner_rows.specs.OfRow.{row_agent, row_line, row_names}
 use Rattle.fsb_owner_rows.proofs.ComingRows.{snoop_of_row}
 use Rattle.fsb_owner_rows.proofs.RowWords.{agent_is, names_is, purpose_is, request_is}
-use Rattle.fsb_owner_again.specs.Pairs.{asks_between, has_judged_line, is_given_to, is_row_served, row_asks_line}
+use Rattle.fsb_owner_again.specs.Pairs.{asks_between, has_judged_line, is_given_to, is_row_served}
 
 -- the two requests: live, with their numbers, and the first is Deferred
 pub record ArePair (v : Trace) (i j q p : ℕ) : Type 0 where

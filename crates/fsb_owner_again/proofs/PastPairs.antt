@@ -1,8 +1,8 @@
 -- A pair whose second response lies in the past gave its line again there.
-use Rattle.std.proofs.Common.{ℕ, ◌+◌, ◌-◌, ◌<◌, ◌≤◌, ◌≡◌, Bool, true, false, ◌&&◌, ◌||◌, length, take, List, Option, Some, None}
+use Rattle.std.proofs.Common.{ℕ, ◌+◌, ◌-◌, ◌<◌, ◌≤◌, ◌≡◌, true, false, length, List, Option, Some, None}
 use Rattle.std.proofs.Common.{refl, sym, ap, ◌∙◌, arith, inl, inr}
 use Rattle.std.specs.Option.{option_and_then, option_map}
-use Rattle.std.proofs.lemmas.Bool.{both_ways, cases_eq, cases_lt, false_from_ne_true, lt-ltb, or_right}
+use Rattle.std.proofs.lemmas.Bool.{both_ways, cases_eq, cases_lt, false_from_ne_true, lt-ltb}
 use Rattle.fsb_count.specs.Options.{is_before}
 use Rattle.fsb_count.proofs.Interface.{is_before-from, is_before-parts, nth_where-rises}
 use Rattle.fsb_signal.specs.declared.lines.TheConstants.Lines.{DEFER, HITM}
@@ -13,13 +13,13 @@ use Rattle.fsb_trace.specs.Requests.{live_clock_of, live_number_of}
 use Rattle.fsb_trace.specs.Snoop.{snoop_end_of}
 use Rattle.fsb_trace.proofs.Interface.{is_deferred-stays, line_at_snoop_end-stays, live_clock_of-number, live_clock_of-stays}
 use Rattle.fsb_trace.proofs.Interface.{snoop_end_of-clock, snoop_end_of-rises, snoop_end_of-stays}
-use Rattle.fsb_laws.proofs.Interface.{deferred_response, live_of_reply, response_counted, response_there}
+use Rattle.fsb_laws.proofs.Interface.{live_of_reply, response_counted, response_there}
 use Rattle.fsb_owners.specs.Joint.{Joint}
-use Rattle.fsb_owners.specs.Rules.{is_answered_below, is_given_again, is_ownership_broken, is_served_or_deferred, ownership_verdict}
+use Rattle.fsb_owners.specs.Rules.{is_answered_below, is_ownership_broken, is_served_or_deferred, ownership_verdict}
 use Rattle.fsb_owners.specs.Shown.{is_spoiled}
 use Rattle.fsb_owners.proofs.LeastLaws.{least_broken-none}
-use Rattle.fsb_owner_laws.proofs.AgreeWords.{Alike, IsAnsweredAt, agent_at-agree, answered_stays, live_number-agree, names-agree}
-use Rattle.fsb_owner_laws.proofs.AgreeWords.{purpose_at-agree, put_off, some_same, turned_round}
+use Rattle.fsb_owner_laws.proofs.AgreeWords.{Alike, agent_at-agree, answered_stays, live_number-agree, names-agree}
+use Rattle.fsb_owner_laws.proofs.AgreeWords.{purpose_at-agree, some_same, turned_round}
 use Rattle.fsb_owner_judge.proofs.LeastRule.{rule_31, whole}
 use Rattle.fsb_owner_again.proofs.Given.{IsGiven, given_from}
 

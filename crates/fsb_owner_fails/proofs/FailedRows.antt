@@ -1,10 +1,9 @@
 -- The line of a request that responds, by its row.
-use Rattle.std.proofs.Common.{ℕ, ◌+◌, ◌<◌, ◌≤◌, ◌≡◌, Bool, true, false, cond, not, ◌&&◌, length, Option, Some, None}
-use Rattle.std.proofs.Common.{refl, sym, ap, ◌∙◌, arith, inl, inr}
+use Rattle.std.proofs.Common.{ℕ, ◌<◌, ◌≡◌, Bool, true, false, cond, not, ◌&&◌, length, Option, Some, None}
+use Rattle.std.proofs.Common.{refl, sym, ap, ◌∙◌, arith}
 use Rattle.std.specs.Option.{option_and_then, option_map}
 use Rattle.std.proofs.lemmas.Bool.{and_right, false_from_ne_true}
 use Rattle.std.proofs.lemmas.Option.{same_Some}
-use Rattle.fsb_count.specs.Clocks.{first_where}
 use Rattle.fsb_count.specs.Options.{is_at, is_before, is_some_and}
 use Rattle.fsb_count.proofs.Interface.{first_where-found, is_at-some, is_before-parts}
 use Rattle.fsb_trace.specs.At.{Trace}
@@ -12,7 +11,7 @@ use Rattle.fsb_trace.specs.Outcome.{outcome_of, response_clock_of}
 use Rattle.fsb_trace.specs.Requests.{is_live, is_reply, live_clock_of, live_count, live_number_of}
 use Rattle.fsb_trace.specs.Response.{end_of}
 use Rattle.fsb_trace.proofs.Interface.{end_of-response}
-use Rattle.fsb_owners.specs.Shown.{is_failure, is_for_line, names, origin_clock_of}
+use Rattle.fsb_owners.specs.Shown.{is_failure, is_for_line, origin_clock_of}
 use Rattle.fsb_owner_table.specs.declared.row.Row.{Row}
 use Rattle.fsb_owner_table.specs.Rows.{outcome_at, reached, row_at}
 use Rattle.fsb_owner_table.proofs.Reached.{reached-live}

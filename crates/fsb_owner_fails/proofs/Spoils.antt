@@ -1,8 +1,8 @@
 -- Which lines are spoiled, one sample on.
-use Rattle.std.proofs.Common.{ℕ, ◌+◌, ◌<◌, ◌≤◌, ◌≡◌, Bool, true, false, ◌&&◌, ◌||◌, length, Option, Some, None}
+use Rattle.std.proofs.Common.{ℕ, ◌+◌, ◌<◌, ◌≤◌, ◌≡◌, true, false, ◌||◌, length, Option, Some, None}
 use Rattle.std.proofs.Common.{refl, sym, ap, ◌∙◌, arith, inl, inr}
-use Rattle.std.proofs.lemmas.Bool.{and_parts, and_from, cases_eq, cases_lt, false_from_ne_true, or_cases, or_left, or_right}
-use Rattle.fsb_count.specs.Clocks.{any_where, first_where}
+use Rattle.std.proofs.lemmas.Bool.{and_parts, and_from, cases_lt, false_from_ne_true, or_cases, or_left, or_right}
+use Rattle.fsb_count.specs.Clocks.{first_where}
 use Rattle.fsb_count.specs.Options.{is_at, is_some_and}
 use Rattle.fsb_count.proofs.Interface.{any_where-at, any_where-found, first_where-at, first_where-found, is_at-from, is_at-some}
 use Rattle.fsb_count.proofs.Interface.{nth_where-found, nth_where-rises}
@@ -18,7 +18,7 @@ use Rattle.fsb_laws.proofs.Interface.{has_answer}
 use Rattle.fsb_owners.specs.Shown.{is_failure, is_for_line, is_spoiled, names, origin_clock_of}
 use Rattle.fsb_owner_laws.proofs.AgreeEnders.{for_line-from, origin_parts}
 use Rattle.fsb_owner_laws.proofs.AgreePossible.{some_and}
-use Rattle.fsb_owner_laws.proofs.AgreeWords.{Alike, names-agree, same_answers, some_same, turned_round}
+use Rattle.fsb_owner_laws.proofs.AgreeWords.{Alike, names-agree, same_answers, turned_round}
 use Rattle.fsb_owner_rows.specs.Kept.{answered_at}
 use Rattle.fsb_owner_fails.specs.Fails.{fails_at, fails_for}
 

@@ -1,7 +1,7 @@
 -- The least rule of ownership at the last clock of a trace.
-use Rattle.std.proofs.Common.{ℕ, zero, suc, ◌+◌, ◌-◌, ◌<◌, ◌≡◌, Bool, true, false, ◌&&◌, ◌||◌, not, nat_le, nat_lt, take, length, List, Option, Some, None, slice_get}
+use Rattle.std.proofs.Common.{ℕ, suc, ◌+◌, ◌-◌, ◌<◌, ◌≡◌, Bool, true, false, ◌&&◌, ◌||◌, not, nat_le, nat_lt, take, length, List, Option, Some, None, slice_get}
 use Rattle.std.proofs.lemmas.List.{take_all}
-use Rattle.std.proofs.Common.{refl, sym, ap, ◌∙◌, arith, if◌then◌else◌}
+use Rattle.std.proofs.Common.{refl, ◌∙◌, arith, if◌then◌else◌}
 use Rattle.std.proofs.lemmas.Bool.Decides.{nat_tests}
 use Rattle.std.proofs.lemmas.Bool.{lt-ltb}
 use Rattle.fsb_count.specs.Options.{is_some_and}
@@ -16,7 +16,6 @@ use Rattle.fsb_owners.specs.Rules.{at_answer, is_asked_in_vain, is_asked_twice, 
 use Rattle.fsb_owners.specs.Rules.{is_holder_lacking, is_holder_silent, is_of_write_back, is_owned_elsewhere, is_owner_lacking}
 use Rattle.fsb_owners.specs.Rules.{is_owner_silent, is_ownership_broken, is_upgrade_unfit, is_write_back_unfit}
 use Rattle.fsb_owners.specs.Rules.{is_written_when_lost, of_answer, ownership_rules}
-use Rattle.fsb_owner_judge.specs.declared.answered.Answered.{Answered}
 use Rattle.fsb_owner_judge.specs.Verdicts.{answered_at, answered_before, begun_rule, nothing_broken, or_rule, rule_by}
 
 by_found : (o : Option ℕ) (b : Bool) (n : ℕ) → elim o [ Some c ↦ Some c | None ↦ if b then Some n else None ] ≡ or_rule o b n

@@ -1,5 +1,5 @@
 -- The verdict of a judge, one sample on.
-use Rattle.std.proofs.Common.{ℕ, ◌+◌, ◌≡◌, Bool, true, false, length, List, [], Option, Some, None, is_some, refl, sym, ap, ◌∙◌, ◌≤◌, arith}
+use Rattle.std.proofs.Common.{ℕ, ◌+◌, ◌≡◌, true, false, length, List, [], Option, Some, None, is_some, refl, sym, ap, ◌∙◌, ◌≤◌, arith}
 use Rattle.std.proofs.Common.{Result, Ok, Err, IfOk, OnOk}
 use Rattle.std.proofs.lemmas.Bool.{both_ways}
 use Rattle.std.specs.Option.{option_map}

@@ -1,4 +1,4 @@
-use Rattle.std.proofs.Common.{◌+◌, ◌≤◌, length, sym, ap, ◌∙◌, arith}
+use Rattle.std.proofs.Common.{◌+◌, sym, ap, ◌∙◌, arith}
 use Rattle.fsb_owner_judge.proofs.Standing.{kept, lacked, nothing-found, stays_of, stepped, told-next, unfound}
 use Rattle.fsb_owner_judge.proofs.judge.OwnerJudge.step.Goals as goal
 

@@ -1,6 +1,5 @@
-use Rattle.std.proofs.Common.{ℕ, ◌+◌, ◌-◌, ◌≡◌, length, sym, ap, ◌∙◌, arith}
-use Rattle.fsb_owners.specs.Possible.{possible}
-use Rattle.fsb_owner_judge.specs.Lines.{Follows, KnowsSpoiled, ShowsClock}
+use Rattle.std.proofs.Common.{◌+◌, ◌-◌, ◌≡◌, length, sym, ap, ◌∙◌, arith}
+use Rattle.fsb_owner_judge.specs.Lines.{ShowsClock}
 use Rattle.fsb_owner_judge.specs.Sights.{begun_for}
 use Rattle.fsb_owner_judge.specs.Verdicts.{begun_rule}
 use Rattle.fsb_owner_judge.proofs.Judging.{close-on, follow-on, late-then, rules-now, spoiled-on, stand-next}

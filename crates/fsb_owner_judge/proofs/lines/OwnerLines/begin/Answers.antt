@@ -1,6 +1,5 @@
-use Rattle.std.proofs.Common.{◌+◌, ◌-◌, ◌≡◌, length, sym, ap, ◌∙◌, arith}
+use Rattle.std.proofs.Common.{◌-◌, ◌≡◌, length, ap, ◌∙◌, arith}
 use Rattle.fsb_owners.specs.Possible.{possible}
-use Rattle.fsb_owner_judge.specs.Lines.{Follows, KnowsSpoiled}
 use Rattle.fsb_owner_judge.proofs.Judging.{begun-zero, follow-on, late-zero, rules-now, spoiled-on, stand-next}
 use Rattle.fsb_owner_judge.proofs.lines.OwnerLines.begin.Goals as goal
 
