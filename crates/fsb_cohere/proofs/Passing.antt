@@ -16,15 +16,15 @@ use Rattle.fsb_owner_judge.specs.declared.sights.Waiting.{Waiting}
 use Rattle.fsb_owner_judge.specs.Judge.{Stands as JudgeStands, has_lacked_memory}
 use Rattle.fsb_owner_judge.specs.Lines.{ShowWaits, is_waiting}
 use Rattle.fsb_cohere.specs.declared.cohere.Coherence.{Coherence}
-use Rattle.fsb_cohere.specs.Cohere.{ComesNext, IsNext, ShowsWaits, Stands}
+use Rattle.fsb_cohere.specs.Cohere.{KeepsOrder, IsOneOn, ShowsWaits, Stands}
 use Rattle.fsb_cohere.proofs.Showing.{before_last, last}
 
 pub takes : (pass : Coherence) (first : List Joint) (h : Trace) (x : Sample) → Stands pass first h → pass.lacks_memory ≡ false
-    → ComesNext h x → TakesNext pass.table x h
+    → KeepsOrder h x → TakesNext pass.table x h
 takes pass first h x s r n = record { stands = s.table r; before = n.before; after = n.after }
 
 pub next : (pass : Coherence) (first : List Joint) (h : Trace) (x : Sample) (rows : List Row) → Stands pass first h
-    → pass.lacks_memory ≡ false → ComesNext h x → rows ≡ rows_of (h ++ x ∷ []) → IsNext first h x (h ++ x ∷ []) rows pass.judge
+    → pass.lacks_memory ≡ false → KeepsOrder h x → rows ≡ rows_of (h ++ x ∷ []) → IsOneOn first h x (h ++ x ∷ []) rows pass.judge
 next pass first h x rows s r n k = record {
   more = one_more h x;
   before = n.before;
@@ -36,7 +36,7 @@ next pass first h x rows s r n k = record {
 
 -- what is listed is what the agents wait for at the clock before
 pub waits_shown : {first : List Joint} {h : Trace} {x : Sample} {v : Trace} {rows : List Row} {judge : OwnerJudge}
-    → IsNext first h x v rows judge → (waits : List Waiting) (before clock : ℕ) → clock ≡ length h → before ≡ clock - 1
+    → IsOneOn first h x v rows judge → (waits : List Waiting) (before clock : ℕ) → clock ≡ length h → before ≡ clock - 1
     → ((line : ℕ) → is_waiting waits line ≡ is_named_line rows line)
     → ((w : Trace) → AreKeptAt rows w before → AreKeptAt rows w clock → clock ≡ before + 1 → ShowWaits w before waits)
     → ShowsWaits v rows (length h) waits

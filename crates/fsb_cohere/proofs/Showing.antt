@@ -19,11 +19,11 @@ use Rattle.fsb_owner_judge.specs.Judge.{Shows}
 use Rattle.fsb_owner_judge.specs.Sights.{asking_at, line_end_at}
 use Rattle.fsb_owner_judge.proofs.Standing.{nothing_yet}
 use Rattle.fsb_owner_again.specs.Pairs.{KnowsPast}
-use Rattle.fsb_cohere.specs.Cohere.{IsNext, ShowsWaits}
+use Rattle.fsb_cohere.specs.Cohere.{IsOneOn, ShowsWaits}
 use Rattle.fsb_cohere.proofs.QuietLines.{kept_at_clock, quiet}
 
 module _ {first : List Joint} {h : Trace} {x : Sample} {v : Trace} {rows : List Row} {judge : OwnerJudge}
-    (g : IsNext first h x v rows judge) where
+    (g : IsOneOn first h x v rows judge) where
   -- the rows tell of the last clock, and of the one before
   pub last : AreKeptAt rows v (length h)
   last = let n = g.more.size in kept_at_clock rows v (length h) g.kept g.after (omega (arith, n)) (omega (arith, n))

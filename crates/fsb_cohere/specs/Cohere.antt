@@ -24,12 +24,12 @@ abbrev pub fed : Coherence → ℕ
 fed pass = max (fed_table pass.table) (taken pass.judge)
 
 -- h and the samples up to x keep the distance of requests and the time of responses, as a trace does that breaks no phase rule
-pub record ComesNext (h : Trace) (x : Sample) : Type 0 where
+pub record KeepsOrder (h : Trace) (x : Sample) : Type 0 where
   pub before : Orderly h
   pub after : Orderly (h ++ x ∷ [])
 
 -- v is h and then the sample x, and the judge stands for h; the rows are those that are kept of v
-pub record IsNext (first : List Joint) (h : Trace) (x : Sample) (v : Trace) (rows : List Row) (judge : OwnerJudge) : Type 0 where
+pub record IsOneOn (first : List Joint) (h : Trace) (x : Sample) (v : Trace) (rows : List Row) (judge : OwnerJudge) : Type 0 where
   pub more : OneMore h x v
   pub before : Orderly h
   pub after : Orderly v

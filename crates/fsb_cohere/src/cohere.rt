@@ -6,7 +6,7 @@ ghost use Rattle.fsb_trace.specs.At.{Trace};
 ghost use Rattle.fsb_owners.specs.Joint.{Joint, every_joint, unheld};
 ghost use Rattle.fsb_owners.specs.Rules.{ownership_verdict};
 ghost use Rattle.fsb_owner_judge.specs.Judge.{as_owner_broken};
-ghost use Rattle.fsb_cohere.specs.Cohere.{ComesNext, Stands, fed, lacks_memory};
+ghost use Rattle.fsb_cohere.specs.Cohere.{KeepsOrder, Stands, fed, lacks_memory};
 
 use crate::shown::shown_at;
 use fsb_io::Memory;
@@ -69,11 +69,11 @@ impl Coherence {
         requires { fed self.old < 2 ^ 32 }
         ensures found { IfOk result (λ found. (first : List Joint) (h : Trace) →
             Stands self.old first h → lacks_memory self.old ≡ false →
-            ComesNext h sample.now →
+            KeepsOrder h sample.now →
             found ≡ as_owner_broken (ownership_verdict first (h ++ sample.now ∷ []))) }
         ensures stands { OnOk result ((first : List Joint) (h : Trace) →
             Stands self.old first h → lacks_memory self.old ≡ false →
-            ComesNext h sample.now → Stands self.new first (h ++ sample.now ∷ [])) }
+            KeepsOrder h sample.now → Stands self.new first (h ++ sample.now ∷ [])) }
         ensures room { lacks_memory self.new ≡ lacks_memory self.old }
         ensures fed { fed self.new ≤ fed self.old + 1 }
     {
@@ -90,10 +90,10 @@ impl Coherence {
     pub fn feed(&mut self, sample: &Sample) -> Result<Option<OwnerBroken>, Memory>
         requires { fed self.old < 2 ^ 32 }
         ensures found { IfOk result (λ found. (first : List Joint) (h : Trace) →
-            Stands self.old first h → ComesNext h sample.now →
+            Stands self.old first h → KeepsOrder h sample.now →
             found ≡ as_owner_broken (ownership_verdict first (h ++ sample.now ∷ []))) }
         ensures stands { (first : List Joint) (h : Trace) → Stands self.old first h →
-            ComesNext h sample.now → Stands self.new first (h ++ sample.now ∷ []) }
+            KeepsOrder h sample.now → Stands self.new first (h ++ sample.now ∷ []) }
         ensures memory { lacks_memory self.old ≡ true → IsErr result }
         ensures full { OnErr result (lacks_memory self.new ≡ true) }
         ensures room { OnOk result (lacks_memory self.new ≡ false) }

@@ -1,14 +1,14 @@
-//! A law of the pass: a small function with no code, whose contract is the law.
+//! A law of the traces of a pass: a small function with no code, whose contract is the law.
 
 ghost use Rattle.std.specs.Prelude.{◌≡◌, ◌∷◌, ◌++◌, [], None};
 ghost use Rattle.fsb_signal.specs.declared.marks.Marks.{Marks};
 ghost use Rattle.fsb_signal.specs.declared.sample.Sample.{Sample};
 ghost use Rattle.fsb_trace.specs.At.{Trace};
 ghost use Rattle.fsb_trace.specs.Verdict.{verdict};
-ghost use Rattle.fsb_cohere.specs.Cohere.{ComesNext};
+ghost use Rattle.fsb_cohere.specs.Cohere.{KeepsOrder};
 
-/// A sample with which no phase rule is broken may come next.
-pub fn sound_samples_come_next()
+/// A trace that breaks no phase rule with its last sample keeps the order before it and with it.
+pub fn sound_samples_keep_order()
     ensures { (m : Marks) (h : Trace) (x : Sample) → verdict m (h ++ x ∷ []) ≡ None →
-        ComesNext h x }
+        KeepsOrder h x }
 {}

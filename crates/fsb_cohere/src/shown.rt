@@ -7,7 +7,7 @@ ghost use Rattle.fsb_owners.specs.Joint.{Joint};
 ghost use Rattle.fsb_owner_judge.specs.Judge.{Shows};
 ghost use Rattle.fsb_owner_judge.specs.Sights.{AsksAsOne, EndsAsOne};
 ghost use Rattle.fsb_owner_judge.specs.declared.sights.Waiting.{Waiting};
-ghost use Rattle.fsb_cohere.specs.Cohere.{IsNext, ShowsWaits};
+ghost use Rattle.fsb_cohere.specs.Cohere.{IsOneOn, ShowsWaits};
 
 use fsb_owner_again::is_given_again;
 use fsb_owner_fails::failed_at;
@@ -21,7 +21,7 @@ pub fn shown_at(rows: &[Row], judge: &OwnerJudge, clock: u32) -> Shown
     ensures before { EndsAsOne result.ended_before }
     ensures ended { EndsAsOne result.ended }
     ensures shows { (first : List Joint) (h : Trace) (x : Sample) (v : Trace)
-        (waits : List Waiting) → IsNext first h x v rows.now judge.now → clock ≡ length h →
+        (waits : List Waiting) → IsOneOn first h x v rows.now judge.now → clock ≡ length h →
         ShowsWaits v rows.now (length h) waits → Shows first h x v result waits }
 {
     let before = clock.saturating_sub(1);
