@@ -1,7 +1,7 @@
 -- What is kept of all lines goes on, one sample on.
-use Rattle.std.proofs.Common.{ℕ, zero, suc, ◌+◌, ◌-◌, ◌<◌, ◌≡◌, Bool, true, false, ◌||◌, not, length, List, Option, Some, None, slice_get}
+use Rattle.std.proofs.Common.{ℕ, zero, suc, ◌+◌, ◌-◌, ◌<◌, ◌≡◌, Bool, true, false, ◌||◌, not, length, List, Option, Some, None}
 use Rattle.std.proofs.Common.{refl, sym, ap, ◌∙◌, arith, add-one, if◌then◌else◌}
-use Rattle.std.specs.Option.{option_and_then, option_map}
+use Rattle.std.specs.Option.{option_and_then}
 use Rattle.std.proofs.lemmas.Bool.{lt-ltb}
 use Rattle.std.proofs.lemmas.Option.{slice_get_past}
 use Rattle.fsb_count.specs.Options.{is_at}
@@ -14,7 +14,7 @@ use Rattle.fsb_owners.specs.Least.{least_at}
 use Rattle.fsb_owners.specs.Rules.{at_decoding, is_asked_in_vain, is_asked_twice, is_given_again, is_hit_of_reply_wrong}
 use Rattle.fsb_owners.specs.Rules.{is_ownership_broken, is_upgrade_unfit, is_write_back_unfit}
 use Rattle.fsb_owners.specs.Possible.{after_clock, after_unseen, possible}
-use Rattle.fsb_owners.specs.Shown.{agent_at, is_coming, is_spoiled, may_drop_at, names, purpose_at}
+use Rattle.fsb_owners.specs.Shown.{agent_at, is_coming, may_drop_at, names, purpose_at}
 use Rattle.fsb_owner_laws.proofs.Interface.{Alike, clock_quiet, possible-agree, unseen_quiet}
 use Rattle.fsb_joint.specs.declared.line_clock.Begun.{Begun}
 use Rattle.fsb_joint.specs.LineClock.{begun_at}

@@ -1,7 +1,7 @@
 -- The least rule of ownership at the last clock of a trace.
-use Rattle.std.proofs.Common.{ℕ, zero, suc, ◌+◌, ◌-◌, ◌<◌, ◌≡◌, Bool, true, false, ◌&&◌, ◌||◌, not, nat_le, nat_lt, take, length, List, Option, Some, None, slice_get}
+use Rattle.std.proofs.Common.{ℕ, suc, ◌+◌, ◌-◌, ◌<◌, ◌≡◌, Bool, true, false, ◌&&◌, ◌||◌, not, nat_le, nat_lt, take, length, List, Option, Some, None, slice_get}
 use Rattle.std.proofs.lemmas.List.{take_all}
-use Rattle.std.proofs.Common.{refl, sym, ap, ◌∙◌, arith, if◌then◌else◌}
+use Rattle.std.proofs.Common.{refl, ◌∙◌, arith, if◌then◌else◌}
 use Rattle.std.proofs.lemmas.Bool.Decides.{nat_tests}
 use Rattle.std.proofs.lemmas.Bool.{lt-ltb}
 use Rattle.fsb_count.specs.Options.{is_some_and}
@@ -16,7 +16,6 @@ use Rattle.fsb_owners.specs.Rules.{at_answer, is_asked_in_vain, is_asked_twice, 
 use Rattle.fsb_owners.specs.Rules.{is_holder_lacking, is_holder_silent, is_of_write_back, is_owned_elsewhere, is_owner_lacking}
 use Rattle.fsb_owners.specs.Rules.{is_owner_silent, is_ownership_broken, is_upgrade_unfit, is_write_back_unfit}
 use Rattle.fsb_owners.specs.Rules.{is_written_when_lost, of_answer, ownership_rules}
-use Rattle.fsb_owner_judge.specs.declared.answered.Answered.{Answered}
 use Rattle.fsb_owner_judge.specs.Verdicts.{answered_at, answered_before, begun_rule, nothing_broken, or_rule, rule_by}
 
 by_found : (o : Option ℕ) (b : Bool) (n : ℕ) → elim o [ Some c ↦ Some c | None ↦ if b then Some n else None ] ≡ or_rule o b n
@@ -33,7 +32,7 @@ off true r = refl
 off false r = refl
 
 -- a rule at the last clock is judged over the whole trace
-whole : (v : Trace) (n : ℕ) → length v ≡ n + 1 → take (n + 1) v ≡ v
+pub whole : (v : Trace) (n : ℕ) → length v ≡ n + 1 → take (n + 1) v ≡ v
 whole v n e = take_all (n + 1) v (omega (arith, e))
 
 below : (first : List Joint) (v : Trace) (n j : ℕ) → j < 21 → is_ownership_broken first v n j ≡ false
@@ -100,7 +99,7 @@ rule_30 : (first : List Joint) (v : Trace) (n : ℕ) → nat_lt n (length v) ≡
 unfolding is_ownership_broken ownership_rules is_some_and
 rule_30 first v n l w = rw (l, w) refl
 
-rule_31 : (first : List Joint) (v : Trace) (n : ℕ) → nat_lt n (length v) ≡ true → take (n + 1) v ≡ v
+pub rule_31 : (first : List Joint) (v : Trace) (n : ℕ) → nat_lt n (length v) ≡ true → take (n + 1) v ≡ v
     → is_ownership_broken first v n 31 ≡ is_given_again first v n
 unfolding is_ownership_broken ownership_rules is_some_and
 rule_31 first v n l w = rw (l, w) refl

@@ -1,5 +1,5 @@
 -- The verdict of a judge, one sample on.
-use Rattle.std.proofs.Common.{ℕ, ◌+◌, ◌≡◌, Bool, true, false, length, List, [], Option, Some, None, is_some, refl, sym, ap, ◌∙◌, ◌≤◌, arith}
+use Rattle.std.proofs.Common.{ℕ, ◌+◌, ◌≡◌, true, false, length, List, [], Option, Some, None, is_some, refl, sym, ap, ◌∙◌, ◌≤◌, arith}
 use Rattle.std.proofs.Common.{Result, Ok, Err, IfOk, OnOk}
 use Rattle.std.proofs.lemmas.Bool.{both_ways}
 use Rattle.std.specs.Option.{option_map}
@@ -44,6 +44,20 @@ told_by : (n : ℕ) (o : Option ℕ)
 unfolding as_owner_broken
 told_by n None = refl
 told_by n (Some j) = refl
+
+-- where nothing was found there is no verdict yet
+pub unfound : (judge : OwnerJudge) (first : List Joint) (h : Trace) → judge.has_lacked_memory ≡ false → judge.found ≡ None
+    → Stands judge first h → ownership_verdict first h ≡ None
+unfound judge first h r n s = none_by (ownership_verdict first h) (sym n ∙ s.found r)
+
+no_verdict : as_owner_broken None ≡ None
+unfolding as_owner_broken
+no_verdict = refl
+
+-- and where there is no verdict nothing was found
+pub nothing_yet : (judge : OwnerJudge) (first : List Joint) (h : Trace) → judge.has_lacked_memory ≡ false
+    → ownership_verdict first h ≡ None → Stands judge first h → judge.found ≡ None
+nothing_yet judge first h r n s = s.found r ∙ ap as_owner_broken n ∙ no_verdict
 
 -- and else it is what the sample breaks
 pub found-next : (first : List Joint) (h : Trace) (x : Sample) (v : Trace) (rule : Option ℕ) → OneMore h x v

@@ -1,5 +1,5 @@
 -- What a judge is told with a sample, and the samples for which it stands.
-use Rattle.std.specs.Prelude.{◌≡◌, ◌<◌, ◌≤◌, ℕ, ◌+◌, ◌-◌, Bool, true, false, ◌||◌, List, Option, Some, None, length}
+use Rattle.std.specs.Prelude.{◌≡◌, ◌<◌, ◌≤◌, ℕ, ◌+◌, ◌-◌, Bool, false, ◌||◌, List, Option, Some, None, length}
 use Rattle.std.specs.Option.{option_map}
 use Rattle.fsb_count.specs.Options.{is_at}
 use Rattle.fsb_trace.specs.At.{Trace}
@@ -14,7 +14,7 @@ use Rattle.fsb_owner_judge.specs.declared.judge.OwnerJudge.{OwnerJudge}
 use Rattle.fsb_owner_judge.specs.declared.judge.Shown.{Shown}
 use Rattle.fsb_owner_judge.specs.declared.sights.Waiting.{Waiting}
 use Rattle.fsb_owner_judge.specs.declared.lines.OwnerLines.{OwnerLines}
-use Rattle.fsb_owner_judge.specs.Lines.{Follows, KnowsSpoiled, ShowWaits, is_waiting}
+use Rattle.fsb_owner_judge.specs.Lines.{Follows, KnowsSpoiled, ShowWaits, is_kept_spoiled, is_waiting}
 use Rattle.fsb_owner_judge.specs.Sights.{asking_at, line_end_at}
 
 -- a verdict as the judge tells it
@@ -33,7 +33,7 @@ abbrev pub IsSettled : List Joint → Type 0
 IsSettled first = (ready may : ℕ → Bool) → reached_by (is_after_drops may) (reached_by (is_after_stores ready) first) ≡ first
 
 -- v is h and then the sample x, and responses come in time in both: this is what v shows of its last clock, and of the one
--- before it, if there is one
+-- before it, if there is one. Whether a line was given again is asked only where nothing was found in h
 pub record Shows (first : List Joint) (h : Trace) (x : Sample) (v : Trace) (shown : Shown) (waits : List Waiting) : Type 0 where
   pub more : OneMore h x v
   pub before : Orderly h
@@ -42,7 +42,7 @@ pub record Shows (first : List Joint) (h : Trace) (x : Sample) (v : Trace) (show
   pub ended_before : 0 < length h → shown.ended_before ≡ line_end_at v (length h - 1)
   pub ended : shown.ended ≡ line_end_at v (length h)
   pub spoiled : (line : ℕ) → is_spoiled v line ≡ (is_at shown.failed line || is_spoiled h line)
-  pub given_again : shown.is_given_again ≡ is_given_again first v (length h)
+  pub given_again : ownership_verdict first h ≡ None → shown.is_given_again ≡ is_given_again first v (length h)
   pub waiting : 0 < length h → ShowWaits v (length h - 1) waits
   pub quiet : 0 < length h → (line : ℕ) → is_waiting waits line ≡ false → IsQuiet v line (length h - 1)
 
@@ -59,6 +59,10 @@ has_lacked_memory judge = judge.has_lacked_memory
 -- how many samples it took, until it found something
 abbrev pub taken : OwnerJudge → ℕ
 taken judge = judge.clock
+
+-- the line is kept as spoiled
+abbrev pub is_spoiled_for : OwnerJudge → ℕ → Bool
+is_spoiled_for judge line = is_kept_spoiled judge.lines line
 
 -- the judge began with these joint states and was told of these samples: unless memory was lacking it found their verdict,
 -- and as long as there is none it keeps what is possible

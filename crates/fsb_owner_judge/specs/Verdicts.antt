@@ -1,5 +1,5 @@
 -- The rules of ownership, as a judge looks at them: by the request that is decoded, and by a snoop end.
-use Rattle.std.specs.Prelude.{ℕ, ◌-◌, nat_lt, Bool, true, false, ◌&&◌, ◌||◌, not, if◌then◌else◌, List, Option, Some, None}
+use Rattle.std.specs.Prelude.{ℕ, ◌-◌, nat_lt, Bool, false, ◌&&◌, ◌||◌, not, if◌then◌else◌, List, Option, Some, None}
 use Rattle.fsb_signal.specs.declared.lines.TheConstants.Lines.{HIT, HITM}
 use Rattle.fsb_signal.specs.Samples.{line_at}
 use Rattle.fsb_trace.specs.At.{Trace}

@@ -1,13 +1,14 @@
 //! The judge, sample by sample.
 
-ghost use Rattle.std.specs.Prelude.{◌≡◌, ◌<◌, ◌≤◌, ◌+◌, ◌^◌, ◌∷◌, [], ℕ, true, false, length, List, IfOk, IsErr, OnOk, OnErr};
+ghost use Rattle.std.specs.Prelude.{◌≡◌, ◌<◌, ◌≤◌, ◌+◌, ◌^◌, ◌∷◌, [], ℕ, true, false, length, List, None, IfOk, IsErr, OnOk, OnErr};
 ghost use Rattle.std.specs.Option.{option_map};
 ghost use Rattle.fsb_trace.specs.At.{Trace};
 ghost use Rattle.fsb_owners.specs.Joint.{Joint, every_joint, unheld};
 ghost use Rattle.fsb_owners.specs.Least.{least_at};
 ghost use Rattle.fsb_owners.specs.Rules.{is_hit_of_reply_wrong, is_ownership_broken, ownership_verdict};
+ghost use Rattle.fsb_owners.specs.Shown.{is_spoiled};
 ghost use Rattle.fsb_signal.specs.declared.sample.Sample.{Sample};
-ghost use Rattle.fsb_owner_judge.specs.Judge.{LinesStand, Shows, Stands, as_owner_broken, has_lacked_memory, taken};
+ghost use Rattle.fsb_owner_judge.specs.Judge.{LinesStand, Shows, Stands, as_owner_broken, has_lacked_memory, is_spoiled_for, taken};
 ghost use Rattle.fsb_owner_judge.specs.Lines.{Follows, KnowsSpoiled};
 ghost use Rattle.fsb_owner_judge.specs.Sights.{AsksAsOne, EndsAsOne, line_end_at};
 ghost use Rattle.fsb_owner_judge.specs.Verdicts.{answered_at, or_rule, rule_by};
@@ -39,7 +40,7 @@ pub struct Shown {
     pub ended: Option<LineEnd>,
     /// The line of which a request, or the reply to one, fails hard with the sample.
     pub failed: Option<u64>,
-    /// Whether a deferred line was given again.
+    /// Whether a deferred line was given again; it counts only as long as nothing was found.
     pub is_given_again: bool,
 }
 
@@ -117,7 +118,7 @@ impl OwnerLines {
         requires ended { EndsAsOne shown.now.ended }
         ensures rule { IfOk result (λ rule. (first : List Joint) (h : Trace) (x : Sample)
             (v : Trace) → LinesStand self.old first h → 0 < length h →
-            Shows first h x v shown.now waits.now →
+            ownership_verdict first h ≡ None → Shows first h x v shown.now waits.now →
             rule ≡ least_at (is_ownership_broken first v) 32 (length h)) }
         ensures stands { OnOk result ((first : List Joint) (h : Trace) (x : Sample) (v : Trace) →
             LinesStand self.old first h → 0 < length h →
@@ -135,7 +136,7 @@ impl OwnerLines {
         requires { EndsAsOne shown.now.ended }
         ensures rule { IfOk result (λ rule. (first : List Joint) (h : Trace) (x : Sample)
             (v : Trace) (waits : List Waiting) → LinesStand self.old first h → length h ≡ 0 →
-            Shows first h x v shown.now waits →
+            ownership_verdict first h ≡ None → Shows first h x v shown.now waits →
             rule ≡ least_at (is_ownership_broken first v) 32 (length h)) }
         ensures stands { OnOk result ((first : List Joint) (h : Trace) (x : Sample) (v : Trace)
             (waits : List Waiting) → LinesStand self.old first h → length h ≡ 0 →
@@ -157,7 +158,7 @@ impl OwnerLines {
         requires ended { EndsAsOne shown.now.ended }
         ensures rule { IfOk result (λ rule. (first : List Joint) (h : Trace) (x : Sample)
             (v : Trace) → LinesStand self.old first h → clock ≡ length h →
-            Shows first h x v shown.now waits.now →
+            ownership_verdict first h ≡ None → Shows first h x v shown.now waits.now →
             rule ≡ least_at (is_ownership_broken first v) 32 (length h)) }
         ensures stands { OnOk result ((first : List Joint) (h : Trace) (x : Sample) (v : Trace) →
             LinesStand self.old first h → clock ≡ length h →
@@ -198,6 +199,25 @@ impl OwnerJudge {
             has_lacked_memory: false,
             clock: 0,
         }
+    }
+
+    /// What was found in the samples so far.
+    pub fn found(&self) -> Option<OwnerBroken>
+        ensures { (first : List Joint) (h : Trace) → Stands self.now first h →
+            has_lacked_memory self.now ≡ false →
+            result ≡ as_owner_broken (ownership_verdict first h) }
+    {
+        self.found
+    }
+
+    /// Whether the line is spoiled in the samples so far. Once something was found lines are spoiled no more.
+    pub fn is_spoiled(&self, line: u64) -> bool
+        ensures kept { result ≡ is_spoiled_for self.now line }
+        ensures traced { (first : List Joint) (h : Trace) → Stands self.now first h →
+            has_lacked_memory self.now ≡ false → ownership_verdict first h ≡ None →
+            result ≡ is_spoiled h line }
+    {
+        self.lines.is_spoiled(line)
     }
 
     /// Takes what the wires show with the next sample, and tells the least clock and rule that is broken in the samples so

@@ -138,7 +138,7 @@ response_of_row : (v : Trace) (q : ℕ) → (row_at v q).response ≡ reached re
 unfolding row_at
 response_of_row v q = refl
 
-snoop_event : (v : Trace) (c : ℕ) → Orderly v → IsEvent (λ row. is_some_and row.snoop (λ s. nat_eq s.clock c)) snoop_end_of v c
+pub snoop_event : (v : Trace) (c : ℕ) → Orderly v → IsEvent (λ row. is_some_and row.snoop (λ s. nat_eq s.clock c)) snoop_end_of v c
 snoop_event v c o = record {
   same = λ q. ap (λ b. line_at ADS v q && b) (snoop_test v c q) ∙ reached_test snoop_end_of v c q;
   ends = λ i e s f.

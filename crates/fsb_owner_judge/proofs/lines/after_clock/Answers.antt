@@ -1,5 +1,5 @@
 use Rattle.std.proofs.Common.{ap, ◌∙◌}
-use Rattle.fsb_owners.specs.Possible.{after_answer, after_begin, after_clock, after_snoop_end, after_unseen}
+use Rattle.fsb_owners.specs.Possible.{after_answer, after_clock, after_snoop_end, after_unseen}
 use Rattle.fsb_owner_judge.proofs.lines.after_clock.Goals as goal
 
 pub returns : goal.returns

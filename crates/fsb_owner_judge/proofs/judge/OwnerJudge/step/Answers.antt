@@ -1,5 +1,5 @@
-use Rattle.std.proofs.Common.{◌+◌, ◌≤◌, length, sym, ap, ◌∙◌, arith}
-use Rattle.fsb_owner_judge.proofs.Standing.{kept, lacked, nothing-found, stays_of, stepped, told-next}
+use Rattle.std.proofs.Common.{◌+◌, sym, ap, ◌∙◌, arith}
+use Rattle.fsb_owner_judge.proofs.Standing.{kept, lacked, nothing-found, stays_of, stepped, told-next, unfound}
 use Rattle.fsb_owner_judge.proofs.judge.OwnerJudge.step.Goals as goal
 
 pub returns-then-is_some-clause-found : goal.returns-then-is_some-clause-found
@@ -16,7 +16,7 @@ returns-clause-found c = λ first h x v s w.
     let clock = s.clock c.if-self.false none in
     c.found_at-self.ensures
     ∙ told-next c.args.self.now first h x v _ c.in-Ok.rule w.more c.if-self.false none s clock
-    (c.in-Ok.ensures.rule first h x v (s.lines c.if-self.false none) clock w)
+    (c.in-Ok.ensures.rule first h x v (s.lines c.if-self.false none) clock (unfound c.args.self.now first h c.if-self.false none s) w)
 
 pub returns-clause-stands : goal.returns-clause-stands
 returns-clause-stands c = λ first h x v s w.
@@ -25,7 +25,7 @@ returns-clause-stands c = λ first h x v s w.
     stepped _ first h x v c.args.self.now.clock w.more clock
     (c.found_at-self.ensures
     ∙ told-next c.args.self.now first h x v _ c.in-Ok.rule w.more c.if-self.false none s clock
-    (c.in-Ok.ensures.rule first h x v (s.lines c.if-self.false none) clock w))
+    (c.in-Ok.ensures.rule first h x v (s.lines c.if-self.false none) clock (unfound c.args.self.now first h c.if-self.false none s) w))
     (c.in-Ok.ensures.stands first h x v (s.lines c.if-self.false none) clock w)
     (ap (λ d. d + 1) c.from.ensures)
 

@@ -1,6 +1,5 @@
-use Rattle.std.proofs.Common.{ℕ, ◌+◌, ◌-◌, ◌≡◌, length, sym, ap, ◌∙◌, arith}
-use Rattle.fsb_owners.specs.Possible.{possible}
-use Rattle.fsb_owner_judge.specs.Lines.{Follows, KnowsSpoiled, ShowsClock}
+use Rattle.std.proofs.Common.{◌+◌, ◌-◌, ◌≡◌, length, sym, ap, ◌∙◌, arith}
+use Rattle.fsb_owner_judge.specs.Lines.{ShowsClock}
 use Rattle.fsb_owner_judge.specs.Sights.{begun_for}
 use Rattle.fsb_owner_judge.specs.Verdicts.{begun_rule}
 use Rattle.fsb_owner_judge.proofs.Judging.{close-on, follow-on, late-then, rules-now, spoiled-on, stand-next}
@@ -8,7 +7,7 @@ use Rattle.fsb_owner_judge.proofs.LineSights.{begun-at}
 use Rattle.fsb_owner_judge.proofs.lines.OwnerLines.advance.Goals as goal
 
 pub returns-clause-rule : goal.returns-clause-rule
-returns-clause-rule c = λ first h x v s z w.
+returns-clause-rule c = λ first h x v s z none w.
     let shown = c.args.shown.now in
     let waits = c.args.waits.now in
     let on = c.spoil_failed.new.self in
@@ -24,7 +23,7 @@ returns-clause-rule c = λ first h x v s z w.
     (c.begun_rule-begun.ensures first v (length h - 1) f k (w.begun z) ∙ ap (begun_rule first v) last)
     (c.answered-late.ensures first v (length h - 1) f k (w.ended_before z)
     (λ line. ap (begun_for line) (w.begun z) ∙ sym (begun-at v line (length h - 1)))
-    ∙ late-then first v (length h) z) w.given_again
+    ∙ late-then first v (length h) z) (w.given_again none)
 
 pub returns-clause-stands : goal.returns-clause-stands
 returns-clause-stands c = λ first h x v s z w.

@@ -1,4 +1,4 @@
-use Rattle.std.proofs.Common.{sym, ap, ◌∙◌}
+use Rattle.std.proofs.Common.{ap, ◌∙◌}
 use Rattle.fsb_joint.specs.Sets.{joints_of}
 use Rattle.fsb_owners.specs.Possible.{after_begin}
 use Rattle.fsb_owner_judge.proofs.LineSights.{begun-one}

@@ -1,4 +1,4 @@
-use Rattle.std.proofs.Common.{ℕ, ◌∙◌}
+use Rattle.std.proofs.Common.{◌∙◌}
 use Rattle.fsb_owner_judge.specs.Lines.{is_waiting, kept_of, walked}
 use Rattle.fsb_owner_judge.proofs.Walks.{shown-head, walked-more}
 use Rattle.fsb_owner_judge.proofs.lines.OwnerLines.close.Goals as goal

@@ -1,4 +1,4 @@
-use Rattle.std.proofs.Common.{◌≡◌, sym, ap, ◌∙◌}
+use Rattle.std.proofs.Common.{sym, ap, ◌∙◌}
 use Rattle.fsb_owner_judge.specs.Sights.{ended_for}
 use Rattle.fsb_owner_judge.specs.Verdicts.{unfit_by}
 use Rattle.fsb_owner_judge.proofs.LineSights.{end-own, ended-at, ended-own}

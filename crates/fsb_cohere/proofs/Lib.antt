@@ -1,0 +1,4 @@
+pub mod QuietLines
+pub mod Showing
+pub mod Passing
+pub mod SoundSamples

@@ -1,0 +1,2 @@
+pub mod FailedRows
+pub mod Spoils
