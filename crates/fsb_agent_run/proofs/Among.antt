@@ -1,6 +1,6 @@
 -- What stands in a list.
-use Rattle.std.proofs.Common.{ℕ, zero, suc, ◌≡◌, ◌⊎◌, Bool, true, false, ◌&&◌, cond, List, [], ◌∷◌, ◌++◌, map}
-use Rattle.std.proofs.Common.{slice_get, Some, refl, sym, ap, subst, inl, inr}
+use Rattle.std.proofs.Common.{ℕ, zero, suc, ◌≡◌, ◌⊎◌, Bool, true, ◌&&◌, cond, List, [], ◌∷◌, ◌++◌, map, slice_get}
+use Rattle.std.proofs.Common.{Some, refl, sym, ap, subst, inl, inr, arith}
 use Rattle.std.specs.List.{filter, find, list_all, list_any}
 use Rattle.std.proofs.lemmas.Bool.{and_from, and_parts, both_ways, cases_Bool, or_left, or_right}
 
@@ -14,10 +14,6 @@ among-left x [] ys h = absurd h
 among-left x (y ∷ xs) ys (inl e) = inl e
 among-left x (y ∷ xs) ys (inr h) = inr (among-left x xs ys h)
 
-pub among-right : {X : Type 0} (x : X) (xs ys : List X) → Among x ys → Among x (xs ++ ys)
-among-right x [] ys h = h
-among-right x (y ∷ xs) ys h = inr (among-right x xs ys h)
-
 pub among-either : {X : Type 0} (x : X) (xs ys : List X) → Among x (xs ++ ys) → Among x xs ⊎ Among x ys
 among-either x [] ys h = inr h
 among-either x (y ∷ xs) ys (inl e) = inl (inl e)
@@ -25,30 +21,16 @@ among-either x (y ∷ xs) ys (inr h) = elim (among-either x xs ys h) [ inl k ↦
 
 pub among-filter : {X : Type 0} (f : X → Bool) (x : X) (xs : List X) → Among x (filter f xs) → Among x xs × (f x ≡ true)
 among-filter f x [] h = absurd h
-among-filter f x (y ∷ xs) h = elim (cases_Bool (f y)) [
-  | inl t ↦
-      elim (let h' : (y ≡ x) ⊎ Among x (filter f xs) = rw t at h in h') [
-        | inl e ↦ (inl e, subst (λ z. f z ≡ true) e t)
-        | inr k ↦ let rest = among-filter f x xs k in (inr rest.0, rest.1)
-      ]
-  | inr n ↦ let rest = among-filter f x xs (rw n at h) in (inr rest.0, rest.1)
-]
+among-filter f x (y ∷ xs) h = grind (arith, among-filter f x xs)
 
 pub filter-among : {X : Type 0} (f : X → Bool) (x : X) (xs : List X) → Among x xs → f x ≡ true → Among x (filter f xs)
 filter-among f x [] h p = absurd h
-filter-among f x (y ∷ xs) (inl e) p =
-    let t : f y ≡ true = subst (λ z. f z ≡ true) (sym e) p in rw t (inl e)
-filter-among f x (y ∷ xs) (inr h) p = elim (cases_Bool (f y)) [
-  | inl t ↦ rw t (inr (filter-among f x xs h p))
-  | inr n ↦ rw n (filter-among f x xs h p)
-]
+filter-among f x (y ∷ xs) (inl e) p = grind arith
+filter-among f x (y ∷ xs) (inr h) p = grind (arith, filter-among f x xs h p)
 
 pub any-among : {X : Type 0} (f : X → Bool) (xs : List X) → list_any f xs ≡ true → (x : X) × Among x xs × (f x ≡ true)
 any-among f [] e = absurd (let no : ⊥ = cc in no)
-any-among f (y ∷ xs) e = elim (cases_Bool (f y)) [
-  | inl t ↦ (y, inl refl, t)
-  | inr n ↦ let rest = any-among f xs (let e' = rw n at e in e') in (rest.0, inr rest.1, rest.2)
-]
+any-among f (y ∷ xs) e = grind (arith, any-among f xs)
 
 pub among-any : {X : Type 0} (f : X → Bool) (x : X) (xs : List X) → Among x xs → f x ≡ true → list_any f xs ≡ true
 among-any f x [] h p = absurd h
@@ -87,13 +69,7 @@ map-among f y (x ∷ xs) (inr h) = let rest = map-among f y xs h in (rest.0, inr
 -- what is found stands there and passes
 pub found-among : {X : Type 0} (f : X → Bool) (x : X) (xs : List X) → find f xs ≡ Some x → Among x xs × (f x ≡ true)
 found-among f x [] e = absurd (let no : ⊥ = cc in no)
-found-among f x (y ∷ xs) e = elim (cases_Bool (f y)) [
-  | inl t ↦
-      let same : Some y ≡ Some x = rw t at e in
-      let is : y ≡ x = cc in
-      (inl is, subst (λ z. f z ≡ true) is t)
-  | inr n ↦ let rest = found-among f x xs (rw n at e) in (inr rest.0, rest.1)
-]
+found-among f x (y ∷ xs) e = grind (arith, found-among f x xs)
 
 -- where something passes, something is found
 pub among-found : {X : Type 0} (f : X → Bool) (x : X) (xs : List X) → Among x xs → f x ≡ true
@@ -114,28 +90,17 @@ filter-swap f g (x ∷ xs) = by (f x) (g x) refl refl (filter-swap f g xs)
   where
     by : (b c : Bool) → f x ≡ b → g x ≡ c → filter f (filter g xs) ≡ filter g (filter f xs)
         → filter f (cond c (x ∷ filter g xs) (filter g xs)) ≡ filter g (cond b (x ∷ filter f xs) (filter f xs))
-    by true true e d rest = rw (e, d) (ap (λ ys. x ∷ ys) rest)
-    by true false e d rest = rw d rest
-    by false true e d rest = rw e rest
-    by false false e d rest = rest
+    by b c h1 h2 h3 = grind arith
 
 -- tests that agree on a list keep the same of it
 pub filter-same : {X : Type 0} (f g : X → Bool) (xs : List X) → ((x : X) → Among x xs → f x ≡ g x)
     → filter f xs ≡ filter g xs
 filter-same f g [] h = refl
-filter-same f g (x ∷ xs) h =
-    let here = h x (inl refl) in
-    let rest = filter-same f g xs (λ y k. h y (inr k)) in
-    elim (cases_Bool (g x)) [
-      | inl u ↦ rw (here, u) (ap (λ ys. x ∷ ys) rest)
-      | inr v ↦ rw (here, v) rest
-    ]
+filter-same f g (x ∷ xs) h = grind (arith, filter-same f g xs)
 
 pub filter-all : {X : Type 0} (f : X → Bool) (xs : List X) → ((x : X) → Among x xs → f x ≡ true) → filter f xs ≡ xs
 filter-all f [] h = refl
-filter-all f (x ∷ xs) h =
-    let here = h x (inl refl) in
-    rw here (ap (λ ys. x ∷ ys) (filter-all f xs (λ y k. h y (inr k))))
+filter-all f (x ∷ xs) h = grind (arith, filter-all f xs)
 
 pub filter-two : {X : Type 0} (f g : X → Bool) (xs : List X) → filter f (filter g xs) ≡ filter (λ x. g x && f x) xs
 filter-two f g [] = refl
@@ -144,5 +109,4 @@ filter-two f g (x ∷ xs) = by (g x) (filter-two f g xs)
     by : (c : Bool) → filter f (filter g xs) ≡ filter (λ y. g y && f y) xs
         → filter f (cond c (x ∷ filter g xs) (filter g xs))
         ≡ cond (c && f x) (x ∷ filter (λ y. g y && f y) xs) (filter (λ y. g y && f y) xs)
-    by false rest = rest
-    by true rest = ap (λ ys. cond (f x) (x ∷ ys) ys) rest
+    by c h1 = grind arith

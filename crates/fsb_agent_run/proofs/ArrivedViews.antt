@@ -1,15 +1,15 @@
 -- From behind the snoop end of a clock to the next clock, where a line comes to the agent.
-use Rattle.std.proofs.Common.{ℕ, ◌+◌, ◌<◌, ◌≡◌, ◌≢◌, ◌⊎◌, ◌%◌, Bool, true, false, not, ◌&&◌, ◌||◌, List, length, Some}
+use Rattle.std.proofs.Common.{ℕ, ◌+◌, ◌<◌, ◌≡◌, ◌≢◌, ◌%◌, Bool, true, false, not, ◌&&◌, ◌||◌, List, length, Some}
 use Rattle.std.proofs.Common.{nat_eq, refl, sym, ap, subst, ◌∙◌, inl, inr, arith, ⊎_elim, if◌then◌else◌}
 use Rattle.std.specs.Prelude.{◌==◌}
 use Rattle.std.specs.List.{list_all, list_any}
 use Rattle.std.proofs.lemmas.Bool.{and_from, and_parts, cases_Bool, cases_eq, eq-eqb, eqb-true, false_from_ne_true}
-use Rattle.std.proofs.lemmas.Bool.{ne_eqb, not-true, or_right}
+use Rattle.std.proofs.lemmas.Bool.{ne_eqb, or_right}
 use Rattle.fsb_access.specs.declared.access.Access.{Access}
 use Rattle.fsb_access.specs.declared.item.Item.{Item}
 use Rattle.fsb_access.specs.Access.{accessed_line}
 use Rattle.fsb_access.specs.ScriptOrder.{Step, steps_of_item}
-use Rattle.fsb_cache.specs.Sets.{CacheSets, copies, states}
+use Rattle.fsb_cache.specs.Sets.{CacheSets, states}
 use Rattle.fsb_count.specs.Options.{is_some_and}
 use Rattle.fsb_linebuf.specs.Buffers.{Buffered, fills_without}
 use Rattle.fsb_line.specs.declared.state.Mesi.{Mesi}
@@ -50,11 +50,10 @@ use Rattle.fsb_agent_run.proofs.HandSteps.{in_sets-after, length-after, may_stor
 use Rattle.fsb_agent_run.proofs.HitsMade.{arrival-by, brought-by}
 use Rattle.fsb_agent_run.proofs.HitViews.{never-with, next-steps, nothing, sole-told}
 use Rattle.fsb_agent_run.proofs.ItemsCompleted.{IsNeedOf, any-stores, logged-there, steps-need, stores-by-steps}
-use Rattle.fsb_agent_run.proofs.OtherSnoops.{unheld-invalid}
 use Rattle.fsb_agent_run.proofs.OwnSnoops.{grant-of-snoop}
 use Rattle.fsb_agent_run.proofs.PlaceSteps.{place-completed}
-use Rattle.fsb_agent_run.proofs.SlotStates.{InSets, in_sets-filled, in_sets-without, kept-line, length-without}
-use Rattle.fsb_agent_run.proofs.SlotStates.{resident-at, some-sets, state-filled, state-without}
+use Rattle.fsb_agent_run.proofs.SlotStates.{InSets, in_sets-filled, in_sets-without, kept-line, resident-at}
+use Rattle.fsb_agent_run.proofs.SlotStates.{some-sets, state-filled, state-without}
 use Rattle.fsb_agent_run.proofs.SnoopSteps.{granted-is, rival-unheld}
 use Rattle.fsb_agent_run.proofs.StatesTold.{held-by}
 use Rattle.fsb_agent_run.proofs.StoresTold.{any_stored, end-state, end-state_hit, state_with}
@@ -63,30 +62,14 @@ use Rattle.fsb_agent_run.proofs.ToldStates.{state_snooped_at}
 -- a line that is settled is as it is to be, and each other one stays
 state-settled : (sets : CacheSets) (line other : ℕ) (state : Mesi) → is_held (states sets line) ≡ true
     → states (sets_settled sets line state) other ≡ (if other == line then state else states sets other)
-state-settled sets line other state held = elim (cases_Bool (is_held state)) [
-  | inl on ↦
-      let there = resident-at sets line held in
-      rw (on, sets_settled)
-      (kept-line sets line other there.0 (record { line = line; state = state; bytes = copies sets line })
-      (some-sets sets line held) there.1 there.2 (sym there.2))
-  | inr off ↦
-      rw (off, sets_settled)
-      (state-without sets line other
-      ∙ ap (λ x. if other == line then x else states sets other) (sym (unheld-invalid state off)))
-]
+state-settled sets line other state held = grind (arith, resident-at, kept-line, some-sets, state-without)
 
 in_sets-settled : (sets : CacheSets) (line : ℕ) (state : Mesi) → 0 < length sets → InSets sets
     → InSets (sets_settled sets line state)
-in_sets-settled sets line state some in_sets = elim (cases_Bool (is_held state)) [
-  | inl on ↦ rw (on, sets_settled) (in_sets-filled sets line state (copies sets line) some in_sets)
-  | inr off ↦ rw (off, sets_settled) (in_sets-without sets line in_sets)
-]
+in_sets-settled sets line state some in_sets = grind (arith, in_sets-filled, in_sets-without)
 
 length-settled : (sets : CacheSets) (line : ℕ) (state : Mesi) → length (sets_settled sets line state) ≡ length sets
-length-settled sets line state = elim (cases_Bool (is_held state)) [
-  | inl on ↦ rw (on, sets_settled) (length-with_slot sets line _)
-  | inr off ↦ rw (off, sets_settled) (length-without sets line)
-]
+length-settled sets line state = grind (arith, length-with_slot)
 
 -- a view with a line that comes, after what that completes
 record HasMet (p : Past) (a c line : ℕ) (v met : AgentView) : Type 0 where
@@ -139,8 +122,7 @@ ending-there r a c number s grant v h ends makes view k =
           let here = ends.snooped in
           let same : l.0 ≡ s = cc in
           let gives = l.2 in
-          let two : other_grant ≡ grant =
-          (let e = sym (sym (ap (λ (x : SnoopEnd). x.grant) same) ∙ gives) ∙ makes in cc) in
+          let two : other_grant ≡ grant = grind arith in
           apart (sym l.4 ∙ ap (λ (g : Grant). g.line) two ∙ own.line));
     }
   where
@@ -156,17 +138,7 @@ line-stays : (r : Run) (a c line : ℕ) → Reaches r (c + 1) → IsGrantEnding 
     (is_dirty_below (past_of r) a line (c + 1))
     ≡ state_snooped_at (past_of r) a line c
 unfolding has_arrived is_some_and
-line-stays r a c line h k =
-    let p = past_of r in
-    elim (cases_Bool (is_hit p a c)) [
-      | inl hit ↦ end-state_hit p a line c hit
-      | inr none ↦
-          let away : has_arrived p a line (c + 1) c ≡ false =
-          ap (λ o. is_some_and o (λ grant. is_ended p c grant.first)) k.is_latest ∙ k.unended in
-          end-state p a line c none
-          ∙ sym (never-with (has_arrived p a line (c + 1) c && any_stored p a line c) (state_snooped_at p a line c)
-          (ap (λ b. b && any_stored p a line c) away))
-    ]
+line-stays r a c line h k = grind (arith, end-state_hit, end-state)
 
 -- the other lines of its set are not held
 rival-gone : (r : Run) (a line other c : ℕ) → Reaches r (c + 1) → is_asked_for (owed (past_of r) a c) line ≡ true
@@ -189,24 +161,11 @@ filled-states : (r : Run) (a c line other : ℕ) (bytes : List ℕ) (v : AgentVi
     → IsViewAfterSnoop (past_of r) a c v → is_asked_for (owed (past_of r) a c) line ≡ true
     → states (with_bytes v line bytes).lines other ≡ (if other == line then Modified else line_state_by v other)
 unfolding past_of
-filled-states r a c line other bytes v h some view asked =
-    let p = past_of r in
-    state-filled v.lines line other Modified bytes (subst (λ n. 0 < n) (sym view.agent.cache) some)
-    (λ apart same.
-    let gone = rival-gone r a line other c h asked apart
-    (ap (λ n. other % n) (sym view.agent.cache) ∙ same ∙ ap (λ n. line % n) view.agent.cache) in
-    view.lines.states other
-    ∙ (λ i. state_told (gone i) (is_exclusive p a other (c + 1)) (is_dirty_snooped p a other c)))
+filled-states r a c line other bytes v h some view asked = grind (arith, state-filled, rival-gone)
 
 filled-agent : (p : Past) (a c line : ℕ) (bytes : List ℕ) (v : AgentView) → IsAgentOf p a v
     → IsAgentOf p a (with_bytes v line bytes)
-filled-agent p a c line bytes v is = record {
-  number = is.number;
-  items = is.items;
-  ahead = is.ahead;
-  profile = is.profile;
-  cache = length-with_slot v.lines line _ ∙ is.cache;
-}
+filled-agent p a c line bytes v is = grind (arith, length-with_slot)
 
 at-line : (line : ℕ) (state : Mesi) → is_held (if line == line then Modified else state) ≡ true
 at-line line state = rw (eq-eqb line line refl) refl
@@ -217,22 +176,7 @@ met-none : (r : Run) (a c line : ℕ) (bytes : List ℕ) (v : AgentView) → Rea
     → HasMet (past_of r) a c line v (with_bytes v line bytes)
 unfolding past_of
 met-none r a c line bytes v h some few view k off =
-    let p = past_of r in
-    let there : AgentView = with_bytes v line bytes in
-    let told = λ (other : ℕ). filled-states r a c line other bytes v h some view k.asked in
-    let placed = end-placed r a c v h few off view.placed in
-    record {
-      agent = filled-agent p a c line bytes v view.agent;
-      placed = record { place = placed.place; idle_to = placed.idle_to; finished = placed.finished };
-      here = ap is_held (told line) ∙ at-line line (line_state_by v line);
-      others = λ other apart.
-          told other ∙ ap (λ b. if b then Modified else line_state_by v other) (ne_eqb other line apart)
-          ∙ view.lines.states other ∙ sym (end-lines r a other c h few off);
-      in_sets = in_sets-filled v.lines line Modified bytes (subst (λ n. 0 < n) (sym view.agent.cache) some)
-          view.lines.in_sets;
-      buffers = refl;
-      outs = refl;
-    }
+    grind (arith, filled-states, end-placed, filled-agent, end-lines, in_sets-filled)
 
 -- what an arrival has of the lines of its item: each but the one that comes is held and ready
 abbrev there_at : Past → ℕ → ℕ → ℕ → Need → Bool
@@ -256,12 +200,7 @@ there-parts : (p : Past) (a c : ℕ) (need : Need) → is_there p a c need ≡ t
     → (holds_line p a need.line (c + 1) ≡ true) × (need.alone ≡ true → is_exclusive p a need.line (c + 1) ≡ true)
     × (has_arrived p a need.line (c + 1) c ≡ true)
 unfolding is_there is_met
-there-parts p a c need e =
-    let parts = and_parts (holds_line p a need.line (c + 1) && (not need.alone || is_exclusive p a need.line (c + 1)))
-    (has_arrived p a need.line (c + 1) c) e in
-    let met = and_parts (holds_line p a need.line (c + 1))
-    (not need.alone || is_exclusive p a need.line (c + 1)) parts.0 in
-    (met.0, (λ alone. (let m = rw alone at met.1 in m)), parts.1)
+there-parts p a c need e = grind arith
 
 -- what is stored into is the line that comes, or is held alone and ready
 abbrev alone_behind : Past → ℕ → ℕ → ℕ → Access → Bool
@@ -273,37 +212,16 @@ alone_behind p a c line access =
 
 alone-there : (p : Past) (a c line : ℕ) (need : Need) (access : Access) → IsNeedOf need access
     → there_at p a c line need ≡ true → alone_behind p a c line access ≡ true
-alone-there p a c line need access of e = by (is_load access) refl (cases_Bool (nat_eq need.line line))
-  where
-    last : (b : Bool) → (b || true) ≡ true
-    last true = refl
-    last false = refl
-
-    by : (load : Bool) → is_load access ≡ load → (nat_eq need.line line ≡ true) ⊎ (nat_eq need.line line ≡ false)
-        → alone_behind p a c line access ≡ true
-    by true f which = rw f refl
-    by false f (inl on) = rw (f, sym (ap (λ l. nat_eq l line) of.line) ∙ on) refl
-    by false f (inr off) =
-        let parts = there-parts p a c need (let e' = rw off at e in e') in
-        let held = subst (λ l. holds_line p a l (c + 1) ≡ true) of.line parts.0 in
-        let own = subst (λ l. is_exclusive p a l (c + 1) ≡ true) of.line (parts.1 (of.alone f)) in
-        let come = subst (λ l. has_arrived p a l (c + 1) c ≡ true) of.line parts.2 in
-        rw (f, held, own, come) (last (nat_eq (accessed_line access) line))
+alone-there p a c line need access of e = grind (arith, there-parts)
 
 alone-parts : (p : Past) (a c line : ℕ) (access : Access) → is_load access ≡ false → accessed_line access ≢ line
     → alone_behind p a c line access ≡ true
     → (holds_line p a (accessed_line access) (c + 1) ≡ true) × (is_exclusive p a (accessed_line access) (c + 1) ≡ true)
     × (has_arrived p a (accessed_line access) (c + 1) c ≡ true)
-alone-parts p a c line access load apart e =
-    let l = accessed_line access in
-    let e' = rw (load, ne_eqb l line apart) at e in
-    let outer = and_parts (holds_line p a l (c + 1) && is_exclusive p a l (c + 1)) (has_arrived p a l (c + 1) c) e' in
-    let inner = and_parts (holds_line p a l (c + 1)) (is_exclusive p a l (c + 1)) outer.0 in
-    (inner.0, inner.1, outer.1)
+alone-parts p a c line access load apart e = grind arith
 
 held-either : (b : Bool) (state : Mesi) → is_held state ≡ true → is_held (if b then Modified else state) ≡ true
-held-either true state e = refl
-held-either false state e = e
+held-either b state h1 = grind arith
 
 may-there : (lines : CacheSets) (access : Access) → is_held (states lines (accessed_line access)) ≡ true
     → may_store lines access ≡ true
@@ -313,9 +231,7 @@ may-there lines access e = or_right (is_load access) (is_held (states lines (acc
 -- an arrival is no hit
 pub arrival-unhit : (p : Past) (a c : ℕ) → is_arrival p a c ≡ true → is_hit p a c ≡ false
 unfolding is_arrival
-arrival-unhit p a c e =
-    let outer = and_parts (not (is_idling p a c) && not (is_hit p a c)) _ e in
-    not-true (is_hit p a c) (and_parts (not (is_idling p a c)) (not (is_hit p a c)) outer.0).1
+arrival-unhit p a c e = grind arith
 
 -- where it completes the next item
 met-arrival : (r : Run) (a c line : ℕ) (owns : Bool) (bytes : List ℕ) (v : AgentView) → Reaches r (c + 1)
@@ -375,10 +291,7 @@ met-arrival r a c line owns bytes v h some few view k comes arrival =
     held-there : (p : Past) (need : Need) → Told
         → is_held (line_state_by v need.line) ≡ holds_line p a need.line (c + 1)
         → there_at p a c line need ≡ true → is_held (states (with_bytes v line bytes).lines need.line) ≡ true
-    held-there p need told same met = ap is_held (told need.line) ∙ (elim (cases_Bool (nat_eq need.line line)) [
-      | inl on ↦ rw on refl
-      | inr off ↦ rw off (same ∙ (there-parts p a c need (let m = rw off at met in m)).0)
-    ])
+    held-there p need told same met = grind (arith, there-parts)
 
     other-state : (p : Past) → IsViewAfterSnoop p a c v → (logged : LogsItem p a c)
         → list_all (there_at p a c line) (needs_of logged.item) ≡ true → Told → is_hit p a c ≡ false → (other : ℕ)
@@ -389,8 +302,7 @@ met-arrival r a c line owns bytes v h some few view k comes arrival =
     other-state p w logged needs told none other apart =
         let steps = steps_of_item logged.number logged.item in
         let any = list_any (λ (step : Step). stores_into other step.access) steps in
-        let stored : any_stored p a other c ≡ any =
-        stores-by-steps a other c p.log ∙ ap (list_any (λ (step : Step). stores_into other step.access)) logged.steps in
+        let stored : any_stored p a other c ≡ any = grind (arith, stores-by-steps) in
         (elim (cases_Bool any) [
           | inr off ↦
               rw off
@@ -405,10 +317,8 @@ met-arrival r a c line owns bytes v h some few view k comes arrival =
               (λ need access of met. alone-there p a c line need access of met) needs) on in
               let names : accessed_line k.0 ≡ other = k.2 in
               let parts = alone-parts p a c line k.0 k.1 (λ e. apart (sym names ∙ e)) k.3 in
-              let come : has_arrived p a other (c + 1) c ≡ true =
-              subst (λ l. has_arrived p a l (c + 1) c ≡ true) names parts.2 in
-              let both : (has_arrived p a other (c + 1) c && any_stored p a other c) ≡ true =
-              (λ i. come i && (stored ∙ on) i) in
+              let come : has_arrived p a other (c + 1) c ≡ true = grind arith in
+              let both : (has_arrived p a other (c + 1) c && any_stored p a other c) ≡ true = grind arith in
               rw on
               (sole-told (holds_line p a other (c + 1)) (is_exclusive p a other (c + 1)) (is_dirty_snooped p a other c)
               (subst (λ l. holds_line p a l (c + 1) ≡ true) names parts.0)
@@ -453,13 +363,8 @@ landed-view r a c number s out v met h ends numbered view k has =
             ap (λ fs. count_on other (fills_without line fs)) fills
             ∙ ⊎_elim
             (λ (same : other ≡ line).
-            let before : count_on line v.buffers.fills ≡ 1 =
-            view.lines.fills line
-            ∙ ap one_if (ap (λ o. is_some_and o (λ grant. not (is_ended p c grant.first))) k.is_latest
-            ∙ ap not k.unended) in
-            let after : is_awaited p a line (c + 1) (c + 1) ≡ false =
-            ap (λ o. is_some_and o (λ grant. not (is_ended p (c + 1) grant.first))) k.is_latest
-            ∙ ap not (is_ended-more p c k.latest.first ∙ or_right (is_ended p c k.latest.first) _ k.ends) in
+            let before : count_on line v.buffers.fills ≡ 1 = grind arith in
+            let after : is_awaited p a line (c + 1) (c + 1) ≡ false = grind (arith, is_ended-more) in
             ap (λ l. count_on l (fills_without line v.buffers.fills)) same
             ∙ count-without_this line v.buffers.fills before
             ∙ sym (ap one_if (ap (λ l. is_awaited p a l (c + 1) (c + 1)) same ∙ after)))
@@ -479,11 +384,7 @@ met-as : (v : AgentView) (c : ℕ) (out : OwnRequest) (bytes : List ℕ) (b : Bo
       | true ↦ completed_by (with_bytes v out.request.line bytes) c
       | false ↦ with_bytes v out.request.line bytes
     ])
-met-as v c out bytes b e =
-    λ i. elim (e i) [
-      | true ↦ completed_by (with_bytes v out.request.line bytes) c
-      | false ↦ with_bytes v out.request.line bytes
-    ]
+met-as v c out bytes b e = grind arith
 
 -- a line comes for a request that was granted
 pub arrived-view : (r : Run) (a c number : ℕ) (s : SnoopEnd) (grant : Grant) (bytes : List ℕ) (v : AgentView)

@@ -1,5 +1,5 @@
 -- What a reply serves is the request that its agent has outstanding on the line.
-use Rattle.std.proofs.Common.{ℕ, ◌+◌, ◌<◌, ◌≡◌, Some, length, refl, sym, ap, ◌∙◌, arith}
+use Rattle.std.proofs.Common.{ℕ, ◌+◌, ◌≡◌, Some, sym, ap, ◌∙◌, arith, subst}
 use Rattle.fsb_timely.specs.Past.{Claim, Grant, Owing}
 use Rattle.fsb_timely.specs.Runs.{past_of, Run}
 use Rattle.fsb_timely.specs.Wants.{owed}
@@ -12,7 +12,6 @@ use Rattle.fsb_agent_run.proofs.EndFacts.{asked-there}
 use Rattle.fsb_agent_run.proofs.OtherSnoops.{asked-number}
 use Rattle.fsb_agent_run.proofs.OwedApart.{one-line, owed-apart}
 use Rattle.fsb_agent_run.proofs.OwedSteps.{owed-there, reaches-less}
-use Rattle.std.proofs.Common.{subst}
 
 pub served-number : (r : Run) (c : ℕ) (grant : Grant) → Reaches r (c + 1) → (k : ServesOutstanding r c grant)
     → number_asked (past_of r) grant.agent c grant.line ≡ Some k.end.first

@@ -2,14 +2,12 @@
 use Rattle.std.proofs.Common.{ℕ, ◌+◌, ◌≡◌, ◌≢◌, Bool, true, false, cond, not, Option, Some, None, List, [], ◌∷◌, ◌++◌}
 use Rattle.std.proofs.Common.{refl, sym, ap, ◌∙◌, inl, inr, arith}
 use Rattle.std.specs.Prelude.{◌==◌, ◌&&◌, count_by, is_none, is_some}
-use Rattle.std.specs.Option.{option_and_then}
 use Rattle.std.proofs.lemmas.Bool.{cases_Bool, eqb-true, ne_eqb}
 use Rattle.std.proofs.lemmas.List.Sums.{sum_by-cons, sum_by_push}
 use Rattle.fsb_linebuf.specs.declared.entry.Fill.{Fill}
 use Rattle.fsb_linebuf.specs.declared.entry.Push.{Push}
-use Rattle.fsb_linebuf.specs.Buffers.{fill_on, fills_without, is_push_for, promise_on, promised_to, push_for, pushed_to}
-use Rattle.fsb_linebuf.specs.Buffers.{pushes_without}
-use Rattle.fsb_agent_view.proofs.Interface.{without_first-cons}
+use Rattle.fsb_linebuf.specs.Buffers.{fill_on, fills_without, is_push_for, promise_on, promised_to, push_for}
+use Rattle.fsb_linebuf.specs.Buffers.{pushed_to, pushes_without}
 use Rattle.fsb_agent_run.specs.RunViews.{one_if}
 use Rattle.fsb_agent_run.proofs.FillCounts.{come-count, count-here, count_on}
 use Rattle.fsb_agent_run.proofs.FillsTold.{fill_on-without, promised_count, promised_count-cons}
@@ -26,15 +24,13 @@ push_count-cons q push pushes = sum_by-cons (λ x. cond (is_push_for q x) 1 0) p
 pub push_count-push : (q number : ℕ) (bytes : List ℕ) (pushes : List Push)
     → push_count q (pushes ++ record { number = number; bytes = bytes } ∷ [])
     ≡ push_count q pushes + cond (number == q) 1 0
-push_count-push q number bytes pushes =
-    sum_by_push (λ x. cond (is_push_for q x) 1 0) pushes (record { number = number; bytes = bytes })
+push_count-push q number bytes pushes = grind (arith, sum_by_push)
 
 -- one that was promised the bytes, if one was
 pub push_count-pushed : (q : ℕ) (to : Option ℕ) (bytes : List ℕ) (pushes : List Push)
     → push_count q (pushed_to to bytes pushes)
     ≡ push_count q pushes + cond (elim to [ None ↦ false | Some number ↦ number == q ]) 1 0
-push_count-pushed q None bytes pushes = omega arith
-push_count-pushed q (Some number) bytes pushes = push_count-push q number bytes pushes
+push_count-pushed q to bytes pushes = grind (arith, push_count-push)
 
 -- one less
 pub push_count-without : (q number : ℕ) (pushes : List Push)
@@ -45,18 +41,14 @@ push_count-without q number (push ∷ pushes) =
     elim (cases_Bool (push.number == number)) [
       | inl on ↦
           let is : push.number ≡ number = eqb-true push.number number on in
-          let rest : pushes_without number (push ∷ pushes) ≡ pushes =
-          without_first-cons (is_push_for number) push pushes
-          ∙ ap (λ b. cond b pushes (push ∷ pushes_without number pushes)) on in
+          let rest : pushes_without number (push ∷ pushes) ≡ pushes = grind arith in
           let found : push_for number (push ∷ pushes) ≡ Some push = rw on refl in
           let here : ◌≡◌ {A = ℕ} (cond (is_some (push_for number (push ∷ pushes)) && (number == q)) 1 0) (cond
           (push.number == q) 1 0) =
           rw (found, is) refl in
           omega (arith, ap (push_count q) rest, push_count-cons q push pushes, here)
       | inr off ↦
-          let rest : pushes_without number (push ∷ pushes) ≡ push ∷ pushes_without number pushes =
-          without_first-cons (is_push_for number) push pushes
-          ∙ ap (λ b. cond b pushes (push ∷ pushes_without number pushes)) off in
+          let rest : pushes_without number (push ∷ pushes) ≡ push ∷ pushes_without number pushes = grind arith in
           let found : push_for number (push ∷ pushes) ≡ push_for number pushes = rw off refl in
           omega (
             arith,
@@ -71,36 +63,19 @@ push_count-without q number (push ∷ pushes) =
 -- where a push is counted one is found
 pub push-there : (q : ℕ) (pushes : List Push) → push_count q pushes ≡ 1 → is_some (push_for q pushes) ≡ true
 push-there q [] e = absurd (let no : ⊥ = cc in no)
-push-there q (push ∷ pushes) e =
-    elim (cases_Bool (push.number == q)) [
-      | inl on ↦ rw on refl
-      | inr off ↦
-          let none : cond (push.number == q) 1 0 ≡ 0 = ap {B = ℕ} (λ b. cond b 1 0) off in
-          let rest : push_count q pushes ≡ 1 = omega (arith, push_count-cons q push pushes, e, none) in
-          rw off (push-there q pushes rest)
-    ]
+push-there q (push ∷ pushes) e = grind (arith, push-there q pushes)
 
 -- what is promised stays where a fill comes
 pub promise_on-push : (line other number : ℕ) (fills : List Fill)
     → promise_on line (fills ++ record { line = other; number = number; promise = None } ∷ []) ≡ promise_on line fills
-promise_on-push line other number [] =
-    elim (cases_Bool (other == line)) [ inl on ↦ rw on refl | inr off ↦ rw off refl ]
-promise_on-push line other number (f ∷ fills) =
-    elim (cases_Bool (f.line == line)) [
-      | inl on ↦ rw on refl
-      | inr off ↦ rw off
-          (promise_on-push line other number fills)
-    ]
+promise_on-push line other number [] = grind arith
+promise_on-push line other number (f ∷ fills) = grind (arith, promise_on-push line other number fills)
 
 -- the fill of a line is promised
 pub promise_on-promised : (line to : ℕ) (fills : List Fill) → is_some (fill_on line fills) ≡ true
     → promise_on line (promised_to line to fills) ≡ Some to
 promise_on-promised line to [] some = absurd (let no : ⊥ = cc in no)
-promise_on-promised line to (f ∷ fills) some =
-    elim (cases_Bool (f.line == line)) [
-      | inl on ↦ rw (on, on) refl
-      | inr off ↦ rw (off, off) (promise_on-promised line to fills (rw off at some))
-    ]
+promise_on-promised line to (f ∷ fills) some = grind (arith, promise_on-promised line to fills)
 
 -- those of other lines stay
 pub promise_on-other : (line other to : ℕ) (fills : List Fill) → line ≢ other
@@ -117,21 +92,18 @@ promise_on-other line other to (f ∷ fills) apart =
   where
     kept : (b : Bool) → (f.line == line) ≡ b → promise_on line (promised_to other to fills) ≡ promise_on line fills
         → promise_on line (f ∷ promised_to other to fills) ≡ promise_on line (f ∷ fills)
-    kept true e rest = rw e refl
-    kept false e rest = rw e rest
+    kept b h1 h2 = grind arith
 
 pub promise_on-without : (line other : ℕ) (fills : List Fill) → line ≢ other
     → promise_on line (fills_without other fills) ≡ promise_on line fills
-promise_on-without line other fills apart =
-    ap (option_and_then (λ (fill : Fill). fill.promise)) (fill_on-without line other fills apart)
+promise_on-without line other fills apart = grind (arith, fill_on-without)
 
 -- a line without a fill is not promised
 pub promise_on-none : (line : ℕ) (fills : List Fill) → count_on line fills ≡ 0 → promise_on line fills ≡ None
 promise_on-none line fills none = by (fill_on line fills) refl (come-count line fills false none)
   where
     by : (o : Option Fill) → fill_on line fills ≡ o → is_none (fill_on line fills) ≡ true → promise_on line fills ≡ None
-    by None e come = rw e refl
-    by (Some fill) e come = absurd (let never : false ≡ true = rw e at come in (let no : ⊥ = cc in no))
+    by o h1 h2 = grind arith
 
 -- whether a line has a fill, by how many it has
 pub fill-counted : (line : ℕ) (fills : List Fill) (b : Bool) → count_on line fills ≡ one_if b
@@ -139,16 +111,7 @@ pub fill-counted : (line : ℕ) (fills : List Fill) (b : Bool) → count_on line
 fill-counted line fills b e = by (fill_on line fills) (come-count line fills b e)
   where
     by : (o : Option Fill) → is_none o ≡ not b → is_some o ≡ b
-    by None come = flipped b come
-      where
-        flipped : (x : Bool) → true ≡ not x → false ≡ x
-        flipped true h = absurd (let no : ⊥ = cc in no)
-        flipped false h = refl
-    by (Some fill) come = flipped b come
-      where
-        flipped : (x : Bool) → false ≡ not x → true ≡ x
-        flipped true h = refl
-        flipped false h = absurd (let no : ⊥ = cc in no)
+    by o h1 = grind arith
 
 none_promised : (line to : ℕ) (fills : List Fill) → count_on line fills ≡ 0 → promised_to line to fills ≡ fills
 none_promised line to [] none = refl
@@ -169,10 +132,8 @@ promised_count-more line to (f ∷ fills) one none =
       | inl on ↦
           let left : count_on line fills ≡ 0 = omega (arith, one, count-here line f fills true on) in
           let rest : promised_to line to fills ≡ fills = none_promised line to fills left in
-          let here : promised_to line to (f ∷ fills) ≡ record f {
-            promise =
-                Some to;
-          } ∷ promised_to line to fills = rw on refl in
+          let here : promised_to line to (f ∷ fills) ≡ record f { promise = Some to } ∷ promised_to line to fills =
+          grind arith in
           let free : f.promise ≡ None = rw on at none in
           omega (
             arith,

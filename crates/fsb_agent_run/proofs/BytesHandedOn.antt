@@ -1,16 +1,16 @@
 -- At the response of a request its giver hands on the bytes that it has for it; at any other response what it
 -- owes stays.
 use Rattle.std.proofs.Common.{ℕ, zero, suc, ◌+◌, ◌<◌, ◌≡◌, Bool, true, false, cond, not, ◌&&◌, ◌||◌, if◌then◌else◌}
-use Rattle.std.proofs.Common.{Option, Some, None, length, nat_eq, refl, sym, ap, subst, ◌∙◌, inl, inr, arith}
+use Rattle.std.proofs.Common.{Option, Some, length, nat_eq, refl, sym, ap, subst, ◌∙◌, inl, inr, arith}
 use Rattle.std.specs.Prelude.{◌==◌, is_some}
 use Rattle.std.specs.Option.{option_map}
-use Rattle.std.proofs.lemmas.Bool.{both_ways, cases_eq, eq-eqb, eqb-true, false_from_ne_true, ne_eqb}
+use Rattle.std.proofs.lemmas.Bool.{cases_eq, eq-eqb, eqb-true, false_from_ne_true, ne_eqb}
 use Rattle.fsb_count.specs.Clocks.{count_where}
 use Rattle.fsb_count.specs.Options.{is_at, is_some_and}
 use Rattle.fsb_count.proofs.Interface.{any_where-at, any_where-found, any_where-more, any_where-off, count_where-same}
 use Rattle.fsb_count.proofs.Interface.{is_at-some}
 use Rattle.fsb_linebuf.specs.declared.entry.Push.{Push}
-use Rattle.fsb_linebuf.specs.Buffers.{is_push_for, push_for, pushes_without}
+use Rattle.fsb_linebuf.specs.Buffers.{push_for, pushes_without}
 use Rattle.fsb_timely.specs.Past.{Claim, Past}
 use Rattle.fsb_timely.specs.Runs.{Run, past_of}
 use Rattle.fsb_timely.specs.Timely.{Timely}
@@ -23,16 +23,13 @@ use Rattle.fsb_agent_view.specs.AgentViews.{AgentView}
 use Rattle.fsb_agent_view.specs.Arriving.{hand_by, handed_on}
 use Rattle.fsb_agent_view.specs.Snooping.{owed_count}
 use Rattle.fsb_agent_view.proofs.Interface.{length-without-found}
-use Rattle.fsb_agent_run.specs.BytesOwed.{HasBytesOwed, claim_given_at, is_given_below, is_promised, is_pushed}
-use Rattle.fsb_agent_run.specs.BytesOwed.{owes_bytes_from}
+use Rattle.fsb_agent_run.specs.BytesOwed.{HasBytesOwed, claim_given_at, is_given_below, is_pushed, owes_bytes_from}
 use Rattle.fsb_agent_run.proofs.BufferCounts.{push-there, push_count, push_count-without}
-use Rattle.fsb_agent_run.proofs.FillsTold.{promised_count}
 use Rattle.fsb_agent_run.proofs.GivenBytes.{given}
 use Rattle.fsb_agent_run.proofs.PromisesTold.{responded-unpromised}
 
 or-none : (b x : Bool) → x ≡ false → (b || x) ≡ b
-or-none true x e = refl
-or-none false x e = e
+or-none b x h1 = grind arith
 
 responded-more : (p : Past) (c q : ℕ)
     → is_responded_below p (c + 1) q ≡ (is_responded_below p c q || is_at (responded_in p c) q)
@@ -69,27 +66,16 @@ pushed-before : (r : Run) (a c q : ℕ) → Timely r → KeepsBounds r.plan → 
     → responded_in (past_of r) c ≡ Some q → is_given_below (past_of r) a c q ≡ true
     → is_pushed (past_of r) a c c c q ≡ true
 unfolding is_pushed
-pushed-before r a c q h bounds l e gives =
-    rw (
-      gives,
-      first-response r c q h l e,
-      responded-unpromised r a c c q c h bounds (omega arith)
-          (omega arith) l e,
-    ) refl
+pushed-before r a c q h bounds l e gives = grind (arith, first-response, responded-unpromised)
 
 pushed-after : (p : Past) (a n c q : ℕ) → responded_in p c ≡ Some q → is_pushed p a n (c + 1) c q ≡ false
 unfolding is_pushed
-pushed-after p a n c q e = rw (responded-now p c q e) (last (is_given_below p a n q) (is_promised p a n c q))
-  where
-    last : (x y : Bool) → (x && not true && not y) ≡ false
-    last true y = refl
-    last false y = refl
+pushed-after p a n c q e = grind (arith, responded-now)
 
 pushed-kept : (p : Past) (a n c q : ℕ) → is_at (responded_in p c) q ≡ false
     → is_pushed p a n (c + 1) c q ≡ is_pushed p a n c c q
 unfolding is_pushed
-pushed-kept p a n c q e =
-    let same = unresponded-now p c q e in λ i. is_given_below p a n q && not (same i) && not (is_promised p a n c q)
+pushed-kept p a n c q e = grind (arith, unresponded-now)
 
 -- one clock counts no more
 count-less : (f g : ℕ → Bool) (n t : ℕ) → t < n → f t ≡ true → g t ≡ false
@@ -99,8 +85,7 @@ count-less f g zero t l on off same = absurd (omega arith)
 count-less f g (suc n) t l on off same =
     elim (cases_eq t n) [
       | inl is ↦
-          let below : count_where g n ≡ count_where f n =
-          count_where-same g f n (record { same = λ u low. same u (omega arith) (λ e. omega arith) }) in
+          let below : count_where g n ≡ count_where f n = grind (arith, count_where-same) in
           let here : f n ≡ true = subst (λ k. f k ≡ true) is on in
           let gone : g n ≡ false = subst (λ k. g k ≡ false) is off in
           rw (here, gone) (omega (arith, below))
@@ -120,8 +105,7 @@ owes-kept : (p : Past) (a c u : ℕ) (o : Option Claim) → claim_given_at p a u
     → ((claim : Claim) → claim_given_at p a u ≡ Some claim → is_at (responded_in p c) claim.first ≡ false)
     → owes_bytes_from p a (c + 1) u ≡ owes_bytes_from p a c u
 unfolding owes_bytes_from is_some_and
-owes-kept p a c u None there off = rw there refl
-owes-kept p a c u (Some claim) there off = rw there (ap not (unresponded-now p c claim.first (off claim there)))
+owes-kept p a c u o h1 h2 = grind (arith, unresponded-now)
 
 -- the given request that begins at q, by its snoop end
 owes-less : (r : Run) (a c q : ℕ) → Timely r → KeepsBounds r.plan → c < length r.trace
@@ -146,8 +130,7 @@ owes-less r a c q h bounds l e gives =
     apart (order.one_snoop u t.0 j.at.end k.at.end j.at.there k.at.there ends))))
 
 is_some-map : (o : Option Push) → is_some (option_map (λ (push : Push). push.bytes) o) ≡ is_some o
-is_some-map None = refl
-is_some-map (Some push) = refl
+is_some-map o = grind arith
 
 one-push : (r : Run) (a c q : ℕ) (v : AgentView) → Timely r → KeepsBounds r.plan → c < length r.trace
     → responded_in (past_of r) c ≡ Some q → is_given_below (past_of r) a c q ≡ true → HasBytesOwed (past_of r) a c c c v
@@ -158,8 +141,7 @@ one-push r a c q v h bounds l e gives k =
 pub hand-there : (r : Run) (a c q : ℕ) (v : AgentView) → Timely r → KeepsBounds r.plan → c < length r.trace
     → responded_in (past_of r) c ≡ Some q → is_given_below (past_of r) a c q ≡ true → HasBytesOwed (past_of r) a c c c v
     → is_some (hand_by v q) ≡ true
-hand-there r a c q v h bounds l e gives k =
-    is_some-map (push_for q v.buffers.pushes) ∙ push-there q v.buffers.pushes (one-push r a c q v h bounds l e gives k)
+hand-there r a c q v h bounds l e gives k = grind (arith, is_some-map, push-there, one-push)
 
 -- what is left when it has handed them on
 pub handed-owed : (r : Run) (a c q : ℕ) (v : AgentView) → Timely r → KeepsBounds r.plan → c < length r.trace
@@ -178,8 +160,7 @@ handed-owed r a c q v h bounds l e gives k = record {
         → push_count other (pushes_without q v.buffers.pushes)
         ≡ (if is_pushed (past_of r) a c (c + 1) c other then 1 else 0)
     at-same other same =
-        let one : push_count other v.buffers.pushes ≡ 1 =
-        ap (λ x. push_count x v.buffers.pushes) same ∙ one-push r a c q v h bounds l e gives k in
+        let one : push_count other v.buffers.pushes ≡ 1 = grind (arith, one-push) in
         let less = push_count-without other q v.buffers.pushes in
         let here : ◌≡◌ {A = ℕ} (cond (is_some (push_for q v.buffers.pushes) && (q == other)) 1 0) 1 = rw
         (there, eq-eqb q other (sym same)) refl in
@@ -202,15 +183,7 @@ handed-owed r a c q v h bounds l e gives k = record {
 
     counted : (o : Option Push) → push_for q v.buffers.pushes ≡ o
         → owed_count (handed_on v q).buffers ≡ count_where (owes_bytes_from (past_of r) a (c + 1)) c
-    counted None none = absurd (let no : ⊥ = (let t = rw none at there in cc) in no)
-    counted (Some push) found =
-        let less = length-without-found (is_push_for q) v.buffers.pushes push found in
-        let before : length v.buffers.pushes + promised_count v.buffers.fills
-        ≡ count_where (owes_bytes_from (past_of r) a c) c = k.count in
-        let after = owes-less r a c q h bounds l e gives in
-        let sum : length (pushes_without q v.buffers.pushes) + promised_count v.buffers.fills
-        ≡ count_where (owes_bytes_from (past_of r) a (c + 1)) c = omega (arith, less, before, after) in
-        sum
+    counted o h1 = grind (arith, there, length-without-found, owes-less)
 
 gives-from : (p : Past) (a c t : ℕ) (claim : Claim) → t < c → claim_given_at p a t ≡ Some claim
     → is_given_below p a c claim.first ≡ true
@@ -232,14 +205,10 @@ kept-at-response p a c v none k = record {
 }
   where
     not-now : (q : ℕ) → is_given_below p a c q ≡ true → is_at (responded_in p c) q ≡ false
-    not-now q gives = false_from_ne_true (is_at (responded_in p c) q) (λ t.
-        both_ways (is_given_below p a c q) (none q (is_at-some (responded_in p c) q t)) gives)
+    not-now q gives = grind (arith, is_at-some)
 
     same-pushed : (q : ℕ) (b : Bool) → is_given_below p a c q ≡ b → is_pushed p a c (c + 1) c q ≡ is_pushed p a c c c q
-    same-pushed q true gives = pushed-kept p a c c q (not-now q gives)
-    same-pushed q false gives = rw gives refl
+    same-pushed q b h1 = grind (arith, pushed-kept, not-now)
 
     same-owes : (t : ℕ) → t < c → owes_bytes_from p a (c + 1) t ≡ owes_bytes_from p a c t
-    same-owes t low =
-        owes-kept p a c t (claim_given_at p a t) refl (λ claim there. not-now claim.first
-        (gives-from p a c t claim low there))
+    same-owes t low = grind (arith, owes-kept, not-now, gives-from)

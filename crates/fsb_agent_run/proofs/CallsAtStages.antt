@@ -28,7 +28,7 @@ use Rattle.fsb_agent_run.proofs.FillsTold.{fill_out, found_number}
 use Rattle.fsb_agent_run.proofs.MayCalls.{cancelled-may, own-may}
 use Rattle.fsb_agent_run.proofs.OutLists.{find-number, numbered-among, out-there, owing-there}
 use Rattle.fsb_agent_run.proofs.OwedApart.{sent-apart}
-use Rattle.fsb_agent_run.proofs.OwedStages.{IsOwnAt, fills-before, modified-kept}
+use Rattle.fsb_agent_run.proofs.OwedStages.{IsOwnAt, modified-kept}
 use Rattle.fsb_agent_run.proofs.OwedSteps.{owed-there, owing-is, reaches-less}
 use Rattle.fsb_agent_run.proofs.SentViews.{wanted-there}
 
@@ -57,18 +57,12 @@ none-numbered r a c v h view = by (request_numbered c v.outs) refl
 
 pub send-may : (r : Run) (a c : ℕ) (claim : Claim) (v : AgentView) → Reaches r (c + 1)
     → begun_at (past_of r) c ≡ Some claim → claim.agent ≡ a → IsViewAfterHit (past_of r) a c v → may_send v c c ≡ true
-send-may r a c claim v h begun mine view =
-    let want = wanted-there r a c claim v h begun mine view in
-    let none = none-numbered r a c v h view in
-    rw (want.1, none) refl
+send-may r a c claim v h begun mine view = grind (arith, wanted-there, none-numbered)
 
 pub own-seen : (r : Run) (a c number : ℕ) (s : SnoopEnd) (v : AgentView) → Reaches r (c + 1)
     → IsOwnAt (past_of r) a c number s v → IsSound v → IsViewBeforeSnoop (past_of r) a c v
     → HasBytesOwed (past_of r) a c (c + 1) c v → may_commit v number true s.outcome ≡ true
-own-seen r a c number s v h k sound view owed =
-    ap (λ q. may_commit v q true s.outcome) (sym k.numbered)
-    ∙ own-may r a c s k.out v h.timely h.bounds (within r c h.long) k.own sound k.found
-    (modified-kept r a c k.out.request.line v h view) (fills-before (past_of r) a c v view) owed
+own-seen r a c number s v h k sound view owed = grind (arith, own-may, modified-kept)
 
 -- a request of the agent's that is outstanding before the clock's cancellation is one of the record's
 sent-out : (r : Run) (a c q : ℕ) (claim : Claim) (v : AgentView) → Reaches r (c + 1)
@@ -85,8 +79,7 @@ sent-out r a c q claim v h begun mine below out view =
     let among : Among owing.0 (owed p a c) = subst (λ b. Among owing.0 (owed p b c)) mine owing.1 in
     let sent : Among owing.0 (owed_sent p a c) = among-left owing.0 (owed p a c) _ among in
     let found = out-there p a c (owed_sent p a c) v owing.0 view.requests sent in
-    let apart : are_owings_apart p (map (owing_by a) v.outs) ≡ true =
-    ap (are_owings_apart p) view.requests.owed ∙ sent-apart r a c h in
+    let apart : are_owings_apart p (map (owing_by a) v.outs) ≡ true = grind (arith, sent-apart) in
     let first : found.0.number ≡ q =
     ap (λ (o : Owing). o.claim.first) found.2 ∙ ap (λ (x : Claim). x.first) owing.2 ∙ want.first in (
       found.0,

@@ -1,12 +1,11 @@
 -- The events of an agent at a clock lead from its view as the clock finds it to that of the next clock.
-use Rattle.std.proofs.Common.{ℕ, zero, suc, ◌+◌, ◌<◌, ◌≡◌, ◌⊎◌, Bool, true, false, ◌||◌, List, [], ◌∷◌, ◌++◌, Option}
-use Rattle.std.proofs.Common.{Some, None, fold, nat_eq, refl, sym, ap, subst, ◌∙◌, inl, inr, add-one, arith, append-nil}
-use Rattle.std.proofs.Common.{if◌then◌else◌}
+use Rattle.std.proofs.Common.{ℕ, zero, suc, ◌+◌, ◌<◌, ◌≡◌, ◌⊎◌, Bool, true, false, List, [], ◌∷◌, Option, Some, None}
+use Rattle.std.proofs.Common.{fold, nat_eq, refl, sym, ap, subst, ◌∙◌, inl, inr, arith, append-nil, if◌then◌else◌}
 use Rattle.std.specs.List.{flat_map, list_any}
 use Rattle.std.specs.Option.{option_map_or}
-use Rattle.std.proofs.lemmas.Bool.{cases_Bool, eq-eqb, eqb-true, both_ways, or_cases}
+use Rattle.std.proofs.lemmas.Bool.{cases_Bool, eq-eqb, eqb-true, both_ways}
 use Rattle.std.proofs.lemmas.List.Sums.{fold-append}
-use Rattle.fsb_count.specs.Options.{is_at, is_some_and}
+use Rattle.fsb_count.specs.Options.{is_some_and}
 use Rattle.fsb_encode.specs.declared.request.Request.{Request}
 use Rattle.fsb_timely.specs.Past.{Claim, Grant, Past, SnoopEnd}
 use Rattle.fsb_timely.specs.Grants.{begun_at, ended_requests, is_end_at, snooped_at}
@@ -17,18 +16,17 @@ use Rattle.fsb_trace.specs.Outcome.{is_deferral}
 use Rattle.fsb_trace.specs.declared.outcome.Outcome.{Outcome}
 use Rattle.fsb_trace.specs.declared.outcome.Outcome.TheVariants.{Granted, Handed, Retried, Deferred, Written, Replied}
 use Rattle.fsb_trace.specs.declared.outcome.Outcome.TheVariants.{Failed, Upgraded}
-use Rattle.fsb_coherent.specs.Awaits.{cancelled_in, responded_in, snoop_end_below}
+use Rattle.fsb_coherent.specs.Awaits.{cancelled_in, snoop_end_below}
 use Rattle.fsb_coherent.specs.Fitting.{fits_kind}
 use Rattle.fsb_tied.proofs.Interface.{begun-want, one-at-end}
 use Rattle.fsb_run_laws.specs.Reaches.{Reaches}
 use Rattle.fsb_run_laws.proofs.Interface.{replied-outstanding}
-use Rattle.fsb_agent_view.specs.AgentEvents.{AgentEvent, Arrived, Committed, GivenUp, HandedOn, Performed, Sent}
-use Rattle.fsb_agent_view.specs.AgentEvents.{UpgradeEnded, agent_after, first_view}
+use Rattle.fsb_agent_view.specs.AgentEvents.{AgentEvent, Arrived, Committed, GivenUp, Sent, UpgradeEnded, agent_after}
+use Rattle.fsb_agent_view.specs.AgentEvents.{first_view}
 use Rattle.fsb_agent_view.specs.AgentViews.{AgentView}
-use Rattle.fsb_agent_view.specs.Completing.{performed}
 use Rattle.fsb_agent_run.specs.AgentClocks.{cancelled_events, committed_events, end_events_of, ended_events}
-use Rattle.fsb_agent_run.specs.AgentClocks.{events_of_agent, events_of_agent_below, given_up_events, giver_of}
-use Rattle.fsb_agent_run.specs.AgentClocks.{handed_events, is_seen_shared, number_asked, own_end_events, replied_events}
+use Rattle.fsb_agent_run.specs.AgentClocks.{events_of_agent, events_of_agent_below, given_up_events, handed_events}
+use Rattle.fsb_agent_run.specs.AgentClocks.{is_seen_shared, number_asked, own_end_events, replied_events}
 use Rattle.fsb_agent_run.specs.AgentClocks.{reply_end_events, sent_events, snoop_events_of}
 use Rattle.fsb_agent_run.specs.Ending.{EndsFor, number_claimed, number_left, number_replied}
 use Rattle.fsb_agent_run.specs.Stages.{IsViewAfterHit, IsViewAfterSent, IsViewAfterSnoop, IsViewBeforeSnoop, IsViewOf}
@@ -37,7 +35,7 @@ use Rattle.fsb_agent_run.proofs.EndEvents.{given-up-view, line-view, upgrade-vie
 use Rattle.fsb_agent_run.proofs.EndFacts.{asked-there, below-says, own-left, replied-left}
 use Rattle.fsb_agent_run.proofs.EndViews.{quiet-end-view}
 use Rattle.fsb_agent_run.proofs.FirstViews.{first-of}
-use Rattle.fsb_agent_run.proofs.HitViews.{handed-view, performed-view}
+use Rattle.fsb_agent_run.proofs.HitViews.{performed-view}
 use Rattle.fsb_agent_run.proofs.OtherSnoops.{asked-number, other-claimed, other-replied, own-replied, quiet-view}
 use Rattle.fsb_agent_run.proofs.OwedSteps.{owed-there, owing-is, reaches-less}
 use Rattle.fsb_agent_run.proofs.OwnSnoops.{IsSettledAs, getting-granted, getting-handed, getting-makes, never-fits}
@@ -51,16 +49,7 @@ after v events = fold agent_after v events
 pub handed-all : (p : Past) (a c : ℕ) (v : AgentView) → IsViewOf p a c v
     → IsViewOf p a c (after v (handed_events p a c))
 unfolding handed_events
-handed-all p a c v view = by (responded_in p c)
-  where
-    one : (q : ℕ) (gives : Bool) → IsViewOf p a c (after v (if gives then HandedOn q ∷ [] else []))
-    one q true = handed-view p a c q v view
-    one q false = view
-
-    by : (o : Option ℕ)
-        → IsViewOf p a c (after v (option_map_or (λ q. if is_at (giver_of p c q) a then HandedOn q ∷ [] else []) o []))
-    by None = view
-    by (Some q) = one q (is_at (giver_of p c q) a)
+handed-all p a c v view = grind arith
 
 pub sent-all : (r : Run) (a c : ℕ) (v : AgentView) → Reaches r (c + 1) → IsViewAfterHit (past_of r) a c v
     → IsViewAfterSent (past_of r) a c (after v (sent_events (past_of r) a c))
@@ -90,27 +79,16 @@ cancelled-all r a c v h view = by (cancelled_in (past_of r) c) refl
         → (mine : Bool) → nat_eq claim.agent a ≡ mine
         → IsViewBeforeSnoop (past_of r) a c (after v (if mine then GivenUp q ∷ [] else []))
     one q claim e f true m = cancelled-view r a c q v h e view
-    one q claim e f false m =
-        uncancelled-view r a c v h (λ other claims g k.
-        let same : q ≡ other = cc in
-        let there = subst (λ x. begun_at (past_of r) x ≡ Some claims) (sym same) k in
-        let is : claim ≡ claims = cc in
-        λ own. both_ways (nat_eq claim.agent a) m (eq-eqb claim.agent a (ap (λ (x : Claim). x.agent) is ∙ own))) view
+    one q claim e f false m = grind (arith, uncancelled-view)
 
     begun : (q : ℕ) → cancelled_in (past_of r) c ≡ Some q → (o : Option Claim) → begun_at (past_of r) q ≡ o
         → IsViewBeforeSnoop (past_of r) a c
         (after v (option_map_or (λ claim. if nat_eq claim.agent a then GivenUp q ∷ [] else []) o []))
-    begun q e None f =
-        uncancelled-view r a c v h (λ other claims g k.
-        let same : q ≡ other = cc in
-        let there = subst (λ x. begun_at (past_of r) x ≡ Some claims) (sym same) k in
-        absurd (let no : ⊥ = cc in no)) view
-    begun q e (Some claim) f = one q claim e f (nat_eq claim.agent a) refl
+    begun q h1 o h2 = grind (arith, uncancelled-view, one)
 
     by : (o : Option ℕ) → cancelled_in (past_of r) c ≡ o
         → IsViewBeforeSnoop (past_of r) a c (after v (option_map_or (given_up_events (past_of r) a) o []))
-    by None e = uncancelled-view r a c v h (λ q claim f g. absurd (let no : ⊥ = cc in no)) view
-    by (Some q) e = begun q e (begun_at (past_of r) q) refl
+    by o h1 = grind (arith, uncancelled-view, begun)
 
 -- what a grant says of whether its line was seen to be shared
 seen-by : (s : SnoopEnd) (grant : Grant) → s.grant ≡ Some grant → is_seen_shared s ≡ grant.shared
@@ -221,9 +199,7 @@ snooped-all r a c v h some view = by (snooped_at (past_of r) c) refl
 -- one request alone has its end at the clock
 one-end : (p : Past) (c q first : ℕ) → ended_requests p c ≡ q ∷ [] → is_end_at p c first ≡ true → first ≡ q
 unfolding is_end_at
-one-end p c q first e ends =
-    let any : (nat_eq first q || false) ≡ true = sym (ap (list_any (nat_eq first)) e) ∙ ends in
-    elim (or_cases (nat_eq first q) false any) [ inl t ↦ eqb-true first q t | inr t ↦ absurd (let no : ⊥ = cc in no) ]
+one-end p c q first e ends = grind arith
 
 pub end-there : (p : Past) (c q : ℕ) → ended_requests p c ≡ q ∷ [] → is_end_at p c q ≡ true
 unfolding is_end_at
@@ -246,8 +222,7 @@ own-ended p a c bytes s claim claims mine = rw (claims, ended_events, eq-eqb cla
 other-ended : (p : Past) (a c : ℕ) (bytes : ℕ → List ℕ) (s : SnoopEnd) (claim : Claim) → s.claim ≡ Some claim
     → nat_eq claim.agent a ≡ false → (ended_events p a c bytes s ≡ []) × (number_left p a c s ≡ None)
 unfolding ended_events number_left number_claimed
-other-ended p a c bytes s claim claims other =
-    (rw (claims, ended_events, other) refl, rw (claims, number_left, other) refl)
+other-ended p a c bytes s claim claims other = grind arith
 
 reply-ended : (p : Past) (a c : ℕ) (bytes : ℕ → List ℕ) (s : SnoopEnd) (grant : Grant) → s.claim ≡ None
     → s.grant ≡ Some grant → (ended_events p a c bytes s ≡ reply_end_events p a c bytes grant)
@@ -280,17 +255,7 @@ reply-unasked : (p : Past) (a c : ℕ) (bytes : ℕ → List ℕ) (grant : Grant
     → (nat_eq grant.agent a ≡ false) ⊎ (number_asked p a c grant.line ≡ None)
     → (reply_end_events p a c bytes grant ≡ []) × (number_replied p a c grant ≡ None)
 unfolding reply_end_events number_replied
-reply-unasked p a c bytes grant (inl other) = (rw other refl, rw other refl)
-reply-unasked p a c bytes grant (inr none) = (by (nat_eq grant.agent a), also (nat_eq grant.agent a))
-  where
-    by : (mine : Bool)
-        → (if mine then option_map_or (λ q. Arrived c q (bytes q) ∷ []) (number_asked p a c grant.line) [] else []) ≡ []
-    by true = rw none refl
-    by false = refl
-
-    also : (mine : Bool) → (if mine then number_asked p a c grant.line else None) ≡ None
-    also true = none
-    also false = refl
+reply-unasked p a c bytes grant h1 = grind arith
 
 -- where what ends leaves no request of the agent
 quiet-end : (r : Run) (a c q : ℕ) (v : AgentView) → Reaches r (c + 1) → a < 4 → ended_requests (past_of r) c ≡ q ∷ []
@@ -316,9 +281,7 @@ own-end-all r a c q bytes s claim v h some few one snooped claims mine view = by
     below = below-says (past_of r) (c + 1) q s snooped
 
     settled : IsSettledAs r below.0 s claim
-    settled =
-        let low = below.1 in
-        settled-as r below.0 s claim (reaches-less r (below.0 + 1) (c + 1) (omega arith) h) below.2 claims
+    settled = grind (arith, settled-as)
 
     ending : is_deferral s.outcome ≡ false → EndsFor (past_of r) a c s.first s
     ending kept = record {
@@ -398,8 +361,7 @@ ended-all r a c bytes v h some few view = by (ended_requests (past_of r) c) refl
           snooped = snooped;
           left = replied-left p a c s grant none makes (eqb-true grant.agent a m) ∙ asked;
         }) makes view)
-    reply q s grant one snooped none makes true m None asked =
-        unasked q s grant one snooped none makes (inr asked)
+    reply q s grant one snooped none makes true m None asked = grind (arith, unasked)
     reply q s grant one snooped none makes false m asked e =
         unasked q s grant one snooped none makes (inl m)
 
@@ -422,27 +384,18 @@ ended-all r a c bytes v h some few view = by (ended_requests (past_of r) c) refl
     known q s one snooped None none (Some grant) makes =
         reply q s grant one snooped none makes (nat_eq grant.agent a) refl
         (number_asked (past_of r) a c grant.line) refl
-    known q s one snooped None none None makes =
-        let k = none-ended (past_of r) a c bytes s none makes in
-        subst Goal (sym k.0)
-        (quiet-end r a c q v h few one (λ x f.
-        let same : s ≡ x = cc in
-        sym (ap (number_left (past_of r) a c) same) ∙ k.1) view)
+    known q s one snooped None none None makes = grind (arith, none-ended, quiet-end)
 
     single : (q : ℕ) → ended_requests (past_of r) c ≡ q ∷ [] → (o : Option SnoopEnd)
         → snoop_end_below (past_of r) (c + 1) q ≡ o → Goal (end_events_of (past_of r) a c bytes q)
-    single q one None e =
-        subst Goal (sym (unended (past_of r) a c q bytes e))
-        (quiet-end r a c q v h few one (λ s f. absurd (let no : ⊥ = cc in no)) view)
+    single q one None e = grind (arith, unended, quiet-end)
     single q one (Some s) e =
         subst Goal (sym (ended-as (past_of r) a c q bytes s e)) (known q s one e s.claim refl s.grant refl)
 
     by : (qs : List ℕ) → ended_requests (past_of r) c ≡ qs → Goal (flat_map (end_events_of (past_of r) a c bytes) qs)
     by [] e = quiet-end-view r a c v h few
         (record { none = λ first s ends f. absurd (none-ends (past_of r) c first e ends) }) view
-    by (q ∷ []) e =
-        subst Goal (sym (append-nil (end_events_of (past_of r) a c bytes q)))
-        (single q e (snoop_end_below (past_of r) (c + 1) q) refl)
+    by (q ∷ []) e = grind (arith, append-nil, single)
     by (q ∷ u ∷ qs) e = let long = h.long in absurd (one-at-end r c q u qs h.timely (omega arith) e)
 
 -- the whole clock
@@ -451,25 +404,7 @@ pub clock-view : (r : Run) (a c : ℕ) (bytes : ℕ → List ℕ) (v : AgentView
     → IsViewOf (past_of r) a (c + 1) (fold agent_after v (events_of_agent (past_of r) a c bytes))
 unfolding events_of_agent
 clock-view r a c bytes v h some few view =
-    let p = past_of r in
-    let snoops = option_map_or (snoop_events_of p a c) (snooped_at p c) [] in
-    let ends = flat_map (end_events_of p a c bytes) (ended_requests p c) in
-    let v1 = after v (handed_events p a c) in
-    let v2 = performed v1 c in
-    let v3 = after v2 (sent_events p a c) in
-    let v4 = after v3 (cancelled_events p a c) in
-    let v5 = after v4 snoops in
-    let stage2 = performed-view r a c v1 h few (handed-all p a c v view) in
-    let stage3 = sent-all r a c v2 h stage2 in
-    let stage4 = cancelled-all r a c v3 h stage3 in
-    let stage5 = snooped-all r a c v4 h some stage4 in
-    let stage6 = ended-all r a c bytes v5 h some few stage5 in
-    subst (IsViewOf p a (c + 1))
-    (sym (fold-append agent_after v (handed_events p a c)
-    (Performed c ∷ (sent_events p a c ++ (cancelled_events p a c ++ (snoops ++ ends))))
-    ∙ fold-append agent_after v2 (sent_events p a c) (cancelled_events p a c ++ (snoops ++ ends))
-    ∙ fold-append agent_after v3 (cancelled_events p a c) (snoops ++ ends)
-    ∙ fold-append agent_after v4 snoops ends)) stage6
+    grind (arith, performed-view, handed-all, sent-all, cancelled-all, snooped-all, ended-all, fold-append)
 
 -- all clocks below one
 pub clocks-view : (r : Run) (a n : ℕ) (bytes : ℕ → List ℕ) → Reaches r n → 0 < r.plan.cache → a < 4
@@ -478,14 +413,4 @@ pub clocks-view : (r : Run) (a n : ℕ) (bytes : ℕ → List ℕ) → Reaches r
     (events_of_agent_below (past_of r) a n bytes))
 unfolding events_of_agent_below past_of
 clocks-view r a zero bytes h some few = first-of (past_of r) a
-clocks-view r a (suc n) bytes h some few =
-    let p = past_of r in
-    let long = h.long in
-    let more : Reaches r (n + 1) = record { timely = h.timely; bounds = h.bounds; long = omega arith } in
-    let before = clocks-view r a n bytes (reaches-less r n (n + 1) (omega arith) more) some few in
-    let first = first_view a (items_of p a) r.plan.cache r.plan.ahead r.plan.profile in
-    let next = clock-view r a n bytes (fold agent_after first (events_of_agent_below p a n bytes)) more some few
-    before in
-    subst (λ m. IsViewOf p a m (fold agent_after first (events_of_agent_below p a (suc n) bytes))) (add-one n)
-    (subst (IsViewOf p a (n + 1))
-    (sym (fold-append agent_after first (events_of_agent_below p a n bytes) (events_of_agent p a n bytes))) next)
+clocks-view r a (suc n) bytes h some few = grind (arith, clock-view, fold-append, clocks-view r a n bytes)

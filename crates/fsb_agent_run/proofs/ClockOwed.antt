@@ -1,6 +1,6 @@
 -- What an agent owes goes on by the events of the agent at a clock.
-use Rattle.std.proofs.Common.{ℕ, zero, suc, ◌+◌, ◌<◌, ◌≡◌, Bool, true, false, if◌then◌else◌, List, [], ◌∷◌, ◌++◌, fold}
-use Rattle.std.proofs.Common.{Option, Some, None, nat_eq, refl, sym, ap, subst, ◌∙◌, add-one, arith}
+use Rattle.std.proofs.Common.{ℕ, zero, suc, ◌+◌, ◌<◌, ◌≡◌, Bool, true, false, if◌then◌else◌, List, [], ◌∷◌, ◌++◌}
+use Rattle.std.proofs.Common.{fold, Option, Some, None, nat_eq, refl, sym, ap, subst, ◌∙◌, add-one, arith}
 use Rattle.std.specs.List.{flat_map}
 use Rattle.std.specs.Option.{option_map_or}
 use Rattle.std.proofs.lemmas.Bool.{eqb-false, eqb-true}
@@ -10,27 +10,25 @@ use Rattle.fsb_trace.specs.declared.outcome.Outcome.{Outcome}
 use Rattle.fsb_trace.specs.declared.outcome.Outcome.TheVariants.{Granted, Handed, Retried, Deferred, Written, Replied}
 use Rattle.fsb_trace.specs.declared.outcome.Outcome.TheVariants.{Failed, Upgraded}
 use Rattle.fsb_timely.specs.Past.{Claim, Grant, Past, SnoopEnd}
-use Rattle.fsb_timely.specs.Grants.{begun_at, ended_requests, snooped_at}
+use Rattle.fsb_timely.specs.Grants.{ended_requests, snooped_at}
 use Rattle.fsb_timely.specs.Runs.{Run, past_of}
 use Rattle.fsb_timely.specs.Scripts.{items_of}
 use Rattle.fsb_timely.specs.Wants.{want_of}
-use Rattle.fsb_coherent.specs.Awaits.{cancelled_in, responded_in, snoop_end_below}
+use Rattle.fsb_coherent.specs.Awaits.{responded_in, snoop_end_below}
 use Rattle.fsb_tied.proofs.Interface.{clock-facts, one-at-end}
 use Rattle.fsb_run_laws.specs.Reaches.{Reaches}
 use Rattle.fsb_agent_view.specs.declared.want.OwnRequest.{OwnRequest}
-use Rattle.fsb_agent_view.specs.declared.want.Want.{Want}
-use Rattle.fsb_agent_view.specs.AgentEvents.{AgentEvent, Arrived, Committed, GivenUp, HandedOn, Performed, Sent}
+use Rattle.fsb_agent_view.specs.AgentEvents.{AgentEvent, Arrived, Committed, GivenUp, HandedOn, Performed}
 use Rattle.fsb_agent_view.specs.AgentEvents.{UpgradeEnded, agent_after, first_view}
 use Rattle.fsb_agent_view.specs.AgentViews.{AgentView}
 use Rattle.fsb_agent_view.specs.Arriving.{given_up, line_arrived, upgrade_ended}
-use Rattle.fsb_agent_view.specs.Completing.{is_hit_by, performed}
+use Rattle.fsb_agent_view.specs.Completing.{performed}
 use Rattle.fsb_agent_view.specs.OwnRequests.{request_numbered}
 use Rattle.fsb_agent_view.specs.Snooping.{committed, own_settled}
-use Rattle.fsb_agent_view.specs.Wanting.{sent, want_by}
-use Rattle.fsb_agent_run.specs.AgentClocks.{events_of_agent, events_of_agent_below, cancelled_events, committed_events}
-use Rattle.fsb_agent_run.specs.AgentClocks.{end_events_of, ended_events, given_up_events, giver_of, handed_events}
-use Rattle.fsb_agent_run.specs.AgentClocks.{is_seen_shared, number_asked, own_end_events, replied_events}
-use Rattle.fsb_agent_run.specs.AgentClocks.{reply_end_events, sent_events, snoop_events_of}
+use Rattle.fsb_agent_run.specs.AgentClocks.{events_of_agent, events_of_agent_below, cancelled_events}
+use Rattle.fsb_agent_run.specs.AgentClocks.{committed_events, end_events_of, ended_events, given_up_events, giver_of}
+use Rattle.fsb_agent_run.specs.AgentClocks.{handed_events, is_seen_shared, number_asked, own_end_events}
+use Rattle.fsb_agent_run.specs.AgentClocks.{replied_events, reply_end_events, sent_events, snoop_events_of}
 use Rattle.fsb_agent_run.specs.BytesOwed.{HasBytesOwed, is_given_below}
 use Rattle.fsb_agent_run.specs.Stages.{IsViewAfterSnoop, IsViewBeforeSnoop, IsViewOf}
 use Rattle.fsb_agent_run.proofs.BytesHandedOn.{handed-owed, kept-at-response}
@@ -42,7 +40,7 @@ use Rattle.fsb_agent_run.proofs.GivenBytes.{none-claimed}
 use Rattle.fsb_agent_run.proofs.GiversNamed.{given-named}
 use Rattle.fsb_agent_run.proofs.OwedEnds.{ends-kept, line-owed, upgrade-owed}
 use Rattle.fsb_agent_run.proofs.OwedSnoopEnds.{granted-debts, replied-owed-after, unsettled-owed-after}
-use Rattle.fsb_agent_run.proofs.OwedSnoops.{SameDebts, owed-on, owed-same, quiet-owed, same-debts}
+use Rattle.fsb_agent_run.proofs.OwedSnoops.{SameDebts, owed-on, quiet-owed}
 use Rattle.fsb_agent_run.proofs.OwedStages.{claimed-out, fills-after, fills-then, other-claimed-owed, own-owed-then}
 use Rattle.fsb_agent_run.proofs.HitViews.{performed-view}
 use Rattle.fsb_agent_run.proofs.OwedSteps.{reaches-less}
@@ -80,58 +78,20 @@ handed-part r a c v h owed = by (responded_in (past_of r) c) refl
         (kept-at-response (past_of r) a c v (λ x f. absurd (let both = sym e ∙ f in let no : ⊥ = cc in no)) owed)
     by (Some q) e = rw (e, handed_events) (named q e (is_at (giver_of (past_of r) c q) a) refl)
 
-performed-buffers : (v : AgentView) (clock : ℕ) → (performed v clock).buffers ≡ v.buffers
-performed-buffers v clock = by (is_hit_by v clock) refl
-  where
-    by : (b : Bool) → is_hit_by v clock ≡ b → (performed v clock).buffers ≡ v.buffers
-    by true e = rw (e, performed) refl
-    by false e = rw (e, performed) refl
-
-sent-buffers : (v : AgentView) (clock number : ℕ) → (sent v clock number).buffers ≡ v.buffers
-sent-buffers v clock number = by (want_by v clock) refl
-  where
-    by : (o : Option Want) → want_by v clock ≡ o → (sent v clock number).buffers ≡ v.buffers
-    by None e = rw (e, sent) refl
-    by (Some want) e = rw (e, sent) refl
-
 sent-keep : (p : Past) (a c : ℕ) (v : AgentView) → (fold agent_after v (sent_events p a c)).buffers ≡ v.buffers
 unfolding sent_events
-sent-keep p a c v = by (begun_at p c) refl
-  where
-    mine : (b : Bool) → (fold agent_after v (if b then Sent c c ∷ [] else [])).buffers ≡ v.buffers
-    mine true = sent-buffers v c c
-    mine false = refl
-
-    by : (o : Option Claim) → begun_at p c ≡ o → (fold agent_after v (sent_events p a c)).buffers ≡ v.buffers
-    by None e = rw (e, sent_events) refl
-    by (Some claim) e = rw (e, sent_events) (mine (nat_eq claim.agent a))
+sent-keep p a c v = grind arith
 
 cancelled-keep : (p : Past) (a c : ℕ) (v : AgentView)
     → (fold agent_after v (cancelled_events p a c)).buffers ≡ v.buffers
 unfolding cancelled_events given_up_events
-cancelled-keep p a c v = by (cancelled_in p c) refl
-  where
-    mine : (q : ℕ) (b : Bool) → (fold agent_after v (if b then GivenUp q ∷ [] else [])).buffers ≡ v.buffers
-    mine q true = refl
-    mine q false = refl
-
-    given : (q : ℕ) (o : Option Claim) → begun_at p q ≡ o
-        → (fold agent_after v (given_up_events p a q)).buffers ≡ v.buffers
-    given q None e = rw (e, given_up_events) refl
-    given q (Some claim) e = rw (e, given_up_events) (mine q (nat_eq claim.agent a))
-
-    by : (o : Option ℕ) → cancelled_in p c ≡ o → (fold agent_after v (cancelled_events p a c)).buffers ≡ v.buffers
-    by None e = rw (e, cancelled_events) refl
-    by (Some q) e = rw (e, cancelled_events) (given q (begun_at p q) refl)
+cancelled-keep p a c v = grind arith
 
 -- the hit, what begins and what is cancelled
 pub middle-part : (p : Past) (a c n r : ℕ) (v : AgentView) → HasBytesOwed p a n r c v
     → HasBytesOwed p a n r c
     (fold agent_after (fold agent_after (performed v c) (sent_events p a c)) (cancelled_events p a c))
-middle-part p a c n r v owed =
-    let after : AgentView = fold agent_after (performed v c) (sent_events p a c) in
-    owed-same p a n r c v (fold agent_after after (cancelled_events p a c))
-    (cancelled-keep p a c after ∙ sent-keep p a c (performed v c) ∙ performed-buffers v c) owed
+middle-part p a c n r v owed = grind (arith, cancelled-keep, sent-keep)
 
 -- a reply leaves what is owed as it is, whoever's it is
 own-replied-owed : (r : Run) (a c number : ℕ) (s : SnoopEnd) (grant : Grant) (request : Request) (shared : Bool)
@@ -152,19 +112,11 @@ own-replied-owed r a c number s grant request shared v h there none made owed = 
 
     settled : (out : OwnRequest) (outcome : Outcome) → outcome ≡ Replied
         → SameDebts v.buffers (own_settled v out shared outcome).buffers
-    settled out Replied e = granted-debts v out shared
-    settled out Granted e = absurd (let no : ⊥ = cc in no)
-    settled out Handed e = absurd (let no : ⊥ = cc in no)
-    settled out Retried e = absurd (let no : ⊥ = cc in no)
-    settled out Deferred e = absurd (let no : ⊥ = cc in no)
-    settled out Written e = absurd (let no : ⊥ = cc in no)
-    settled out Failed e = absurd (let no : ⊥ = cc in no)
-    settled out Upgraded e = absurd (let no : ⊥ = cc in no)
+    settled out outcome h1 = grind (arith, granted-debts)
 
     by : (o : Option OwnRequest) → request_numbered number v.outs ≡ o
         → HasBytesOwed (past_of r) a (c + 1) (c + 1) c (committed v number true request shared s.outcome)
-    by None e = rw e (quiet v (same-debts v.buffers v.buffers refl))
-    by (Some out) e = rw e (quiet (own_settled v out shared s.outcome) (settled out s.outcome replied))
+    by o h1 = grind (arith, quiet, settled, replied)
 
 unclaimed-owed : (r : Run) (a c : ℕ) (s : SnoopEnd) (v : AgentView) → Reaches r (c + 1)
     → snooped_at (past_of r) c ≡ Some s
@@ -243,8 +195,7 @@ snoop-part r a c v h few view owed = by (snooped_at (past_of r) c) refl
         → HasBytesOwed (past_of r) a (c + 1) (c + 1) c (fold agent_after v (snoop_events_of (past_of r) a c s))
     of-claim s there (Some claim) claims =
         rw (claims, snoop_events_of) (claimed-owed r a c s claim v h few there claims view owed)
-    of-claim s there None none =
-        rw (none, snoop_events_of) (replies-owed r a c s v h there none owed s.grant refl)
+    of-claim s there None none = grind (arith, replies-owed)
 
     by : (o : Option SnoopEnd) → snooped_at (past_of r) c ≡ o
         → HasBytesOwed (past_of r) a (c + 1) (c + 1) c
@@ -271,9 +222,7 @@ end-part r a c v events h sees before after owed = by sees
         → (IsViewOf (past_of r) a (c + 1) (fold agent_after v list)
         → HasBytesOwed (past_of r) a (c + 1) (c + 1) (c + 1) (fold agent_after v list))
         → HasBytesOwed (past_of r) a (c + 1) (c + 1) (c + 1) (fold agent_after v events)
-    turned list e behind =
-        subst (λ xs. HasBytesOwed (past_of r) a (c + 1) (c + 1) (c + 1) (fold agent_after v xs)) (sym e)
-        (behind (subst (λ xs. IsViewOf (past_of r) a (c + 1) (fold agent_after v xs)) e after))
+    turned list e behind = grind arith
 
     kept : (w : AgentView) → w.buffers ≡ v.buffers → IsViewOf (past_of r) a (c + 1) w
         → HasBytesOwed (past_of r) a (c + 1) (c + 1) (c + 1) w

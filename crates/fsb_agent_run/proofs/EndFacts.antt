@@ -1,15 +1,14 @@
 -- What ends for an agent at a clock: which request of its is not outstanding any more, and what comes.
-use Rattle.std.proofs.Common.{ℕ, ◌+◌, ◌<◌, ◌≤◌, ◌≡◌, ◌⊎◌, Bool, true, false, not, ◌&&◌, ◌||◌, ◌++◌, length, Option}
-use Rattle.std.proofs.Common.{Some, None, nat_eq, refl, sym, ap, subst, ◌∙◌, inl, inr, arith, if◌then◌else◌}
+use Rattle.std.proofs.Common.{ℕ, ◌+◌, ◌<◌, ◌≤◌, ◌≡◌, ◌⊎◌, Bool, true, false, not, ◌&&◌, ◌||◌, ◌++◌, length, Some}
+use Rattle.std.proofs.Common.{None, nat_eq, refl, sym, ap, subst, ◌∙◌, inl, inr, arith, if◌then◌else◌}
 use Rattle.std.specs.List.{filter}
 use Rattle.std.specs.Option.{option_map}
-use Rattle.std.proofs.lemmas.Bool.{and_from, eq-eqb, eqb-true, false_from_ne_true, ne_eqb, or_cases, or_left, or_right}
+use Rattle.std.proofs.lemmas.Bool.{and_from, eq-eqb, eqb-true, false_from_ne_true, ne_eqb, or_cases, or_left}
+use Rattle.std.proofs.lemmas.Bool.{or_right}
 use Rattle.std.proofs.lemmas.List.Elements.{filter-append}
-use Rattle.fsb_count.specs.Clocks.{first_where}
 use Rattle.fsb_count.specs.Options.{is_at, is_some_and}
 use Rattle.fsb_count.proofs.Interface.{first_where-found, is_at-from, is_at-some}
 use Rattle.fsb_encode.specs.declared.request.Kind.{Kind}
-use Rattle.fsb_encode.specs.declared.request.Kind.TheVariants as kinds
 use Rattle.fsb_encode.specs.declared.request.Request.{Request}
 use Rattle.fsb_line.specs.States.{kind_owns}
 use Rattle.fsb_timely.specs.Past.{Claim, Grant, Owing, Past, SnoopEnd}
@@ -20,7 +19,6 @@ use Rattle.fsb_timely.specs.Runs.{Run, past_of}
 use Rattle.fsb_timely.specs.Wants.{owed, want_of}
 use Rattle.fsb_trace.specs.Outcome.{is_deferral}
 use Rattle.fsb_coherent.specs.Awaits.{cancelled_in, snoop_end_below}
-use Rattle.fsb_lawful.proofs.Interface.{and-then}
 use Rattle.fsb_tied.proofs.Interface.{answers-in-order, begun-want, cancels, ended-number, grant-first, one-ends}
 use Rattle.fsb_tied.proofs.Interface.{orderly-whole, same-both, snooped-by}
 use Rattle.fsb_timely.proofs.Interface.{tied-snoop}
@@ -48,11 +46,7 @@ use Rattle.fsb_agent_run.proofs.SnoopSteps.{outs-apart}
 pub below-says : (p : Past) (n q : ℕ) (s : SnoopEnd) → snoop_end_below p n q ≡ Some s
     → (t : ℕ) × (t < n) × (snooped_at p t ≡ Some s) × (s.first ≡ q)
 unfolding snoop_end_below is_snoop_of is_some_and
-below-says p n q s e =
-    let test : ℕ → Bool = λ t. is_some_and (snooped_at p t) (is_snoop_of q) in
-    let k = and-then (snooped_at p) (first_where test n) s e in
-    let found = first_where-found test n k.0 k.1 in
-    (k.0, found.0, k.2, eqb-true s.first q (let f = rw (k.2) at found.1 in f))
+below-says p n q s e = grind (arith, first_where-found)
 
 -- one request ends at a clock
 pub one-ended : (r : Run) (c q u : ℕ) → Reaches r (c + 1) → is_end_at (past_of r) c q ≡ true
@@ -85,37 +79,7 @@ pub record LeavesAsReplied (p : Past) (a c number : ℕ) (s : SnoopEnd) : Type 0
 pub left-says : (p : Past) (a c number : ℕ) (s : SnoopEnd) → number_left p a c s ≡ Some number
     → LeavesAsOwn a number s ⊎ LeavesAsReplied p a c number s
 unfolding number_left number_claimed number_replied
-left-says p a c number s e = by s.claim refl
-  where
-    own : (claim : Claim) → s.claim ≡ Some claim → (mine deferred : Bool) → nat_eq claim.agent a ≡ mine
-        → is_deferral s.outcome ≡ deferred
-        → (if mine then (if deferred then None else Some s.first) else None) ≡ Some number → LeavesAsOwn a number s
-    own claim claims true false m d f = record {
-      claim = claim;
-      claims = claims;
-      agent = eqb-true claim.agent a m;
-      kept = d;
-      first = (let same : s.first ≡ number = cc in same);
-    }
-    own claim claims true true m d f = absurd (let no : ⊥ = cc in no)
-    own claim claims false d m e f = absurd (let no : ⊥ = cc in no)
-
-    reply : (grant : Grant) → s.claim ≡ None → s.grant ≡ Some grant → (mine : Bool) → nat_eq grant.agent a ≡ mine
-        → (if mine then number_asked p a c grant.line else None) ≡ Some number → LeavesAsReplied p a c number s
-    reply grant none makes true m f =
-        record { unclaimed = none; grant = grant; grants = makes; agent = eqb-true grant.agent a m; asked = f }
-    reply grant none makes false m f = absurd (let no : ⊥ = cc in no)
-
-    by : (o : Option Claim) → s.claim ≡ o → LeavesAsOwn a number s ⊎ LeavesAsReplied p a c number s
-    by (Some claim) claims =
-        inl (own claim claims (nat_eq claim.agent a) (is_deferral s.outcome) refl refl
-        (let f = rw (claims, number_left) at e in f))
-    by None none =
-        let f = rw (none, number_left) at e in
-        let k = and-then (λ (grant : Grant). if nat_eq grant.agent a then number_asked p a c grant.line
-        else None) s.grant
-        number f in
-        inr (reply k.0 none k.1 (nat_eq k.0.agent a) refl k.2)
+left-says p a c number s e = grind arith
 
 pub own-left : (p : Past) (a c : ℕ) (s : SnoopEnd) (claim : Claim) → s.claim ≡ Some claim → claim.agent ≡ a
     → is_deferral s.outcome ≡ false → number_left p a c s ≡ Some s.first
@@ -196,14 +160,12 @@ left-last r a c number s h ends =
           let one = last.begun in
           let two = serves.begun in
           let claims : last.claim ≡ serves.claim = cc in
-          let line : last.owing.claim.line ≡ reply.grant.line =
-          ap (λ (x : Claim). x.line) (last.owns ∙ claims) ∙ serves.line in
+          let line : last.owing.claim.line ≡ reply.grant.line = grind arith in
           let other = asked-number p a c reply.grant.line number reply.asked in
           let same : other.0 ≡ last.owing =
           one-line p (owed p a c) other.0 last.owing (owed-apart r a c (reaches-less r c (c + 1) (omega arith) h))
           other.1 last.among (other.2 ∙ sym line) in
-          let is : serves.end.first ≡ number =
-          sym last.first ∙ sym (ap (λ (o : Owing). o.claim.first) same) ∙ other.3 in
+          let is : serves.end.first ≡ number = grind arith in
           subst (IsLast r a c) is last
     ]
 
@@ -232,8 +194,7 @@ last-by-left r a c number s owing h ends there last =
             | inr reply ↦
                 let left = replied-left p a c leaves.end reply.grant reply.unclaimed reply.grants (reply.agent
                 ∙ k.agent) in
-                let asked : number_asked p a c reply.grant.line ≡ Some number =
-                sym left ∙ ap (number_left p a c) end ∙ ends.left in
+                let asked : number_asked p a c reply.grant.line ≡ Some number = grind arith in
                 let other = asked-number p a c reply.grant.line number asked in
                 let same : other.0 ≡ owing =
                 one-line p (owed p a c) other.0 owing (owed-apart r a c early) other.1 there (other.2 ∙ reply.line) in
@@ -259,18 +220,10 @@ left-by-last r a c number s owing h ends e =
 begun-uncancelled : (r : Run) (a c : ℕ) (owing : Owing) → Reaches r (c + 1) → Among owing (owings_begun (past_of r) a c)
     → is_uncancelled (past_of r) c owing ≡ true
 unfolding is_uncancelled
-begun-uncancelled r a c owing h there =
-    let p = past_of r in
-    let long = h.long in
-    let b = begun-is r a c owing h there in
-    ap not (false_from_ne_true (is_at (cancelled_in p c) owing.claim.first) (λ t.
-    let at = cancels r c c (omega arith) (is_at-some (cancelled_in p c) owing.claim.first t ∙ ap Some b.2) in
-    let late = at.0 in
-    omega arith))
+begun-uncancelled r a c owing h there = grind (arith, begun-is, cancels, is_at-some)
 
 negated : (x y z : Bool) → x ≡ (y || z) → not x ≡ (not y && not z)
-negated x true z e = ap not e
-negated x false z e = ap not e
+negated x y z h1 = grind arith
 
 -- the requests without the one that has ended
 pub owed-left : (r : Run) (a c number : ℕ) (s : SnoopEnd) → Reaches r (c + 1) → EndsFor (past_of r) a c number s
@@ -329,8 +282,7 @@ owed-kept r a c h nothing =
           ]
     ])
     (λ t. cancelled-last r c owing.claim.first h (is_at-some (cancelled_in p c) owing.claim.first t)))) in
-    let fresh : filter g (owings_begun p a c) ≡ owings_begun p a c =
-    filter-all g (owings_begun p a c) (λ owing there. begun-uncancelled r a c owing h there) in
+    let fresh : filter g (owings_begun p a c) ≡ owings_begun p a c = grind (arith, filter-all, begun-uncancelled) in
     owed-more r a c h ∙ (λ i. before i ++ sym fresh i) ∙ sym (filter-append g (owed p a c) (owings_begun p a c))
 
 -- what ends is one of the view's requests
@@ -369,15 +321,10 @@ ended-out r a c number v h last requests =
 
 owns-told : (kind : Kind) → is_owning kind ≡ kind_owns (kind_asks kind)
 unfolding is_owning
-owns-told kinds.Reply = refl
-owns-told kinds.Invalidate = refl
-owns-told kinds.Read = refl
-owns-told kinds.WriteBack = refl
-owns-told kinds.Upgrade = refl
+owns-told kind = grind arith
 
 pub made-by : (b : Bool) (mine grant : Grant) → (if b then Some mine else None) ≡ Some grant → mine ≡ grant
-made-by true mine grant e = (let same : mine ≡ grant = cc in same)
-made-by false mine grant e = absurd (let no : ⊥ = cc in no)
+made-by b mine grant h1 = grind arith
 
 -- the grant of a request that ends is to its agent, for its line, owned or not as it asks
 pub record IsGrantOf (a : ℕ) (grant : Grant) (out : OwnRequest) : Type 0 where
@@ -399,10 +346,8 @@ ended-grant r a c number s grant v h ends makes requests k =
           let settled = settled-as r below.0 s own.claim at below.2 own.claims in
           let made = made-by _ _ grant (sym settled.granted ∙ makes) in
           let wanted = wanted-of p a (c + 1) (owed_through p a c) v k.out requests k.among in
-          let mine : want_of p a s.first ≡ Some settled.request =
-          subst (λ b. want_of p b s.first ≡ Some settled.request) own.agent settled.want in
-          let told : want_of p a s.first ≡ Some k.out.request =
-          ap (want_of p a) (own.first ∙ sym k.numbered) ∙ wanted in
+          let mine : want_of p a s.first ≡ Some settled.request = grind arith in
+          let told : want_of p a s.first ≡ Some k.out.request = grind arith in
           let request : k.out.request ≡ settled.request = (let e = sym told ∙ mine in cc) in
           record {
             agent = sym (ap (λ (g : Grant). g.agent) made) ∙ own.agent;
@@ -433,8 +378,7 @@ ended-grant r a c number s grant v h ends makes requests k =
 pub grant-there : (p : Past) (t : ℕ) (grant : Grant) → grant_at p t ≡ Some grant
     → (s : SnoopEnd) × (snooped_at p t ≡ Some s) × (s.grant ≡ Some grant)
 unfolding grant_at
-grant-there p t grant e =
-    let k = and-then (λ (x : SnoopEnd). x.grant) (snooped_at p t) grant e in (k.0, k.1, k.2)
+grant-there p t grant e = grind arith
 
 granted-there : (p : Past) (t : ℕ) (grant : Grant) → grant_at p t ≡ Some grant
     → is_granted p grant.agent grant.line t ≡ true

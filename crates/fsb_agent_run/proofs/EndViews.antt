@@ -1,26 +1,21 @@
 -- From behind the snoop end of a clock to the next clock, where no line comes to the agent.
-use Rattle.std.proofs.Common.{ℕ, ◌+◌, ◌<◌, ◌≡◌, Bool, true, false, not, ◌&&◌, ◌||◌, map, Option, Some, None, nat_eq}
-use Rattle.std.proofs.Common.{refl, sym, ap, subst, ◌∙◌, inl, inr, arith}
+use Rattle.std.proofs.Common.{ℕ, ◌+◌, ◌<◌, ◌≡◌, true, false, not, ◌&&◌, ◌||◌, map, Option, Some, None, nat_eq, refl}
+use Rattle.std.proofs.Common.{sym, ap, subst, ◌∙◌, inl, inr, arith}
 use Rattle.std.specs.List.{filter, list_any}
 use Rattle.std.specs.Option.{option_and_then}
-use Rattle.std.proofs.lemmas.Bool.{and_from, and_parts, both_ways, cases_Bool, eq-eqb, eqb-true, false_from_ne_true}
-use Rattle.fsb_access.specs.declared.item.Item.{Item}
-use Rattle.fsb_access.specs.declared.log.Done.{Done}
-use Rattle.fsb_access.specs.Access.{accessed_line}
+use Rattle.std.proofs.lemmas.Bool.{and_parts, cases_Bool, eq-eqb, eqb-true, false_from_ne_true}
 use Rattle.fsb_count.specs.Options.{is_some_and}
 use Rattle.fsb_timely.specs.Past.{Claim, Grant, Past, SnoopEnd}
 use Rattle.fsb_timely.specs.Completions.{completes_by, is_arrival, is_brought}
-use Rattle.fsb_timely.specs.Grants.{ended_requests, grant_at, has_arrived, holds_line, is_end_at, is_ended}
-use Rattle.fsb_timely.specs.Grants.{is_exclusive, is_granted, latest_grant}
+use Rattle.fsb_timely.specs.Grants.{ended_requests, holds_line, is_end_at, is_exclusive, is_granted, latest_grant}
 use Rattle.fsb_timely.specs.Hits.{is_hit, is_store_on}
 use Rattle.fsb_timely.specs.Runs.{Run, past_of}
-use Rattle.fsb_timely.specs.Scripts.{Need, completes_at, is_done_at, is_idling, is_load, needs_of, next_item}
+use Rattle.fsb_timely.specs.Scripts.{Need, completes_at, is_done_at}
 use Rattle.fsb_timely.specs.Wants.{owed}
 use Rattle.fsb_timely.proofs.Interface.{is_ended-more}
 use Rattle.fsb_trace.specs.Outcome.{is_deferral}
 use Rattle.fsb_trace.specs.declared.outcome.Outcome.{Outcome}
-use Rattle.fsb_trace.specs.declared.outcome.Outcome.TheVariants.{Granted, Handed, Retried, Deferred, Written, Replied}
-use Rattle.fsb_trace.specs.declared.outcome.Outcome.TheVariants.{Failed, Upgraded}
+use Rattle.fsb_trace.specs.declared.outcome.Outcome.TheVariants.{Deferred}
 use Rattle.fsb_coherent.specs.Awaits.{snoop_end_below}
 use Rattle.fsb_coherent.specs.Fitting.{fits_kind}
 use Rattle.fsb_coherent.specs.Relation.{is_dirty_below}
@@ -32,14 +27,13 @@ use Rattle.fsb_run_laws.proofs.Interface.{brought-told, ending-serves, snoop-bel
 use Rattle.fsb_agent_view.specs.AgentViews.{AgentView}
 use Rattle.fsb_agent_view.specs.Arriving.{given_up}
 use Rattle.fsb_agent_run.specs.Ending.{EndsFor, NothingEndsFor}
-use Rattle.fsb_agent_run.specs.RunViews.{HasLinesOf, HasRequestsOf, IsAgentOf, IsPlacedIn, is_awaited, one_if, owing_by}
+use Rattle.fsb_agent_run.specs.RunViews.{HasLinesOf, HasRequestsOf, IsAgentOf, IsPlacedIn, is_awaited, owing_by}
 use Rattle.fsb_agent_run.specs.RunViews.{state_told}
 use Rattle.fsb_agent_run.specs.Stages.{IsPlacedThrough, IsViewAfterSnoop, IsViewOf, is_dirty_snooped, owed_through}
 use Rattle.fsb_agent_run.proofs.Among.{Among, among-any, any-among}
 use Rattle.fsb_agent_run.proofs.EndFacts.{asked-there, below-says, first-of-grant, grant-there, last-is, made-by}
 use Rattle.fsb_agent_run.proofs.EndFacts.{one-ended, own-left, owed-kept, owed-left, replied-left}
 use Rattle.fsb_agent_run.proofs.GrantsAwaited.{latest-says}
-use Rattle.fsb_agent_run.proofs.HitViews.{never-with, nothing}
 use Rattle.fsb_agent_run.proofs.ItemsCompleted.{completes-not}
 use Rattle.fsb_agent_run.proofs.OutLists.{among-without, kept-of, map-without, requests-from, wanted-of}
 use Rattle.fsb_agent_run.proofs.OwedSteps.{reaches-less}
@@ -74,35 +68,14 @@ unbrought r a c need h no_grant =
 pub no-arrival : (r : Run) (a c : ℕ) → Reaches r (c + 1) → NoGrantEnds (past_of r) a c
     → is_arrival (past_of r) a c ≡ false
 unfolding is_arrival completes_by
-no-arrival r a c h no_grant = false_from_ne_true (is_arrival (past_of r) a c) (λ t.
-    let p = past_of r in
-    let parts = and_parts (not (is_idling p a c) && not (is_hit p a c))
-    (is_some_and (next_item p a c) (λ item. list_any (completes_by p a c (needs_of item)) (needs_of item))) t in
-    let item = some-and (next_item p a c)
-    (λ (item : Item). list_any (completes_by p a c (needs_of item)) (needs_of item))
-    parts.1 in
-    let need = any-among (completes_by p a c (needs_of item.0)) (needs_of item.0) item.2 in
-    let brought = and_parts (is_brought p a c need.0) _ need.2 in
-    both_ways (is_brought p a c need.0) (unbrought r a c need.0 h no_grant) brought.0)
+no-arrival r a c h no_grant = grind (arith, some-and, any-among, unbrought)
 
 -- a line is awaited as before where the end of its latest grant is not at the clock
 pub awaited-still : (p : Past) (a line c : ℕ)
     → ((grant : Grant) → latest_grant p a line (c + 1) ≡ Some grant → is_end_at p c grant.first ≡ false)
     → is_awaited p a line (c + 1) (c + 1) ≡ is_awaited p a line (c + 1) c
 unfolding is_awaited is_some_and
-awaited-still p a line c none = by (latest_grant p a line (c + 1)) refl
-  where
-    by : (o : Option Grant) → latest_grant p a line (c + 1) ≡ o
-        → is_some_and o (λ grant. not (is_ended p (c + 1) grant.first))
-        ≡ is_some_and o (λ grant. not (is_ended p c grant.first))
-    by None e = refl
-    by (Some grant) e =
-        ap not (is_ended-more p c grant.first ∙ ap (λ b. is_ended p c grant.first || b) (none grant e)
-        ∙ whole (is_ended p c grant.first))
-      where
-        whole : (b : Bool) → (b || false) ≡ b
-        whole true = refl
-        whole false = refl
+awaited-still p a line c none = grind (arith, is_ended-more)
 
 -- the latest grant of a line, with its snoop end
 pub latest-snooped : (r : Run) (a line c : ℕ) (grant : Grant) → Reaches r (c + 1)
@@ -110,60 +83,23 @@ pub latest-snooped : (r : Run) (a line c : ℕ) (grant : Grant) → Reaches r (c
     → (s : SnoopEnd) × (snoop_end_below (past_of r) (c + 1) grant.first ≡ Some s) × (s.grant ≡ Some grant)
     × (grant.agent ≡ a) × (grant.line ≡ line)
 unfolding is_granted
-latest-snooped r a line c grant h e =
-    let p = past_of r in
-    let long = h.long in
-    let t = latest-says p a line (c + 1) grant e in
-    let low = t.1 in
-    let s = grant-there p t.0 grant t.3 in
-    let first = first-of-grant r t.0 s.0 grant (omega arith) s.1 s.2 in
-    let below = snoop-below r c t.0 s.0 h (omega arith) s.1 in
-    let g = some-there (grant_at p t.0) (λ (x : Grant). nat_eq x.agent a && nat_eq x.line line) t.2 in
-    let there = t.3 in
-    let here = g.1 in
-    let same : g.0 ≡ grant = cc in
-    let parts = and_parts (nat_eq g.0.agent a) (nat_eq g.0.line line) g.2 in (
-      s.0,
-      subst (λ q. snoop_end_below p (c + 1) q ≡ Some s.0) (sym first) below,
-      s.2,
-      sym (ap (λ (x : Grant). x.agent) same) ∙ eqb-true g.0.agent a parts.0,
-      sym (ap (λ (x : Grant). x.line) same) ∙ eqb-true g.0.line line parts.1,
-    )
+latest-snooped r a line c grant h e = grind (arith, latest-says, grant-there, first-of-grant, snoop-below, some-there)
 
 latest-unended : (r : Run) (a line c : ℕ) (grant : Grant) → Reaches r (c + 1) → NoGrantEnds (past_of r) a c
     → latest_grant (past_of r) a line (c + 1) ≡ Some grant → is_end_at (past_of r) c grant.first ≡ false
-latest-unended r a line c grant h no_grant e = false_from_ne_true (is_end_at (past_of r) c grant.first) (λ t.
-    let k = latest-snooped r a line c grant h e in
-    no_grant.none grant.first k.0 grant t k.1 k.2 k.3)
+latest-unended r a line c grant h no_grant e = grind (arith, latest-snooped)
 
 -- an agent without an entry at a clock stores into nothing
 unstored : (p : Past) (a line c : ℕ) → completes_at p a c ≡ false → any_stored p a line c ≡ false
 unfolding completes_at is_store_on is_done_at
-unstored p a line c none = false_from_ne_true (any_stored p a line c) (λ t.
-    let k = any-among (λ done. is_store_on a line done && nat_eq done.clock c) p.log t in
-    let done : Done = k.0 in
-    let parts = and_parts (is_store_on a line done) (nat_eq done.clock c) k.2 in
-    let store = and_parts (nat_eq done.agent a && not (is_load done.access))
-    (nat_eq (accessed_line done.access) line) parts.0 in
-    let mine = and_parts (nat_eq done.agent a) (not (is_load done.access)) store.0 in
-    both_ways (list_any (is_done_at a c) p.log) none
-    (among-any (is_done_at a c) done p.log k.1 (and_from (nat_eq done.agent a) (nat_eq done.clock c) mine.0 parts.1)))
+unstored p a line c none = grind (arith, any-among, among-any)
 
 -- without an arrival the states stay
 pub end-lines : (r : Run) (a line c : ℕ) → Reaches r (c + 1) → a < 4 → is_arrival (past_of r) a c ≡ false
     → state_told (holds_line (past_of r) a line (c + 1)) (is_exclusive (past_of r) a line (c + 1))
     (is_dirty_below (past_of r) a line (c + 1))
     ≡ state_snooped_at (past_of r) a line c
-end-lines r a line c h few off =
-    let p = past_of r in
-    elim (cases_Bool (is_hit p a c)) [
-      | inl hit ↦ end-state_hit p a line c hit
-      | inr none ↦
-          let stored = unstored p a line c (completes-not r a c h few none off) in
-          end-state p a line c none
-          ∙ sym (never-with (has_arrived p a line (c + 1) c && any_stored p a line c) (state_snooped_at p a line c)
-          (ap (λ b. has_arrived p a line (c + 1) c && b) stored ∙ nothing (has_arrived p a line (c + 1) c)))
-    ]
+end-lines r a line c h few off = grind (arith, end-state_hit, unstored, completes-not, end-state)
 
 -- and so does the place, unless a hit has moved it on
 pub end-placed : (r : Run) (a c : ℕ) (v : AgentView) → Reaches r (c + 1) → a < 4 → is_arrival (past_of r) a c ≡ false
@@ -182,31 +118,11 @@ pub still-view : (r : Run) (a c : ℕ) (v : AgentView) → Reaches r (c + 1) →
     → HasLinesOf (past_of r) a (c + 1) c (λ line. is_dirty_snooped (past_of r) a line c) v
     → IsViewOf (past_of r) a (c + 1) v
 still-view r a c v h few no_grant requests agent placed lines =
-    let p = past_of r in
-    let off = no-arrival r a c h no_grant in
-    record {
-      agent = agent;
-      placed = end-placed r a c v h few off placed;
-      lines = record {
-        states = λ line. lines.states line ∙ sym (end-lines r a line c h few off);
-        fills = λ line.
-            lines.fills line
-            ∙ ap one_if (sym (awaited-still p a line c (λ grant e. latest-unended r a line c grant h no_grant e)));
-        in_sets = lines.in_sets;
-      };
-      requests = requests;
-    }
+    grind (arith, no-arrival, end-placed, end-lines, awaited-still, latest-unended)
 
 is-deferred : (outcome : Outcome) → is_deferral outcome ≡ true → outcome ≡ Deferred
 unfolding is_deferral
-is-deferred Granted e = absurd (let no : ⊥ = cc in no)
-is-deferred Handed e = absurd (let no : ⊥ = cc in no)
-is-deferred Retried e = absurd (let no : ⊥ = cc in no)
-is-deferred Deferred e = refl
-is-deferred Written e = absurd (let no : ⊥ = cc in no)
-is-deferred Replied e = absurd (let no : ⊥ = cc in no)
-is-deferred Failed e = absurd (let no : ⊥ = cc in no)
-is-deferred Upgraded e = absurd (let no : ⊥ = cc in no)
+is-deferred outcome h1 = grind arith
 
 -- where nothing ends for the agent no line comes to it
 pub nothing-granted : (r : Run) (a c : ℕ) → Reaches r (c + 1) → NothingEndsFor (past_of r) a c
@@ -280,16 +196,7 @@ left-requests r a c number s v w h ends same requests =
 -- where a request ends for the agent that was granted nothing, no line comes to it
 nothing-made : (r : Run) (a c number : ℕ) (s : SnoopEnd) → Reaches r (c + 1) → EndsFor (past_of r) a c number s
     → s.grant ≡ None → NoGrantEnds (past_of r) a c
-nothing-made r a c number s h ends none = record {
-  none = λ first other grant ending snooped makes mine.
-      let p = past_of r in
-      let one = one-ended r c first ends.first h ending ends.ends in
-      let there = subst (λ q. snoop_end_below p (c + 1) q ≡ Some other) one snooped in
-      let here = ends.snooped in
-      let same : other ≡ s = cc in
-      let gives : s.grant ≡ Some grant = sym (ap (λ (x : SnoopEnd). x.grant) same) ∙ makes in
-      cc;
-}
+nothing-made r a c number s h ends none = grind (arith, one-ended)
 
 -- so there the agent has no arrival
 pub quiet-arrival : (r : Run) (a c : ℕ) → Reaches r (c + 1) → NothingEndsFor (past_of r) a c

@@ -3,12 +3,11 @@ use Rattle.std.proofs.Common.{ℕ, ◌+◌, ◌<◌, ◌≡◌, ◌≢◌, ◌�
 use Rattle.std.proofs.Common.{refl, sym, ap, ◌∙◌, inl, inr, arith}
 use Rattle.std.specs.Prelude.{is_some}
 use Rattle.fsb_encode.specs.declared.request.Kind.{Kind}
-use Rattle.fsb_encode.specs.declared.request.Kind.TheVariants.{Invalidate, Read, Reply, Upgrade, WriteBack}
 use Rattle.fsb_line.specs.States.{kind_owns}
 use Rattle.fsb_trace.specs.declared.outcome.Outcome.{Outcome}
 use Rattle.fsb_trace.specs.declared.outcome.Outcome.TheVariants.{Deferred, Replied, Retried, Upgraded, Written}
 use Rattle.fsb_timely.specs.Past.{Claim, Grant, Owing, Past, SnoopEnd}
-use Rattle.fsb_timely.specs.Grants.{begun_at, holds_line, is_end_at, snooped_at}
+use Rattle.fsb_timely.specs.Grants.{holds_line, is_end_at, snooped_at}
 use Rattle.fsb_timely.specs.Moments.{is_got, is_upgraded, makes_grant}
 use Rattle.fsb_timely.specs.Runs.{Run, past_of}
 use Rattle.fsb_timely.specs.Wants.{owed}
@@ -67,8 +66,7 @@ own-ended r a c number s v h ends view =
     elim (left-says p a c number s ends.left) [
       | inl own ↦
           let claimed = (clock-facts r 0 below.0 h.timely h.bounds (omega arith)).settles.claimed s below.2 in
-          let both : Some own.claim ≡ Some last.claim =
-          sym own.claims ∙ claimed ∙ ap (begun_at p) own.first ∙ last.begun in
+          let both : Some own.claim ≡ Some last.claim = grind arith in
           let same : own.claim ≡ last.claim = cc in
           record {
             out = k.out;
@@ -146,8 +144,7 @@ upgrade-seen r a c number s v h ends upgraded sound view =
     let k = own-ended r a c number s v h ends view in
     let last = left-last r a c number s h ends in
     let e = ended-out r a c number v h last view.requests in
-    let one : request_numbered number v.outs ≡ Some k.out =
-    ap (λ q. request_numbered q v.outs) (sym k.numbered) ∙ k.found in
+    let one : request_numbered number v.outs ≡ Some k.out = grind arith in
     let both : Some e.out ≡ Some k.out = sym e.found ∙ one in
     let same : e.out ≡ k.out = cc in
     let kept = ap (λ (o : OwnRequest). is_some o.kept)
@@ -160,15 +157,7 @@ upgrade-seen r a c number s v h ends upgraded sound view =
 ungranted-as : (kind : Kind) (outcome : Outcome) (held : Bool) → (outcome ≡ Retried) ⊎ (outcome ≡ Written)
     → fits_kind kind outcome ≡ true → (makes_grant kind outcome || (is_upgraded outcome && held)) ≡ false
 unfolding fits_kind fits_getting fits_upgrade fits_write_back makes_grant is_got is_upgraded
-ungranted-as Reply outcome held e fits = absurd (let no : ⊥ = cc in no)
-ungranted-as Invalidate outcome held (inl e) fits = rw e refl
-ungranted-as Invalidate outcome held (inr e) fits = rw e refl
-ungranted-as Read outcome held (inl e) fits = rw e refl
-ungranted-as Read outcome held (inr e) fits = rw e refl
-ungranted-as WriteBack outcome held (inl e) fits = rw e refl
-ungranted-as WriteBack outcome held (inr e) fits = rw e refl
-ungranted-as Upgrade outcome held (inl e) fits = rw e refl
-ungranted-as Upgrade outcome held (inr e) fits = rw e refl
+ungranted-as kind outcome held h1 h2 = grind arith
 
 grantless : (r : Run) (a c number : ℕ) (s : SnoopEnd) → Reaches r (c + 1) → EndsFor (past_of r) a c number s
     → (s.outcome ≡ Retried) ⊎ (s.outcome ≡ Written) → s.grant ≡ None
@@ -199,12 +188,10 @@ grantless r a c number s h ends so =
     none b x off e = e ∙ ap (λ y. if y then Some x else None) off
 
     not-replied : s.outcome ≡ Replied → (s.outcome ≡ Retried) ⊎ (s.outcome ≡ Written) → ⊥
-    not-replied e (inl f) = let both = sym e ∙ f in let no : ⊥ = cc in no
-    not-replied e (inr f) = let both = sym e ∙ f in let no : ⊥ = cc in no
+    not-replied h1 h2 = grind arith
 
 undeferred : (outcome : Outcome) → (outcome ≡ Retried) ⊎ (outcome ≡ Written) → outcome ≢ Deferred
-undeferred outcome (inl e) f = let both = sym e ∙ f in let no : ⊥ = cc in no
-undeferred outcome (inr e) f = let both = sym e ∙ f in let no : ⊥ = cc in no
+undeferred outcome h1 = grind arith
 
 pub given-up-seen : (r : Run) (a c number : ℕ) (s : SnoopEnd) (v : AgentView) → Reaches r (c + 1)
     → EndsFor (past_of r) a c number s → (s.outcome ≡ Retried) ⊎ (s.outcome ≡ Written) → IsSound v

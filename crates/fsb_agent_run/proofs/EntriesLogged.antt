@@ -1,9 +1,8 @@
 -- The entries of a view's hit and arrival log the accesses that the run completes for its agent.
-use Rattle.std.proofs.Common.{ℕ, ◌+◌, ◌≡◌, Bool, true, false, List, [], ◌∷◌, map, length, Option, Some, None, is_some}
-use Rattle.std.proofs.Common.{nat_eq, slice_get, refl, sym, ap, subst, ◌∙◌}
+use Rattle.std.proofs.Common.{ℕ, ◌+◌, ◌≡◌, Bool, true, false, List, [], ◌∷◌, map, Option, Some, None, is_some, nat_eq}
+use Rattle.std.proofs.Common.{refl, sym, ap, subst, ◌∙◌, arith}
 use Rattle.std.specs.List.{list_all}
-use Rattle.std.specs.Option.{option_and_then, option_map_or}
-use Rattle.std.proofs.lemmas.Bool.{and_from, eq-eqb}
+use Rattle.std.specs.Option.{option_map_or}
 use Rattle.fsb_access.specs.declared.item.Item.{Item}
 use Rattle.fsb_access.specs.declared.log.Done.{Done}
 use Rattle.fsb_access.specs.ScriptOrder.{Step, steps_of_item}
@@ -13,14 +12,12 @@ use Rattle.fsb_timely.specs.Past.{Grant, Past, SnoopEnd}
 use Rattle.fsb_timely.specs.Runs.{Run, past_of}
 use Rattle.fsb_timely.specs.Scripts.{items_of, next_item, next_number}
 use Rattle.fsb_trace.specs.declared.outcome.Outcome.TheVariants.{Upgraded}
-use Rattle.fsb_coherent.specs.Relation.{is_dirty_below}
 use Rattle.fsb_run_laws.specs.Reaches.{Reaches}
 use Rattle.fsb_agent_view.specs.declared.want.OwnRequest.{OwnRequest}
 use Rattle.fsb_agent_view.specs.AgentViews.{AgentView}
 use Rattle.fsb_agent_view.specs.Arriving.{arrived_entries, ended_entries_for, is_arrival_by, met_entries}
 use Rattle.fsb_agent_view.specs.Arriving.{upgrade_entries, with_bytes}
-use Rattle.fsb_agent_view.specs.Completing.{completed_entries, hand_of, is_hit_by, next_steps, performed_entries}
-use Rattle.fsb_agent_view.specs.Completing.{steps_at}
+use Rattle.fsb_agent_view.specs.Completing.{completed_entries, is_hit_by, performed_entries, steps_at}
 use Rattle.fsb_agent_view.specs.Serving.{AtHand, entries_at_hand, hand_after}
 use Rattle.fsb_agent_run.specs.Ending.{EndsFor}
 use Rattle.fsb_agent_run.specs.EntriesMade.{LogsAccesses, logged_access}
@@ -40,61 +37,42 @@ of_agent a step = record { agent = a; step = step }
 clocks-made : (a c : ℕ) (hand : AtHand) (steps : List Step)
     → list_all (λ (done : Done). nat_eq done.clock c) (entries_at_hand a c hand steps) ≡ true
 clocks-made a c hand [] = refl
-clocks-made a c hand (step ∷ steps) =
-    and_from (nat_eq c c)
-    (list_all (λ (done : Done). nat_eq done.clock c) (entries_at_hand a c (hand_after hand step.access) steps))
-    (eq-eqb c c refl) (clocks-made a c (hand_after hand step.access) steps)
+clocks-made a c hand (step ∷ steps) = grind (arith, clocks-made a c (hand_after hand step.access) steps)
 
 accesses-made : (a c : ℕ) (hand : AtHand) (steps : List Step)
     → map logged_access (entries_at_hand a c hand steps) ≡ map (of_agent a) steps
 accesses-made a c hand [] = refl
-accesses-made a c hand (step ∷ steps) =
-    ap (λ xs. of_agent a step ∷ xs) (accesses-made a c (hand_after hand step.access) steps)
+accesses-made a c hand (step ∷ steps) = grind (arith, accesses-made a c (hand_after hand step.access) steps)
 
 -- the accesses at the place of the next item are those that the run completes next
 steps-of : (a n : ℕ) (o : Option Item)
     → map (of_agent a) (option_map_or (steps_of_item n) o []) ≡ option_map_or (completed_of_item a n) o []
 unfolding completed_of_item
-steps-of a n None = refl
-steps-of a n (Some item) = refl
+steps-of a n o = grind arith
 
 steps-next : (p : Past) (a c : ℕ)
     → map (of_agent a) (steps_at (items_of p a) (place_of (items_of p a) (next_number p a c))) ≡ next_accesses p a c
 unfolding next_accesses next_item
-steps-next p a c = by (next_number p a c)
-  where
-    by : (o : Option ℕ) → map (of_agent a) (steps_at (items_of p a) (place_of (items_of p a) o))
-        ≡ option_map_or
-        (λ n. option_map_or (completed_of_item a n) (option_and_then (slice_get (items_of p a)) o) []) o []
-    by None =
-        ap (λ o. map (of_agent a) (option_map_or (steps_of_item (length (items_of p a))) o []))
-        (item-at (items_of p a) None)
-    by (Some n) = steps-of a n (slice_get (items_of p a) n)
+steps-next p a c = grind (arith, item-at, steps-of)
 
 -- so the entries of a record's next item log them
 item-entries : (p : Past) (a c : ℕ) (v : AgentView) → v.number ≡ a → v.items ≡ items_of p a
     → v.place ≡ place_of (items_of p a) (next_number p a c)
     → LogsAccesses c (next_accesses p a c) (completed_entries v c)
-item-entries p a c v number items place = record {
-  clocks = clocks-made v.number c (hand_of v) (next_steps v);
-  accessed = accesses-made v.number c (hand_of v) (next_steps v)
-      ∙ (λ i. map (of_agent (number i)) (steps_at (items i) (place i))) ∙ steps-next p a c;
-}
+item-entries p a c v number items place = grind (arith, clocks-made, accesses-made, steps-next)
 
 -- and where a test says whether the item is completed, so does the run
 entries-if : (p : Past) (a c : ℕ) (b : Bool) (entries : List Done)
     → (b ≡ true → LogsAccesses c (next_accesses p a c) entries)
     → LogsAccesses c (completed_if p c b a) (elim b [ true ↦ entries | false ↦ [] ])
 unfolding completed_if
-entries-if p a c true entries logs = logs refl
-entries-if p a c false entries logs = record { clocks = refl; accessed = refl }
+entries-if p a c b entries h1 = grind arith
 
 -- the entries of a hit
 pub performed-entries : (p : Past) (a c : ℕ) (v : AgentView) → IsViewOf p a c v
     → LogsAccesses c (completed_if p c (is_hit p a c) a) (performed_entries v c)
 performed-entries p a c v view =
-    let same : is_hit_by v c ≡ is_hit p a c =
-    hit-by p a c (λ line. is_dirty_below p a line c) v view.agent (placed-at p a c v view.placed) view.lines in
+    let same : is_hit_by v c ≡ is_hit p a c = grind (arith, hit-by, placed-at) in
     subst (λ b. LogsAccesses c (completed_if p c b a) (performed_entries v c)) same
     (entries-if p a c (is_hit_by v c) (completed_entries v c)
     (λ t. item-entries p a c v view.agent.number view.agent.items view.placed.place))
@@ -129,8 +107,7 @@ ended-entries : (r : Run) (a c : ℕ) (s : SnoopEnd) (v : AgentView) (out : OwnR
     → (s.grant ≡ None → is_arrival (past_of r) a c ≡ false)
     → LogsAccesses c (completed_if (past_of r) c (is_arrival (past_of r) a c) a) (ended_entries_for v c out)
 unfolding completed_if
-ended-entries r a c s v out None e None f same come gone =
-    rw (e, gone f, completed_if) (record { clocks = refl; accessed = refl })
+ended-entries r a c s v out None e None f same come gone = grind arith
 ended-entries r a c s v out None e (Some grant) f same come gone = absurd (let no : ⊥ = cc in no)
 ended-entries r a c s v out (Some bytes) e None f same come gone = absurd (let no : ⊥ = cc in no)
 ended-entries r a c s v out (Some bytes) e (Some grant) f same come gone = rw e (come bytes grant f)

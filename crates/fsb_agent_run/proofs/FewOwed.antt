@@ -3,14 +3,15 @@ use Rattle.std.proofs.Common.{ℕ, zero, suc, ◌+◌, ◌<◌, ◌≤◌, ◌�
 use Rattle.std.proofs.Common.{ap, subst, ◌∙◌, inl, inr, arith}
 use Rattle.std.specs.Option.{option_map_or}
 use Rattle.std.proofs.lemmas.Bool.{and_parts, both_ways, cases_Bool, cases_eq, cases_lt, false_from_ne_true, le-ltb}
-use Rattle.std.proofs.lemmas.Bool.{lt-ltb, ltb-true, not-true}
+use Rattle.std.proofs.lemmas.Bool.{lt-ltb, not-true}
 use Rattle.fsb_count.specs.Clocks.{count_where}
 use Rattle.fsb_count.specs.Options.{is_at, is_before, is_some_and}
-use Rattle.fsb_count.proofs.Interface.{any_where-at, any_where-found, any_where-none, any_where-off, count_where-above}
-use Rattle.fsb_count.proofs.Interface.{count_where-passed, is_at-from, is_before-parts, length-all_where}
-use Rattle.fsb_signal.specs.declared.lines.TheConstants.Lines.{ADS, AERR, BNR}
+use Rattle.fsb_count.proofs.Interface.{any_where-at, any_where-found, any_where-none, any_where-off}
+use Rattle.fsb_count.proofs.Interface.{count_where-above, count_where-passed, is_at-from, is_before-parts}
+use Rattle.fsb_count.proofs.Interface.{length-all_where}
+use Rattle.fsb_signal.specs.declared.lines.TheConstants.Lines.{ADS, AERR}
 use Rattle.fsb_signal.specs.Samples.{line_at}
-use Rattle.fsb_trace.specs.At.{Trace, line_back}
+use Rattle.fsb_trace.specs.At.{Trace}
 use Rattle.fsb_trace.specs.Flight.{has_ended, in_flight, is_dropped, is_in_flight}
 use Rattle.fsb_trace.specs.Requests.{is_cancelled, is_live, live_clock_of, live_number_of}
 use Rattle.fsb_trace.specs.Response.{end_of}
@@ -19,13 +20,12 @@ use Rattle.fsb_trace.proofs.Interface.{line_at-agree, live_clock_of-number, live
 use Rattle.fsb_trace.proofs.Interface.{snoop_end_of-rises}
 use Rattle.fsb_timely.specs.Grants.{is_end_at, is_ended, snooped_at}
 use Rattle.fsb_timely.specs.Past.{Claim, Past, SnoopEnd}
-use Rattle.fsb_timely.specs.Runs.{Run, past_of, past_to, run_to}
-use Rattle.fsb_timely.specs.Starts.{drives_ads, drives_pair, has_free_winner, has_room, is_spaced, may_begin}
-use Rattle.fsb_timely.specs.Starts.{starts_requests}
+use Rattle.fsb_timely.specs.Runs.{Run, past_of, run_to}
+use Rattle.fsb_timely.specs.Starts.{drives_ads, has_room, may_begin, starts_requests}
 use Rattle.fsb_timely.specs.Timely.{Timely, holds_at, holds_in}
 use Rattle.fsb_timely.proofs.Interface.{tied-snoop}
 use Rattle.fsb_lawful.specs.Beginning.{KeepsBounds}
-use Rattle.fsb_lawful.proofs.Interface.{and4, length-cut, run_to-agrees, same-beq, some-and}
+use Rattle.fsb_lawful.proofs.Interface.{length-cut, run_to-agrees, some-and}
 use Rattle.fsb_coherent.specs.Awaits.{responded_in}
 use Rattle.fsb_coherent.specs.Relation.{is_responded_below}
 use Rattle.fsb_tied.proofs.Interface.{answers-in-order, end-below, live-at}
@@ -36,15 +36,7 @@ use Rattle.fsb_agent_run.proofs.GivenBytes.{given, unresponded}
 room-at : (r : Run) (q : ℕ) → Timely r → q < length r.trace → line_at ADS (run_to r q).trace q ≡ true
     → length (in_flight (run_to r q).trace q) < 8
 unfolding holds_at holds_in starts_requests drives_ads may_begin has_room
-room-at r q h l ads =
-    let v : Run = run_to r q in
-    let p : Past = past_to (past_of r) q in
-    let e : starts_requests v p q ≡ true = h.request_starts.at q l in
-    let same = same-beq (line_at ADS v.trace q) (may_begin v p q) (and_parts (drives_ads v p q)
-    (drives_pair v p q) e).0 in
-    let parts = and4 (is_spaced v q) (has_room v q) (not (line_back BNR v.trace q 2)) (has_free_winner v p q)
-    (sym same ∙ ads) in
-    ltb-true (length (in_flight v.trace q)) 8 parts.1
+room-at r q h l ads = grind arith
 
 -- a live request that has no response up to c is in flight there
 undropped : (r : Run) (c q i : ℕ) → c < length r.trace → live_clock_of r.trace i ≡ Some q
@@ -54,16 +46,13 @@ undropped r c q i l clock =
     elim (cases_lt (q + 3) c) [
       | inl early ↦
           let kept = (live-at r.trace i q clock).kept in
-          let none : line_at AERR (run_to r c).trace (q + 3) ≡ false =
-          sym (line_at-agree AERR (c + 1) r.trace (run_to r c).trace (q + 3) (run_to-agrees r c l) (omega arith))
-          ∙ kept in
+          let none : line_at AERR (run_to r c).trace (q + 3) ≡ false = grind (arith, line_at-agree, run_to-agrees) in
           rw none refl
       | inr late ↦ rw (le-ltb (q + 3) c late) (last (line_at AERR (run_to r c).trace (q + 3)))
     ]
   where
     last : (b : Bool) → (b && false) ≡ false
-    last true = refl
-    last false = refl
+    last b = grind arith
 
 unended : (r : Run) (c q : ℕ) → Timely r → c < length r.trace → q < c
     → is_responded_below (past_of r) (c + 1) q ≡ false → has_ended (run_to r c).trace c q ≡ false
@@ -168,19 +157,7 @@ count-into : (f g : ℕ → Bool) (to : ℕ → ℕ) (n m : ℕ)
 unfolding count_where
 count-into f g to zero m into rises = omega arith
 count-into f g to (suc n) m into rises =
-    elim (cases_Bool (f n)) [
-      | inl on ↦
-          let here = into n (omega arith) on in
-          let below = count-into f g to n (to n)
-          (λ t l e. (rises t n l (omega arith) e on, (into t (omega arith) e).1))
-          (λ t u l k e d. rises t u l (omega arith) e d) in
-          let more = count_where-above g (to n) m here.0 here.1 in
-          rw on (omega (arith, below, more))
-      | inr off ↦
-          let below = count-into f g to n m (λ t l e. into t (omega arith) e) (λ t u l k e d. rises t u l
-          (omega arith) e d) in
-          rw off (omega (arith, below))
-    ]
+    grind (arith, count_where-above, count-into f g to n (to n), count-into f g to n m)
 
 flying : (v : Trace) (q : ℕ) → length (in_flight v q) ≡ count_where (is_in_flight v q) q
 unfolding in_flight
@@ -218,8 +195,7 @@ few-open r n (suc m) h l k =
           let y = open-from r n t e in
           let less : first_of_snoop p t < first_of_snoop p m = rises r n t m below y x in
           let low : y.end.first < q = (let a = y.first in let b = x.first in omega arith) in
-          let none : is_responded_below p (q + 1) y.end.first ≡ false =
-          responded-less p (q + 1) n y.end.first (omega arith) y.unresponded in
+          let none : is_responded_below p (q + 1) y.end.first ≡ false = grind (arith, responded-less) in
           let flies = still-in-flight r q y.end.first y.number h (omega arith) low y.clock none in
           (subst (λ z. z < q) (sym y.first) low, subst (λ z. is_in_flight v q z ≡ true) (sym y.first) flies))
           (λ t u below within e d. rises r n t u below (open-from r n t e) (open-from r n u d)) in
@@ -232,12 +208,7 @@ few-open r n (suc m) h l k =
 count-fewer : (f g : ℕ → Bool) (n : ℕ) → ((t : ℕ) → t < n → f t ≡ true → g t ≡ true) → count_where f n ≤ count_where g n
 unfolding count_where
 count-fewer f g zero less = omega arith
-count-fewer f g (suc n) less =
-    let below = count-fewer f g n (λ t l. less t (omega arith)) in
-    elim (cases_Bool (f n)) [
-      | inl on ↦ rw (on, less n (omega arith) on) (omega (arith, below))
-      | inr off ↦ rw off (omega (arith, below))
-    ]
+count-fewer f g (suc n) less = grind (arith, count-fewer f g n)
 
 -- what an agent owes has its snoop end, and no response yet
 owes-open : (r : Run) (a n m t : ℕ) → Timely r → KeepsBounds r.plan → m ≤ length r.trace → t < m

@@ -84,5 +84,4 @@ come-count line (f ∷ fills) b e = elim (cases_Bool (f.line == line)) [
 ]
   where
     here : (b : Bool) → 1 + count_on line fills ≡ one_if b → false ≡ not b
-    here true k = refl
-    here false k = absurd (omega (arith, k))
+    here b h1 = grind arith

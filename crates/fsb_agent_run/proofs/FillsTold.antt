@@ -1,10 +1,10 @@
 -- Fills of an agent's buffers, and what a sound agent tells by them of its requests and lines.
-use Rattle.std.proofs.Common.{ℕ, ◌+◌, ◌≡◌, ◌≢◌, Bool, true, false, cond, Some, None, List, [], ◌∷◌, ◌++◌, refl, sym, ap}
-use Rattle.std.proofs.Common.{◌∙◌, inl, inr, arith}
+use Rattle.std.proofs.Common.{ℕ, ◌+◌, ◌≡◌, ◌≢◌, Bool, true, cond, Some, None, List, [], ◌∷◌, ◌++◌, refl, sym, ap, ◌∙◌}
+use Rattle.std.proofs.Common.{inl, inr, arith}
 use Rattle.std.specs.Prelude.{◌==◌, ◌||◌, count_by, is_none, is_some}
 use Rattle.std.specs.Bool.{beq}
 use Rattle.std.specs.List.{find}
-use Rattle.std.proofs.lemmas.Bool.{cases_Bool, eqb-true, ne_eqb}
+use Rattle.std.proofs.lemmas.Bool.{cases_Bool, eqb-true}
 use Rattle.std.proofs.lemmas.List.Sums.{sum_by-cons}
 use Rattle.fsb_cache.specs.Sets.{slot_of}
 use Rattle.fsb_linebuf.specs.declared.entry.Fill.{Fill}
@@ -19,14 +19,7 @@ use Rattle.fsb_agent_view.proofs.Interface.{both_left, both_right, list_all-foun
 pub fill_on-without : (line other : ℕ) (fills : List Fill) → line ≢ other
     → fill_on line (fills_without other fills) ≡ fill_on line fills
 fill_on-without line other [] apart = refl
-fill_on-without line other (f ∷ fills) apart =
-    rw (without_first-cons (is_fill_on other) f fills)
-    (elim (cases_Bool (f.line == other)) [
-      | inl on ↦
-          let is : f.line ≡ other = grind arith in
-          rw (on, ne_eqb f.line line (λ e. apart (sym e ∙ is))) refl
-      | inr off ↦ rw off (ap (λ rest. cond (f.line == line) (Some f) rest) (fill_on-without line other fills apart))
-    ])
+fill_on-without line other (f ∷ fills) apart = grind (arith, fill_on-without line other fills apart)
 
 -- how many are promised
 abbrev pub promised_count : List Fill → ℕ
@@ -51,8 +44,7 @@ promised_count-without line [] = refl
 promised_count-without line (f ∷ fills) =
     elim (cases_Bool (f.line == line)) [
       | inl on ↦
-          let rest : fills_without line (f ∷ fills) ≡ fills =
-          without_first-cons (is_fill_on line) f fills ∙ ap (λ b. cond b fills (f ∷ fills_without line fills)) on in
+          let rest : fills_without line (f ∷ fills) ≡ fills = grind arith in
           let promise : promise_on line (f ∷ fills) ≡ f.promise = rw on refl in
           omega (
             arith,
@@ -80,11 +72,7 @@ promised_count-without line (f ∷ fills) =
 -- what is found passes
 pub found-passes : {X : Type 0} (test : X → Bool) (xs : List X) (x : X) → find test xs ≡ Some x → test x ≡ true
 found-passes test [] x found = absurd (let h : ⊥ = cc in h)
-found-passes test (y ∷ ys) x found =
-    elim (cases_Bool (test y)) [
-      | inl on ↦ let same : Some y ≡ Some x = rw on at found in (let is : y ≡ x = cc in ap test (sym is) ∙ on)
-      | inr off ↦ found-passes test ys x (rw off at found)
-    ]
+found-passes test (y ∷ ys) x found = grind (arith, found-passes test ys x)
 
 -- a request that is found has that number, and is found by it
 pub found_number : (number : ℕ) (outs : List OwnRequest) (out : OwnRequest)
@@ -98,10 +86,7 @@ sound_out v out s found = list_all-found (is_sound_request v.lines v.buffers.fil
     (is_numbered out.number) v.outs out s.requests found
 
 same_bool : (a b : Bool) → beq a b ≡ true → a ≡ b
-same_bool true true h = refl
-same_bool true false h = sym h
-same_bool false true h = h
-same_bool false false h = refl
+same_bool a b h1 = grind arith
 
 pub fill_out : (v : AgentView) (out : OwnRequest) → IsSound v → request_numbered out.number v.outs ≡ Some out
     → is_some (fill_on out.request.line v.buffers.fills) ≡ out.granted

@@ -1,9 +1,8 @@
 -- The view of an agent before any event is that of the run at its first clock.
-use Rattle.std.proofs.Common.{ℕ, zero, suc, ◌+◌, ◌≡◌, Bool, true, false, not, ◌&&◌, List, [], ◌∷◌, Option, Some, None}
-use Rattle.std.proofs.Common.{replicate, get_or, nat_eq, nat_lt, ◌%◌, length, refl, sym, ap, ◌∙◌, arith}
+use Rattle.std.proofs.Common.{ℕ, zero, suc, ◌+◌, ◌≡◌, Bool, false, not, ◌&&◌, List, [], ◌∷◌, Option, None, replicate}
+use Rattle.std.proofs.Common.{get_or, nat_eq, ◌%◌, length, refl, sym, ap, ◌∙◌, arith}
 use Rattle.std.specs.List.{list_any, slice_get}
 use Rattle.std.specs.Option.{option_map, option_map_or}
-use Rattle.std.proofs.lemmas.Bool.{and_right, le-ltb}
 use Rattle.std.proofs.lemmas.List.{length-replicate}
 use Rattle.fsb_count.specs.Clocks.{holds_since, last_where}
 use Rattle.fsb_count.specs.Options.{is_some_and}
@@ -33,9 +32,7 @@ first_of p a = first_view a (items_of p a) p.plan.cache p.plan.ahead p.plan.prof
 none-done : (a n : ℕ) (log : List Done) → list_any (λ done. is_done_by a 0 done && nat_eq done.item n) log ≡ false
 unfolding is_done_by
 none-done a n [] = refl
-none-done a n (done ∷ log) =
-    let early : nat_lt done.clock 0 ≡ false = le-ltb done.clock 0 (omega arith) in
-    rw (early, and_right (nat_eq done.agent a) false refl) (none-done a n log)
+none-done a n (done ∷ log) = grind (arith, none-done a n log)
 
 to-do-first : (p : Past) (a n : ℕ)
     → is_to_do p a 0 n ≡ is_some_and (slice_get (items_of p a) n) (λ item. not (is_idle item))
@@ -44,15 +41,10 @@ to-do-first p a n =
     rw (none-done a n p.log) (whole (is_some_and (slice_get (items_of p a) n) (λ item. not (is_idle item))))
   where
     whole : (b : Bool) → (b && not false) ≡ b
-    whole true = refl
-    whole false = refl
+    whole b = grind arith
 
 none-last : (p : Past) (a : ℕ) → last_done p a 0 ≡ None
-none-last p a = by (last_done p a 0) refl
-  where
-    by : (o : Option Done) → last_done p a 0 ≡ o → last_done p a 0 ≡ None
-    by None e = e
-    by (Some done) e = absurd (let l = done-before p a 0 done e in omega arith)
+none-last p a = grind (arith, done-before)
 
 place-first : (p : Past) (a : ℕ) → place_of (items_of p a) (next_number p a 0) ≡ place_from (items_of p a) 0
 unfolding next_number

@@ -1,14 +1,13 @@
 -- The requests whose bytes an agent gives in a timely run.
-use Rattle.std.proofs.Common.{ℕ, ◌+◌, ◌<◌, ◌≤◌, ◌≡◌, ◌≢◌, ◌⊎◌, Bool, true, false, not, ◌&&◌, ◌||◌, if◌then◌else◌}
-use Rattle.std.proofs.Common.{Option, Some, None, length, nat_eq, refl, sym, ap, subst, ◌∙◌, inl, inr, arith}
-use Rattle.std.proofs.lemmas.Bool.{and_parts, eqb-false, eqb-true, false_from_ne_true, not-true}
+use Rattle.std.proofs.Common.{ℕ, ◌+◌, ◌<◌, ◌≤◌, ◌≡◌, ◌≢◌, ◌⊎◌, Bool, true, false, ◌&&◌, ◌||◌, if◌then◌else◌, Some}
+use Rattle.std.proofs.Common.{None, length, nat_eq, refl, sym, ap, ◌∙◌, arith}
+use Rattle.std.proofs.lemmas.Bool.{eqb-true, false_from_ne_true}
 use Rattle.fsb_count.specs.Options.{is_at, is_some_and}
 use Rattle.fsb_count.proofs.Interface.{any_where-off, first_where-found, is_at-some}
 use Rattle.fsb_encode.specs.declared.request.Kind.{Kind}
-use Rattle.fsb_encode.specs.declared.request.Kind.TheVariants.{Invalidate, Read, Reply, Upgrade, WriteBack}
+use Rattle.fsb_encode.specs.declared.request.Kind.TheVariants.{WriteBack}
 use Rattle.fsb_trace.specs.declared.outcome.Outcome.{Outcome}
-use Rattle.fsb_trace.specs.declared.outcome.Outcome.TheVariants.{Granted, Handed, Retried, Deferred, Written, Replied}
-use Rattle.fsb_trace.specs.declared.outcome.Outcome.TheVariants.{Failed, Upgraded}
+use Rattle.fsb_trace.specs.declared.outcome.Outcome.TheVariants.{Handed, Written}
 use Rattle.fsb_timely.specs.Past.{Claim, Grant, Past, SnoopEnd}
 use Rattle.fsb_timely.specs.Grants.{begun_at, is_granted, snooped_at}
 use Rattle.fsb_timely.specs.Hits.{is_dirty}
@@ -16,17 +15,13 @@ use Rattle.fsb_timely.specs.Moments.{is_got, is_upgraded, makes_grant}
 use Rattle.fsb_timely.specs.Runs.{Run, past_of, past_to}
 use Rattle.fsb_timely.specs.Timely.{Timely}
 use Rattle.fsb_lawful.specs.Beginning.{KeepsBounds}
-use Rattle.fsb_lawful.proofs.Interface.{and-then, some-and}
+use Rattle.fsb_lawful.proofs.Interface.{some-and}
 use Rattle.fsb_coherent.specs.Awaits.{owner_at, responded_in}
 use Rattle.fsb_coherent.specs.Facts.{IsSettledOn}
 use Rattle.fsb_coherent.specs.Fitting.{IsSnoopOn, fits_getting, fits_kind, fits_upgrade, fits_write_back}
 use Rattle.fsb_coherent.specs.Relation.{giver_at, is_responded_below}
 use Rattle.fsb_tied.proofs.Interface.{answers-in-order, clock-facts, granted-parts}
 use Rattle.fsb_agent_run.specs.BytesOwed.{claim_given_at, claim_given_by, gives_claim, is_given_below}
-
-pub some-if : {A : Type 0} (b : Bool) (x y : A) → (if b then Some x else None) ≡ Some y → (b ≡ true) × (x ≡ y)
-some-if true x y e = (refl, cc)
-some-if false x y e = absurd (let no : ⊥ = cc in no)
 
 -- how an agent gives bytes by a snoop end: it hands its line over to another, being dirty on it, or writes it back
 pub record GivesBy (p : Past) (a t : ℕ) (s : SnoopEnd) (claim : Claim) : Type 0 where
@@ -36,22 +31,7 @@ pub record GivesBy (p : Past) (a t : ℕ) (s : SnoopEnd) (claim : Claim) : Type 
 pub gives-by : (p : Past) (a t : ℕ) (s : SnoopEnd) (claim : Claim) → gives_claim p a t s claim ≡ true
     → GivesBy p a t s claim
 unfolding gives_claim giver_at owner_at is_at is_some_and
-gives-by p a t s claim e = by s.outcome refl
-  where
-    by : (outcome : Outcome) → s.outcome ≡ outcome → GivesBy p a t s claim
-    by Granted f = absurd (let no : ⊥ = (let e' = rw f at e in cc) in no)
-    by Handed f =
-        let test : ℕ → Bool = λ b. not (nat_eq b claim.agent) && is_dirty (past_to p t) b claim.line t in
-        let e' : is_at (owner_at (past_to p t) claim.agent claim.line t) a ≡ true = rw f at e in
-        let found = first_where-found test 4 a (is_at-some (owner_at (past_to p t) claim.agent claim.line t) a e') in
-        let parts = and_parts (not (nat_eq a claim.agent)) (is_dirty (past_to p t) a claim.line t) found.1 in
-        record { way = inl (f, eqb-false a claim.agent (not-true (nat_eq a claim.agent) parts.0), parts.1) }
-    by Retried f = absurd (let no : ⊥ = (let e' = rw f at e in cc) in no)
-    by Deferred f = absurd (let no : ⊥ = (let e' = rw f at e in cc) in no)
-    by Written f = record { way = inr (f, eqb-true claim.agent a (rw f at e)) }
-    by Replied f = absurd (let no : ⊥ = (let e' = rw f at e in cc) in no)
-    by Failed f = absurd (let no : ⊥ = (let e' = rw f at e in cc) in no)
-    by Upgraded f = absurd (let no : ⊥ = (let e' = rw f at e in cc) in no)
+gives-by p a t s claim e = grind (arith, first_where-found)
 
 -- the snoop end by which an agent gives bytes
 pub record GivesAt (p : Past) (a t : ℕ) (claim : Claim) : Type 0 where
@@ -62,16 +42,7 @@ pub record GivesAt (p : Past) (a t : ℕ) (claim : Claim) : Type 0 where
 
 pub gives-at : (p : Past) (a t : ℕ) (claim : Claim) → claim_given_at p a t ≡ Some claim → GivesAt p a t claim
 unfolding claim_given_at claim_given_by
-gives-at p a t claim e =
-    let s = and-then (claim_given_by p a t) (snooped_at p t) claim e in
-    let c = and-then (λ (x : Claim). if gives_claim p a t s.0 x then Some x else None) s.0.claim claim s.2 in
-    let k = some-if (gives_claim p a t s.0 c.0) c.0 claim c.2 in
-    record {
-      end = s.0;
-      there = s.1;
-      claimed = c.1 ∙ ap Some k.1;
-      gives = subst (λ (x : Claim). gives_claim p a t s.0 x ≡ true) k.1 k.0;
-    }
+gives-at p a t claim e = grind arith
 
 pub claim-given : (p : Past) (a t : ℕ) (s : SnoopEnd) (claim : Claim) → snooped_at p t ≡ Some s → s.claim ≡ Some claim
     → claim_given_at p a t ≡ (if gives_claim p a t s claim then Some claim else None)
@@ -97,10 +68,7 @@ pub record Given (r : Run) (a t : ℕ) (claim : Claim) : Type 0 where
 pub same-first : (p : Past) (line t : ℕ) (s : SnoopEnd) (claim : Claim) → s.claim ≡ Some claim
     → (k : IsSnoopOn p line t s)
     → (claim.first ≡ s.first) × (claim.agent ≡ k.agent)
-same-first p line t s claim e k =
-    let both : Some claim ≡ Some (record { first = s.first; agent = k.agent; line = line }) = sym e ∙ k.claimed in
-    let same : claim ≡ record { first = s.first; agent = k.agent; line = line } = cc in
-    (ap (λ (x : Claim). x.first) same, ap (λ (x : Claim). x.agent) same)
+same-first p line t s claim e k = grind arith
 
 pub given : (r : Run) (a t : ℕ) (claim : Claim) → Timely r → KeepsBounds r.plan → t < length r.trace
     → claim_given_at (past_of r) a t ≡ Some claim → Given r a t claim
@@ -120,62 +88,19 @@ given r a t claim h bounds l e =
 pub written-kind : (kind : Kind) (outcome : Outcome) → outcome ≡ Written → fits_kind kind outcome ≡ true
     → kind ≡ WriteBack
 unfolding fits_kind fits_getting fits_upgrade fits_write_back
-written-kind Reply outcome e fits = absurd (let no : ⊥ = cc in no)
-written-kind WriteBack outcome e fits = refl
-written-kind Invalidate outcome e fits = absurd (let no : ⊥ = (let f = rw e at fits in cc) in no)
-written-kind Read outcome e fits = absurd (let no : ⊥ = (let f = rw e at fits in cc) in no)
-written-kind Upgrade outcome e fits = absurd (let no : ⊥ = (let f = rw e at fits in cc) in no)
+written-kind kind outcome h1 h2 = grind arith
 
 -- what is written back makes no grant
 pub written-ungranted : (kind : Kind) (outcome : Outcome) (won : Bool) (grant : Grant) → outcome ≡ Written
     → fits_kind kind outcome ≡ true
     → (if makes_grant kind outcome || (is_upgraded outcome && won) then Some grant else None) ≡ None
 unfolding fits_kind fits_getting fits_upgrade fits_write_back makes_grant is_got is_upgraded
-written-ungranted Reply outcome won grant e fits = absurd (let no : ⊥ = cc in no)
-written-ungranted WriteBack outcome won grant e fits = rw e refl
-written-ungranted Invalidate outcome won grant e fits = rw e refl
-written-ungranted Read outcome won grant e fits = rw e refl
-written-ungranted Upgrade outcome won grant e fits = rw e refl
-
-pub granted-if : (b : Bool) (o : Option Grant) (x grant : Grant) → o ≡ (if b then Some x else None) → o ≡ Some grant
-    → x ≡ grant
-granted-if true o x grant e f = let both = sym e ∙ f in cc
-granted-if false o x grant e f = absurd (let both = sym e ∙ f in let no : ⊥ = cc in no)
+written-ungranted kind outcome won grant h1 h2 = grind arith
 
 -- an agent that gives bytes by a snoop end is granted no line there
 pub given-ungranted : (r : Run) (a t line : ℕ) (claim : Claim) → Given r a t claim
     → is_granted (past_of r) a line t ≡ false
-given-ungranted r a t line claim k = false_from_ne_true (is_granted (past_of r) a line t) none
-  where
-    none : is_granted (past_of r) a line t ≡ true → ⊥
-    none e =
-        let p : Past = past_of r in
-        let s : SnoopEnd = k.at.end in
-        let fits = k.settled.fits in
-        let g = granted-parts p a line t e in
-        let both : Some g.0 ≡ Some s = sym g.2 ∙ k.at.there in
-        let same : g.0 ≡ s = cc in
-        let made : s.grant ≡ Some g.1 = ap (λ (x : SnoopEnd). x.grant) (sym same) ∙ g.3 in
-        elim (gives-by p a t s claim k.at.gives).way [
-          | inl handed ↦
-              let x : Grant =
-              record {
-                first = s.first;
-                agent = fits.agent;
-                line = claim.line;
-                owns = fits.owns;
-                shared = fits.shared;
-              } in
-              let is : x ≡ g.1 = granted-if (makes_grant fits.kind s.outcome ||
-              (is_upgraded s.outcome && fits.won)) s.grant x g.1 fits.granted made in
-              let agent : fits.agent ≡ a = ap (λ (y : Grant). y.agent) is ∙ g.4 in
-              handed.1 (sym agent ∙ sym (same-first p claim.line t s claim k.at.claimed fits).1)
-          | inr written ↦
-              let none = fits.granted
-              ∙ written-ungranted fits.kind s.outcome fits.won _ written.0 (fits.fits (λ kind handed. let no : ⊥ =
-              (let both = sym written.0 ∙ handed in cc) in no)) in
-              (let no : ⊥ = (let both = sym none ∙ made in cc) in no)
-        ]
+given-ungranted r a t line claim k = grind (arith, granted-parts, gives-by, written-ungranted)
 
 -- a request has no response up to one clock behind its snoop end
 pub unresponded : (r : Run) (t n : ℕ) (s : SnoopEnd) → Timely r → n ≤ length r.trace → n ≤ t + 2

@@ -3,12 +3,11 @@
 use Rattle.std.proofs.Common.{ℕ, ◌+◌, ◌<◌, ◌≤◌, ◌≡◌, Bool, true, false, ◌&&◌, ◌||◌, if◌then◌else◌, Option, Some, None}
 use Rattle.std.proofs.Common.{length, nat_eq, refl, sym, ap, subst, ◌∙◌, arith}
 use Rattle.std.specs.Option.{option_and_then}
-use Rattle.std.proofs.lemmas.Bool.{both_ways, eq-eqb, eqb-true, false_from_ne_true}
+use Rattle.std.proofs.lemmas.Bool.{both_ways, eqb-true, false_from_ne_true}
 use Rattle.fsb_count.specs.Clocks.{first_where}
 use Rattle.fsb_count.specs.Options.{is_at, is_some_and}
 use Rattle.fsb_count.proofs.Interface.{any_where-at, any_where-off, first_where-at}
 use Rattle.fsb_encode.specs.declared.request.Kind.{Kind}
-use Rattle.fsb_encode.specs.declared.request.Kind.TheVariants.{Invalidate, Read, Reply, Upgrade, WriteBack}
 use Rattle.fsb_trace.specs.declared.outcome.Outcome.{Outcome}
 use Rattle.fsb_trace.specs.declared.outcome.Outcome.TheVariants.{Granted, Handed, Retried, Deferred, Written, Replied}
 use Rattle.fsb_trace.specs.declared.outcome.Outcome.TheVariants.{Failed, Upgraded}
@@ -19,7 +18,8 @@ use Rattle.fsb_timely.specs.Runs.{Run, past_of}
 use Rattle.fsb_timely.specs.Timely.{Timely}
 use Rattle.fsb_lawful.specs.Beginning.{KeepsBounds}
 use Rattle.fsb_lawful.proofs.Interface.{some-and}
-use Rattle.fsb_coherent.specs.Awaits.{Awaited, awaited_by, awaited_by_claim, awaited_by_grant, is_written, responded_in}
+use Rattle.fsb_coherent.specs.Awaits.{Awaited, awaited_by, awaited_by_claim, awaited_by_grant, is_written}
+use Rattle.fsb_coherent.specs.Awaits.{responded_in}
 use Rattle.fsb_coherent.specs.Fitting.{fits_kind, fits_write_back}
 use Rattle.fsb_coherent.specs.Relation.{giver_at}
 use Rattle.fsb_tied.proofs.Interface.{answers-in-order, awaits-grant, clock-facts, is-found, none-before, uncontested}
@@ -32,11 +32,7 @@ use Rattle.fsb_agent_run.proofs.GivenBytes.{claim-given, given, none-claimed, sa
 unnamed : (p : Past) (t : ℕ) (s : SnoopEnd) → ((a line : ℕ) → giver_at p line t a s ≡ None)
     → giver_after_snoop p t s ≡ None
 unfolding giver_after_snoop
-unnamed p t s none = by (awaited_by s)
-  where
-    by : (o : Option Awaited) → option_and_then (λ awaited. giver_at p awaited.line t awaited.agent s) o ≡ None
-    by None = refl
-    by (Some awaited) = none awaited.agent awaited.line
+unnamed p t s none = grind arith
 
 awaits : (p : Past) (t : ℕ) (s : SnoopEnd) (awaited : Awaited) → awaited_by s ≡ Some awaited
     → giver_after_snoop p t s ≡ giver_at p awaited.line t awaited.agent s
@@ -47,11 +43,7 @@ handed-granted : (kind : Kind) (outcome : Outcome) (won : Bool) (grant : Grant) 
     → fits_kind kind outcome ≡ true
     → (if makes_grant kind outcome || (is_upgraded outcome && won) then Some grant else None) ≡ Some grant
 unfolding fits_kind fits_write_back makes_grant is_got is_upgraded
-handed-granted Reply outcome won grant e fits = absurd (let no : ⊥ = cc in no)
-handed-granted WriteBack outcome won grant e fits = absurd (let no : ⊥ = (let f = rw e at fits in cc) in no)
-handed-granted Invalidate outcome won grant e fits = rw e refl
-handed-granted Read outcome won grant e fits = rw e refl
-handed-granted Upgrade outcome won grant e fits = rw e refl
+handed-granted kind outcome won grant h1 h2 = grind arith
 
 by-grant : (outcome : Outcome) (grant : Grant) → ((awaited_by_grant outcome grant).line ≡ grant.line)
     × ((awaited_by_grant outcome grant).agent ≡ grant.agent)
@@ -82,8 +74,7 @@ named-giver r t s claim h bounds l there claims = by s.outcome refl
     awaiting : (awaited : Awaited) → awaited_by s ≡ Some awaited → awaited.line ≡ claim.line
         → awaited.agent ≡ claim.agent
         → giver_after_snoop (past_of r) t s ≡ giver_at (past_of r) claim.line t claim.agent s
-    awaiting awaited e names agent =
-        awaits (past_of r) t s awaited e ∙ (λ i. giver_at (past_of r) (names i) t (agent i) s)
+    awaiting awaited e names agent = grind (arith, awaits)
 
     by : (outcome : Outcome) → s.outcome ≡ outcome
         → giver_after_snoop (past_of r) t s ≡ giver_at (past_of r) claim.line t claim.agent s
@@ -202,8 +193,7 @@ given-there r a c q h bounds l k (Some claim) claims =
     let before : k.at + 2 ≤ c = k.before in
     let fits = ((clock-facts r claim.line k.at h bounds
     (omega arith)).settles.settled k.end claim k.there claims refl).fits in
-    let first : nat_eq claim.first q ≡ true =
-    eq-eqb claim.first q ((same-first (past_of r) claim.line k.at k.end claim claims fits).0 ∙ k.first) in
+    let first : nat_eq claim.first q ≡ true = grind arith in
     ap (λ o. is_some_and o (λ (x : Claim). nat_eq x.first q)) (claim-given
     (past_of r) a k.at k.end claim k.there claims)
     ∙ either (gives_claim (past_of r) a k.at k.end claim) first
@@ -211,8 +201,7 @@ given-there r a c q h bounds l k (Some claim) claims =
   where
     either : (b : Bool) → nat_eq claim.first q ≡ true
         → is_some_and (if b then Some claim else None) (λ (x : Claim). nat_eq x.first q) ≡ b
-    either true e = e
-    either false e = refl
+    either b h1 = grind arith
 
 pub given-named : (r : Run) (a c q : ℕ) → Timely r → KeepsBounds r.plan → c < length r.trace
     → responded_in (past_of r) c ≡ Some q → is_given_below (past_of r) a c q ≡ is_at (giver_of (past_of r) c q) a

@@ -1,10 +1,9 @@
 -- A line is granted only to who awaits no earlier grant of it; so an end that comes is that of the latest grant.
-use Rattle.std.proofs.Common.{ℕ, zero, suc, ◌+◌, ◌<◌, ◌≤◌, ◌≡◌, Bool, true, false, not, ◌||◌, List, [], ◌∷◌, ◌++◌}
-use Rattle.std.proofs.Common.{Option, Some, None, refl, sym, ap, subst, ◌∙◌, inl, inr, arith, if◌then◌else◌}
+use Rattle.std.proofs.Common.{ℕ, zero, suc, ◌+◌, ◌<◌, ◌≤◌, ◌≡◌, Bool, true, false, ◌||◌, List, [], ◌∷◌, ◌++◌, Option}
+use Rattle.std.proofs.Common.{Some, None, refl, sym, ap, subst, ◌∙◌, inl, inr, arith, if◌then◌else◌}
 use Rattle.std.specs.Prelude.{◌==◌}
-use Rattle.std.specs.Option.{option_and_then, option_map_or}
-use Rattle.std.proofs.lemmas.Bool.{both_ways, cases_Bool, cases_lt, eq-eqb, false_from_ne_true, not-true, or_parts}
-use Rattle.fsb_count.specs.Clocks.{last_where}
+use Rattle.std.specs.Option.{option_and_then}
+use Rattle.std.proofs.lemmas.Bool.{both_ways, cases_lt}
 use Rattle.fsb_count.proofs.Interface.{any_where-found}
 use Rattle.fsb_line.specs.declared.link.Link.{Link}
 use Rattle.fsb_line.specs.Links.{is_linked}
@@ -15,7 +14,6 @@ use Rattle.fsb_timely.proofs.Interface.{last_where-found, last_where-from}
 use Rattle.fsb_coherent.specs.Awaits.{Awaited, awaited_by, awaited_by_grant}
 use Rattle.fsb_coherent.specs.Relation.{chain_below, link_for, link_left, links_left}
 use Rattle.fsb_coherent.proofs.Interface.{some-there}
-use Rattle.fsb_lawful.proofs.Interface.{and-then}
 use Rattle.fsb_tied.proofs.Interface.{awaits-grant, clock-facts, ended-number, events-may-happen, grant-first}
 use Rattle.fsb_tied.proofs.Interface.{granted-parts, live-at}
 use Rattle.fsb_run_laws.specs.Reaches.{Reaches}
@@ -27,16 +25,14 @@ linked-append a (x ∷ xs) ys =
     ap (λ b. (x.agent == a) || b) (linked-append a xs ys) ∙ grouped (x.agent == a) (is_linked a xs) (is_linked a ys)
   where
     grouped : (u v w : Bool) → (u || (v || w)) ≡ ((u || v) || w)
-    grouped true v w = refl
-    grouped false v w = refl
+    grouped u v w = grind arith
 
 -- an end that is awaited by an agent is a link of it, as long as it has not come
 link-there : (p : Past) (a line n t : ℕ) (s : SnoopEnd) (awaited : Awaited) → is_ended p n s.first ≡ false
     → awaited_by s ≡ Some awaited → awaited.line ≡ line → awaited.agent ≡ a
     → is_linked a (link_left p line n t s) ≡ true
 unfolding link_left link_for
-link-there p a line n t s awaited unended awaits names mine =
-    rw (unended, awaits, eq-eqb awaited.line line names, eq-eqb awaited.agent a mine) refl
+link-there p a line n t s awaited unended awaits names mine = grind arith
 
 pub unlinked-ended : (p : Past) (a line n b t : ℕ) (s : SnoopEnd) (awaited : Awaited)
     → is_linked a (links_left p line n b) ≡ false → t < b → snooped_at p t ≡ Some s → awaited_by s ≡ Some awaited
@@ -44,23 +40,7 @@ pub unlinked-ended : (p : Past) (a line n b t : ℕ) (s : SnoopEnd) (awaited : A
 unfolding links_left
 unlinked-ended p a line n zero t s awaited none l there awaits names mine = absurd (omega arith)
 unlinked-ended p a line n (suc b) t s awaited none l there awaits names mine =
-    let here = option_map_or (link_left p line n b) (snooped_at p b) [] in
-    let parts = or_parts (is_linked a (links_left p line n b)) (is_linked a here)
-    (sym (linked-append a (links_left p line n b) here) ∙ none) in
-    elim (cases_lt t b) [
-      | inl m ↦ unlinked-ended p a line n b t s awaited parts.0 m there awaits names mine
-      | inr m ↦
-          let same : t ≡ b = omega arith in
-          let last : snooped_at p b ≡ Some s = subst (λ k. snooped_at p k ≡ Some s) same there in
-          let off : is_linked a (link_left p line n b s) ≡ false =
-          sym (ap (λ o. is_linked a (option_map_or (link_left p line n b) o [])) last) ∙ parts.1 in
-          elim (cases_Bool (is_ended p n s.first)) [
-            | inl ended ↦ ended
-            | inr unended ↦
-                absurd (both_ways (is_linked a (link_left p line n b s)) off
-                (link-there p a line n b s awaited unended awaits names mine))
-          ]
-    ]
+    grind (arith, linked-append, link-there, unlinked-ended p a line n b t s awaited)
 
 made : (b : Bool) (mine grant : Grant) → (if b then Some mine else None) ≡ Some grant → mine ≡ grant
 made true mine grant e = (let same : mine ≡ grant = cc in same)
@@ -113,34 +93,19 @@ earlier-ended r a line t u s grant h l granted there grants agent names =
 pub latest-says : (p : Past) (a line n : ℕ) (grant : Grant) → latest_grant p a line n ≡ Some grant
     → (t : ℕ) × (t < n) × (is_granted p a line t ≡ true) × (grant_at p t ≡ Some grant)
 unfolding latest_grant
-latest-says p a line n grant e =
-    let k = and-then (grant_at p) (last_where (is_granted p a line) n) grant e in
-    let found = last_where-found (is_granted p a line) n k.0 k.1 in
-    (k.0, found.0, found.1, k.2)
+latest-says p a line n grant e = grind (arith, last_where-found)
 
 grant-is : (p : Past) (t : ℕ) (s : SnoopEnd) (grant other : Grant) → snooped_at p t ≡ Some s → s.grant ≡ Some grant
     → grant_at p t ≡ Some other → grant ≡ other
 unfolding grant_at
-grant-is p t s grant other there grants e =
-    let both : Some grant ≡ Some other = sym (ap (option_and_then (λ (x : SnoopEnd). x.grant)) there ∙ grants) ∙ e in
-    cc
+grant-is p t s grant other there grants e = grind arith
 
 -- a line is granted only to who awaits no earlier grant of it
 pub granted-unawaited : (r : Run) (a line u : ℕ) → Reaches r (u + 1) → is_granted (past_of r) a line u ≡ true
     → is_awaited (past_of r) a line u u ≡ false
 unfolding is_awaited
-granted-unawaited r a line u h granted = false_from_ne_true _ (λ e.
-    let p = past_of r in
-    let long = h.long in
-    let k = some-there (latest_grant p a line u) (λ g. not (is_ended p u g.first)) e in
-    let t = latest-says p a line u k.0 k.1 in
-    let l = t.1 in
-    let g = granted-parts p a line t.0 t.2 in
-    let same : g.1 ≡ k.0 = grant-is p t.0 g.0 g.1 k.0 g.2 g.3 t.3 in
-    let first = grant-first r a line t.0 g.0 g.1 (omega arith) g.2 g.3 t.2 in
-    let ended = earlier-ended r a line t.0 u g.0 g.1 h l granted g.2 g.3 g.4 g.5 in
-    both_ways (is_ended p u k.0.first) (not-true (is_ended p u k.0.first) k.2)
-    (ap (is_ended p u) (sym (ap (λ (x : Grant). x.first) same) ∙ first) ∙ ended))
+granted-unawaited r a line u h granted =
+    grind (arith, some-there, latest-says, granted-parts, grant-is, grant-first, earlier-ended)
 
 -- a request ends once
 pub end-once : (r : Run) (x c q : ℕ) → Reaches r (c + 1) → x ≤ c → is_end_at (past_of r) x q ≡ true
@@ -159,11 +124,7 @@ end-once r x c q h l first second =
 pub not-ended : (r : Run) (c n q : ℕ) → Reaches r (c + 1) → n ≤ c → is_end_at (past_of r) c q ≡ true
     → is_ended (past_of r) n q ≡ false
 unfolding is_ended
-not-ended r c n q h l e = false_from_ne_true _ (λ t.
-    let x = any_where-found (λ t. is_end_at (past_of r) t q) n t in
-    let below = x.1 in
-    let same = end-once r x.0 c q h (omega arith) x.2 e in
-    omega arith)
+not-ended r c n q h l e = grind (arith, any_where-found, end-once)
 
 -- the end of a grant that comes is that of the latest one
 pub latest-ends : (r : Run) (a line t c : ℕ) (s : SnoopEnd) (grant : Grant) → Reaches r (c + 1) → t ≤ c

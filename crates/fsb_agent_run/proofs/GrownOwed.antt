@@ -1,22 +1,19 @@
 -- What an agent owes stays as it is where the run grows by a clock.
-use Rattle.std.proofs.Common.{ℕ, zero, suc, ◌+◌, ◌<◌, ◌≤◌, ◌≡◌, Bool, false, not, ◌&&◌, if◌then◌else◌, nat_eq, List, []}
-use Rattle.std.proofs.Common.{◌∷◌, nat_le, take, slice_get, length, Option, Some, None, refl, sym, ap, ◌∙◌, inl, inr}
-use Rattle.std.proofs.Common.{arith}
-use Rattle.std.proofs.lemmas.Bool.{cases_lt, eqb-true, false_from_ne_true}
-use Rattle.std.specs.List.{list_any}
-use Rattle.std.specs.Option.{option_and_then, option_map, option_map_or}
-use Rattle.fsb_count.specs.Clocks.{AgreeBelow, from_clock, last_where}
-use Rattle.fsb_count.specs.Options.{is_at, is_some_and}
+use Rattle.std.proofs.Common.{ℕ, zero, suc, ◌+◌, ◌<◌, ◌≤◌, ◌≡◌, Bool, false, if◌then◌else◌, nat_eq, List, [], ◌∷◌}
+use Rattle.std.proofs.Common.{take, slice_get, length, Option, refl, sym, ap, ◌∙◌, arith}
+use Rattle.std.proofs.lemmas.Bool.{eqb-true, false_from_ne_true}
+use Rattle.std.specs.Option.{option_and_then}
+use Rattle.fsb_count.specs.Clocks.{from_clock, last_where}
+use Rattle.fsb_count.specs.Options.{is_some_and}
 use Rattle.fsb_count.proofs.Interface.{any_where-off, any_where-same, count_where-same}
-use Rattle.fsb_trace.specs.declared.outcome.Outcome.TheVariants as outcomes
 use Rattle.fsb_timely.specs.Grants.{begun_at, ended_requests, grant_at, is_end_at, is_ended, is_granted, latest_grant}
 use Rattle.fsb_timely.specs.Grants.{snooped_at}
 use Rattle.fsb_timely.specs.Growth.{GrowsTo, IsWhole}
-use Rattle.fsb_timely.specs.Past.{Claim, Grant, Moment, Past, SnoopEnd}
+use Rattle.fsb_timely.specs.Past.{Claim, Moment, Past, SnoopEnd}
 use Rattle.fsb_timely.specs.Runs.{Run, past_of, past_to}
 use Rattle.fsb_timely.proofs.Interface.{last-same, last_where-found, past-same, tied-snoop}
 use Rattle.fsb_lawful.proofs.Interface.{some-and}
-use Rattle.fsb_coherent.specs.Awaits.{owner_at, responded_in}
+use Rattle.fsb_coherent.specs.Awaits.{responded_in}
 use Rattle.fsb_coherent.specs.Relation.{giver_at, is_responded_below}
 use Rattle.fsb_tied.proofs.Interface.{snooped-by}
 use Rattle.fsb_run_laws.specs.Reaches.{Reaches}
@@ -62,8 +59,7 @@ snooped-same n p q t h l = ap (option_and_then (λ (m : Moment). m.snooped)) (h.
 
 begun-same : (n : ℕ) (p q : Past) (t : ℕ) → SharesBelow n p q → t < n → begun_at p t ≡ begun_at q t
 unfolding begun_at
-begun-same n p q t h l =
-    ap (λ o. option_map (λ owing. owing.claim) (option_and_then (λ (m : Moment). m.begun) o)) (h.moments t l)
+begun-same n p q t h l = grind arith
 
 responded-same : (n : ℕ) (p q : Past) (t : ℕ) → SharesBelow n p q → t < n → responded_in p t ≡ responded_in q t
 unfolding responded_in
@@ -71,8 +67,7 @@ responded-same n p q t h l = ap (option_and_then (λ (m : Moment). m.responded))
 
 end-same : (n : ℕ) (p q : Past) (t x : ℕ) → SharesBelow n p q → t < n → is_end_at p t x ≡ is_end_at q t x
 unfolding is_end_at ended_requests
-end-same n p q t x h l =
-    ap (λ o. list_any (nat_eq x) (option_map_or (λ (m : Moment). m.ended) o [])) (h.moments t l)
+end-same n p q t x h l = grind arith
 
 grant-same : (n : ℕ) (p q : Past) (t : ℕ) → SharesBelow n p q → t < n → grant_at p t ≡ grant_at q t
 unfolding grant_at
@@ -81,114 +76,59 @@ grant-same n p q t h l = ap (option_and_then (λ (s : SnoopEnd). s.grant)) (snoo
 granted-same : (n : ℕ) (p q : Past) (a line t : ℕ) → SharesBelow n p q → t < n
     → is_granted p a line t ≡ is_granted q a line t
 unfolding is_granted
-granted-same n p q a line t h l =
-    ap (λ o. is_some_and o (λ (grant : Grant). nat_eq grant.agent a && nat_eq grant.line line)) (grant-same n p q t h l)
+granted-same n p q a line t h l = grind (arith, grant-same)
 
 giver-same : (n : ℕ) (p q : Past) (line t a : ℕ) (s : SnoopEnd) → SharesBelow n p q → t < n
     → giver_at p line t a s ≡ giver_at q line t a s
 unfolding giver_at
-giver-same n p q line t a s h l =
-    let past = h.pasts t l in
-    λ i. elim s.outcome [
-      | outcomes.Granted ↦ None
-      | outcomes.Handed ↦ owner_at (past i) a line t
-      | outcomes.Retried ↦ None
-      | outcomes.Deferred ↦ None
-      | outcomes.Written ↦ Some a
-      | outcomes.Replied ↦ None
-      | outcomes.Failed ↦ None
-      | outcomes.Upgraded ↦ None
-    ]
+giver-same n p q line t a s h l = grind arith
 
 pub given-same : (n : ℕ) (p q : Past) (a t : ℕ) → SharesBelow n p q → t < n
     → claim_given_at p a t ≡ claim_given_at q a t
 unfolding claim_given_at claim_given_by gives_claim
-given-same n p q a t h l =
-    let snooped = snooped-same n p q t h l in
-    let giver : (s : SnoopEnd) (claim : Claim)
-    → giver_at p claim.line t claim.agent s ≡ giver_at q claim.line t claim.agent s =
-    λ s claim. giver-same n p q claim.line t claim.agent s h l in
-    λ i.
-    option_and_then (λ (s : SnoopEnd). option_and_then (λ (claim : Claim).
-    if is_at (giver s claim i) a then Some claim else None) s.claim) (snooped i)
+given-same n p q a t h l = grind (arith, snooped-same, giver-same)
 
 -- what is below a clock
 given-below-same : (n : ℕ) (p q : Past) (a x : ℕ) → SharesBelow n p q → is_given_below p a n x ≡ is_given_below q a n x
 unfolding is_given_below
-given-below-same n p q a x h =
-    any_where-same (λ t. is_some_and (claim_given_at p a t) (λ claim. nat_eq claim.first x))
-    (λ t. is_some_and (claim_given_at q a t) (λ claim. nat_eq claim.first x)) n (record {
-      same = λ t l. ap (λ o. is_some_and o (λ (claim : Claim). nat_eq claim.first x)) (given-same n p q a t h l);
-    })
+given-below-same n p q a x h = grind (arith, any_where-same, given-same)
 
 responded-below-same : (n : ℕ) (p q : Past) (x : ℕ) → SharesBelow n p q
     → is_responded_below p n x ≡ is_responded_below q n x
 unfolding is_responded_below
-responded-below-same n p q x h =
-    any_where-same (λ t. is_at (responded_in p t) x) (λ t. is_at (responded_in q t) x) n (record {
-      same = λ t l. ap (λ o. is_at o x) (responded-same n p q t h l);
-    })
+responded-below-same n p q x h = grind (arith, any_where-same, responded-same)
 
 ended-same : (n : ℕ) (p q : Past) (x : ℕ) → SharesBelow n p q → is_ended p n x ≡ is_ended q n x
 unfolding is_ended
-ended-same n p q x h =
-    any_where-same (λ t. is_end_at p t x) (λ t. is_end_at q t x) n (record { same = λ t l. end-same n p q t x h l })
+ended-same n p q x h = grind (arith, any_where-same, end-same)
 
 -- the last clock that passes a test, and what there is at it
 at-last : {X : Type 0} (f : ℕ → Bool) (g k : ℕ → Option X) (n : ℕ) → ((t : ℕ) → t < n → g t ≡ k t)
     → (o : Option ℕ) → last_where f n ≡ o → option_and_then g o ≡ option_and_then k o
-at-last f g k n same None e = refl
-at-last f g k n same (Some t) e = same t (last_where-found f n t e).0
+at-last f g k n h1 o h2 = grind (arith, last_where-found)
 
 latest-same : (n : ℕ) (p q : Past) (a line : ℕ) → SharesBelow n p q → latest_grant p a line n ≡ latest_grant q a line n
 unfolding latest_grant
-latest-same n p q a line h =
-    let tests : AgreeBelow n (is_granted p a line) (is_granted q a line) =
-    record { same = λ t l. granted-same n p q a line t h l } in
-    at-last (is_granted p a line) (grant_at p) (grant_at q) n (λ t l. grant-same n p q t h l)
-    (last_where (is_granted p a line) n) refl
-    ∙ ap (option_and_then (grant_at q)) (last-same (is_granted p a line) (is_granted q a line) n tests)
+latest-same n p q a line h = grind (arith, granted-same, at-last, grant-same, last-same)
 
 awaited-same : (n : ℕ) (p q : Past) (a line : ℕ) → SharesBelow n p q → is_awaited p a line n n ≡ is_awaited q a line n n
 unfolding is_awaited
-awaited-same n p q a line h =
-    let latest = latest-same n p q a line h in
-    let ended : (x : ℕ) → is_ended p n x ≡ is_ended q n x = λ x. ended-same n p q x h in
-    λ i. is_some_and (latest i) (λ (grant : Grant). not (ended grant.first i))
+awaited-same n p q a line h = grind (arith, latest-same, ended-same)
 
 since-same : (n : ℕ) (p q : Past) (a line t : ℕ) → SharesBelow n p q → t < n
     → given_since p a line n t ≡ given_since q a line n t
 unfolding given_since from_clock
-since-same n p q a line t h l =
-    let granted = any_where-same (from_clock (t + 1) (is_granted p a line)) (from_clock (t + 1) (is_granted q a line)) n
-    (record { same = λ u k. ap (λ b. nat_le (t + 1) u && b) (granted-same n p q a line u h k) }) in
-    let claim = given-same n p q a t h l in
-    λ i. if granted i then None else option_map (λ (c : Claim). c.first) (claim i)
+since-same n p q a line t h l = grind (arith, any_where-same, granted-same, given-same)
 
 promise-same : (n : ℕ) (p q : Past) (a line : ℕ) → SharesBelow n p q
     → promise_told p a line n n ≡ promise_told q a line n n
 unfolding promise_told gives_line_at
-promise-same n p q a line h =
-    let f : ℕ → Bool = λ t. is_some_and (claim_given_at p a t) (λ (claim : Claim). nat_eq claim.line line) in
-    let g : ℕ → Bool = λ t. is_some_and (claim_given_at q a t) (λ (claim : Claim). nat_eq claim.line line) in
-    let tests : AgreeBelow n f g = record {
-      same = λ t l. ap (λ o. is_some_and o (λ (claim : Claim). nat_eq claim.line line)) (given-same n p q a t h l);
-    } in
-    let awaited = awaited-same n p q a line h in
-    let last =
-    at-last f (given_since p a line n) (given_since q a line n) n (λ t l. since-same n p q a line t h l)
-    (last_where f n) refl
-    ∙ ap (option_and_then (given_since q a line n)) (last-same f g n tests) in
-    λ i. if awaited i then last i else None
+promise-same n p q a line h = grind (arith, given-same, awaited-same, at-last, since-same, last-same)
 
 promised-same : (n : ℕ) (p q : Past) (a x : ℕ) → SharesBelow n p q → x < n
     → is_promised p a n n x ≡ is_promised q a n n x
 unfolding is_promised
-promised-same n p q a x h l =
-    let begun = begun-same n p q x h l in
-    let promise : (line : ℕ) → promise_told p a line n n ≡ promise_told q a line n n =
-    λ line. promise-same n p q a line h in
-    λ i. is_some_and (begun i) (λ (claim : Claim). is_at (promise claim.line i) x)
+promised-same n p q a x h l = grind (arith, begun-same, promise-same)
 
 -- an agent gives bytes below a clock only for what began below it
 given-early : (r : Run) (a n x : ℕ) → Reaches r n → n ≤ x → is_given_below (past_of r) a n x ≡ false
@@ -208,32 +148,15 @@ given-early r a n x h late =
 pushed-same : (n : ℕ) (r : Run) (q : Past) (a x : ℕ) → Reaches r n → SharesBelow n (past_of r) q
     → is_pushed (past_of r) a n n n x ≡ is_pushed q a n n n x
 unfolding is_pushed
-pushed-same n r q a x h shares =
-    let given = given-below-same n (past_of r) q a x shares in
-    let responded = responded-below-same n (past_of r) q x shares in
-    elim (cases_lt x n) [
-      | inl low ↦
-          let promised = promised-same n (past_of r) q a x shares low in
-          λ i. given i && not (responded i) && not (promised i)
-      | inr late ↦
-          let none = given-early r a n x h late in
-          rw (none, sym given ∙ none) refl
-    ]
+pushed-same n r q a x h shares = grind (arith, given-below-same, responded-below-same, promised-same, given-early)
 
 owes-same : (n : ℕ) (p q : Past) (a t : ℕ) → SharesBelow n p q → t < n
     → owes_bytes_from p a n t ≡ owes_bytes_from q a n t
 unfolding owes_bytes_from
-owes-same n p q a t h l =
-    let given = given-same n p q a t h l in
-    let responded : (x : ℕ) → is_responded_below p n x ≡ is_responded_below q n x =
-    λ x. responded-below-same n p q x h in
-    λ i. is_some_and (given i) (λ (claim : Claim). not (responded claim.first i))
+owes-same n p q a t h l = grind (arith, given-same, responded-below-same)
 
 less-shared : (n m : ℕ) (p q : Past) → n ≤ m → SharesBelow m p q → SharesBelow n p q
-less-shared n m p q l h = record {
-  moments = λ t k. h.moments t (omega arith);
-  pasts = λ t k. h.pasts t (omega arith);
-}
+less-shared n m p q l h = grind arith
 
 -- the record of an agent has what it owes in the run that has grown
 pub owed-grown : (r s : Run) (a n : ℕ) (v : AgentView) → GrowsTo r s → Reaches r n

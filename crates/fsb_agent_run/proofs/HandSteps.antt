@@ -1,15 +1,15 @@
 -- The lines of a cache after the accesses of an item: what is stored into is Modified, and all else stays.
-use Rattle.std.proofs.Common.{ℕ, ◌≡◌, ◌/◌, Bool, true, false, not, ◌&&◌, ◌||◌, List, [], ◌∷◌, length, refl, sym, ap}
-use Rattle.std.proofs.Common.{◌∙◌, inl, inr, if◌then◌else◌, nat_eq, arith}
+use Rattle.std.proofs.Common.{ℕ, ◌≡◌, ◌/◌, Bool, true, not, ◌&&◌, ◌||◌, List, [], ◌∷◌, length, refl, sym, ap, ◌∙◌}
+use Rattle.std.proofs.Common.{if◌then◌else◌, nat_eq, arith}
 use Rattle.std.specs.Prelude.{◌==◌}
 use Rattle.std.specs.List.{list_all, list_any}
-use Rattle.std.proofs.lemmas.Bool.{and_parts, cases_Bool, eqb-true}
+use Rattle.std.proofs.lemmas.Bool.{and_parts}
 use Rattle.fsb_access.specs.declared.access.Access.{Access}
 use Rattle.fsb_access.specs.declared.access.Access.TheVariants.{Load, Store}
 use Rattle.fsb_access.specs.Access.{accessed_line}
 use Rattle.fsb_access.specs.Replay.{put_of}
 use Rattle.fsb_access.specs.ScriptOrder.{Step}
-use Rattle.fsb_cache.specs.Sets.{CacheSets, held_stored, states}
+use Rattle.fsb_cache.specs.Sets.{CacheSets, states}
 use Rattle.fsb_line.specs.declared.state.Mesi.{Mesi}
 use Rattle.fsb_line.specs.declared.state.Mesi.TheVariants.{Modified}
 use Rattle.fsb_line.specs.States.{is_held}
@@ -26,38 +26,18 @@ stores_into line access = not (is_load access) && nat_eq (accessed_line access) 
 unfoldable pub may_store : CacheSets → Access → Bool
 may_store lines access = is_load access || is_held (states lines (accessed_line access))
 
-held-still : (line target : ℕ) (state : Mesi) → is_held state ≡ true
-    → is_held (if line == target then Modified else state) ≡ true
-held-still line target state h = by (line == target)
-  where
-    by : (b : Bool) → is_held (if b then Modified else state) ≡ true
-    by true = refl
-    by false = h
-
 still : (lines after : CacheSets) (target : ℕ) (access : Access)
     → ((other : ℕ) → states after other ≡ (if other == target then Modified else states lines other))
     → may_store lines access ≡ true → may_store after access ≡ true
 unfolding may_store
-still lines after target access told may = by (is_load access) may
-  where
-    by : (load : Bool) → (load || is_held (states lines (accessed_line access))) ≡ true
-        → (load || is_held (states after (accessed_line access))) ≡ true
-    by true m = refl
-    by false m =
-        ap is_held (told (accessed_line access))
-        ∙ held-still (accessed_line access) target (states lines (accessed_line access)) m
+still lines after target access told may = grind arith
 
 flip : (line target : ℕ) (x y : Mesi) → (if line == target then x else y) ≡ (if target == line then x else y)
-flip line target x y = elim (cases_Bool (line == target)) [
-  | inl on ↦ let e = eqb-true line target on in grind arith
-  | inr off ↦ grind arith
-]
+flip line target x y = grind arith
 
 joined : (here later : Bool) (state : Mesi)
     → (if later then Modified else (if here then Modified else state)) ≡ (if here || later then Modified else state)
-joined true true state = refl
-joined true false state = refl
-joined false later state = refl
+joined here later state = grind arith
 
 pub state-after : (hand : AtHand) (steps : List Step) (line : ℕ)
     → list_all (λ (step : Step). may_store hand.lines step.access) steps ≡ true
@@ -110,8 +90,7 @@ length-after hand [] = refl
 length-after hand (step ∷ steps) = length-after (hand_after hand step.access) steps ∙ one step.access
   where
     one : (access : Access) → length (hand_after hand access).lines ≡ length hand.lines
-    one (Load size addr) = refl
-    one (Store size addr value) = length-with_slot hand.lines _ _
+    one access = grind (arith, length-with_slot)
 
 pub in_sets-after : (hand : AtHand) (steps : List Step) → InSets hand.lines → InSets (hand_after_steps hand steps).lines
 in_sets-after hand [] in_sets = in_sets
@@ -119,7 +98,4 @@ in_sets-after hand (step ∷ steps) in_sets =
     in_sets-after (hand_after hand step.access) steps (one step.access)
   where
     one : (access : Access) → InSets (hand_after hand access).lines
-    one (Load size addr) = in_sets
-    one (Store size addr value) =
-        in_sets-mapped hand.lines (addr / 32) (held_stored addr size (put_of size hand.last value))
-        (λ held. refl) in_sets
+    one access = grind (arith, in_sets-mapped)

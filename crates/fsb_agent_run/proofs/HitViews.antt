@@ -1,31 +1,30 @@
 -- After its hit, if it has one, a view is that after the hits.
-use Rattle.std.proofs.Common.{ℕ, ◌+◌, ◌<◌, ◌≡◌, Bool, true, false, not, ◌&&◌, ◌||◌, [], Some, refl, sym, ap, subst, ◌∙◌}
-use Rattle.std.proofs.Common.{inl, inr}
+use Rattle.std.proofs.Common.{ℕ, ◌+◌, ◌<◌, ◌≡◌, Bool, true, false, ◌&&◌, ◌||◌, Some, sym, ap, subst, ◌∙◌, inl, inr}
+use Rattle.std.proofs.Common.{arith}
 use Rattle.std.specs.List.{list_all, list_any}
-use Rattle.std.specs.Option.{option_map_or}
-use Rattle.std.proofs.lemmas.Bool.{and_parts, both_ways, cases_Bool, eq-eqb, or_right}
+use Rattle.std.proofs.lemmas.Bool.{both_ways, cases_Bool, or_right}
 use Rattle.fsb_access.specs.declared.access.Access.{Access}
 use Rattle.fsb_access.specs.declared.item.Item.{Item}
 use Rattle.fsb_access.specs.Access.{accessed_line}
 use Rattle.fsb_access.specs.ScriptOrder.{Step, steps_of_item}
 use Rattle.fsb_cache.specs.Sets.{states}
 use Rattle.fsb_line.specs.declared.state.Mesi.{Mesi}
-use Rattle.fsb_line.specs.declared.state.Mesi.TheVariants.{Exclusive, Invalid, Modified, Shared}
+use Rattle.fsb_line.specs.declared.state.Mesi.TheVariants.{Modified}
 use Rattle.fsb_line.specs.States.{is_held}
 use Rattle.fsb_count.specs.Options.{is_some_and}
 use Rattle.fsb_timely.specs.Past.{Past}
 use Rattle.fsb_timely.specs.Grants.{has_arrived, holds_line, is_exclusive}
 use Rattle.fsb_timely.specs.Hits.{is_dirty, is_hit, is_met, is_served}
 use Rattle.fsb_timely.specs.Runs.{Run, past_of}
-use Rattle.fsb_timely.specs.Scripts.{Need, is_idling, is_load, items_of, needs_of, next_item, next_number}
+use Rattle.fsb_timely.specs.Scripts.{Need, is_load, needs_of, next_item, next_number}
 use Rattle.fsb_coherent.specs.Relation.{is_dirty_below}
 use Rattle.fsb_coherent.proofs.Interface.{dirty-none}
 use Rattle.fsb_run_laws.specs.Reaches.{Reaches}
 use Rattle.fsb_agent_view.specs.AgentViews.{AgentView, line_state_by}
 use Rattle.fsb_agent_view.specs.Arriving.{handed_on}
 use Rattle.fsb_agent_view.specs.Serving.{hand_after_steps}
-use Rattle.fsb_agent_view.specs.Completing.{completed_by, hand_of, is_hit_by, next_steps, performed}
-use Rattle.fsb_agent_run.specs.RunViews.{CompletesItem, IsAgentOf, IsAtItem, IsPlacedIn, LogsItem, place_of, state_told}
+use Rattle.fsb_agent_view.specs.Completing.{completed_by, hand_of, next_steps, performed}
+use Rattle.fsb_agent_run.specs.RunViews.{CompletesItem, IsAgentOf, IsAtItem, IsPlacedIn, LogsItem, state_told}
 use Rattle.fsb_agent_run.specs.Stages.{IsViewAfterHit, IsViewOf}
 use Rattle.fsb_agent_run.proofs.HandSteps.{in_sets-after, length-after, may_store, state-after, stores_into}
 use Rattle.fsb_agent_run.proofs.HitsMade.{hit-by}
@@ -54,63 +53,37 @@ after-none p a c v h none = record {
   requests = record { owed = h.requests.owed; wanted = h.requests.wanted; kept = h.requests.kept };
 }
 
-performed-by : (v : AgentView) (clock : ℕ) (b : Bool) → is_hit_by v clock ≡ b
-    → performed v clock ≡ (elim b [ true ↦ completed_by v clock | false ↦ v ])
-performed-by v clock b e = λ i. elim (e i) [ true ↦ completed_by v clock | false ↦ v ]
-
 -- the accesses of the next item
 pub next-steps : (p : Past) (a c number : ℕ) (item : Item) (v : AgentView) → IsAgentOf p a v → IsPlacedIn p a c v
     → next_number p a c ≡ Some number → next_item p a c ≡ Some item → next_steps v ≡ steps_of_item number item
-next-steps p a c number item v is at next there =
-    let place : v.place ≡ number = at.place ∙ ap (place_of (items_of p a)) next in
-    let found = next-by p a c v is (placed-at p a c v at) ∙ there in
-    (λ i. option_map_or (steps_of_item (place i)) (found i) [])
+next-steps p a c number item v is at next there = grind (arith, next-by, placed-at)
 
 -- the place of a view that has completed its item
 pub placed-hit : (p : Past) (a c number : ℕ) (v : AgentView) → CompletesItem p a c number → IsAgentOf p a v
     → IsPlacedIn p a c v → IsAtItem p a c true (completed_by v c)
-placed-hit p a c number v k is at = record {
-  item = rw (eq-eqb c c refl) at.place;
-  finished = eq-eqb c c refl;
-  idle_to = λ e. absurd (let no : ⊥ = cc in no);
-}
+placed-hit p a c number v k is at = grind arith
 
 -- an agent is met by what it needs
 served-parts : (p : Past) (a c : ℕ) (need : Need) → is_served p a c need ≡ true
     → (holds_line p a need.line c ≡ true) × (need.alone ≡ true → is_exclusive p a need.line c ≡ true)
     × (has_arrived p a need.line c c ≡ true)
 unfolding is_served is_met
-served-parts p a c need e =
-    let parts = and_parts (holds_line p a need.line c && (not need.alone || is_exclusive p a need.line c))
-    (has_arrived p a need.line c c) e in
-    let met = and_parts (holds_line p a need.line c) (not need.alone || is_exclusive p a need.line c) parts.0 in
-    (met.0, (λ alone. (let m = rw alone at met.1 in m)), parts.1)
+served-parts p a c need e = grind arith
 
 hit-needs : (p : Past) (a c : ℕ) (item : Item) → is_hit p a c ≡ true → next_item p a c ≡ Some item
     → list_all (is_served p a c) (needs_of item) ≡ true
 unfolding is_hit is_some_and
-hit-needs p a c item e there =
-    let parts = and_parts (not (is_idling p a c))
-    (is_some_and (next_item p a c) (λ item. list_all (is_served p a c) (needs_of item))) e in
-    rw there at parts.1
+hit-needs p a c item e there = grind arith
 
 pub sole-told : (held own dirty : Bool) → held ≡ true → own ≡ true
     → Modified ≡ state_with true (state_told held own dirty)
-sole-told held own true h o = rw (h, o) refl
-sole-told held own false h o = rw (h, o) refl
+sole-told held own dirty h1 h2 = grind arith
 
 pub never-with : (b : Bool) (state : Mesi) → b ≡ false → state ≡ state_with b state
-never-with b state e = rw e (by state)
-  where
-    by : (state : Mesi) → state ≡ state_with false state
-    by Invalid = refl
-    by Shared = refl
-    by Exclusive = refl
-    by Modified = refl
+never-with b state e = grind arith
 
 pub nothing : (b : Bool) → (b && false) ≡ false
-nothing true = refl
-nothing false = refl
+nothing b = grind arith
 
 -- an access may be performed on a line that is held
 may-held : (v : AgentView) (access : Access) → is_held (line_state_by v (accessed_line access)) ≡ true
@@ -128,26 +101,12 @@ alone_at p a c access =
 alone-there : (p : Past) (a c : ℕ) (access : Access) (need : Need) → IsNeedOf need access
     → holds_line p a need.line c ≡ true → (need.alone ≡ true → is_exclusive p a need.line c ≡ true)
     → has_arrived p a need.line c c ≡ true → alone_at p a c access ≡ true
-alone-there p a c access need of held own arrived = by (is_load access) refl
-  where
-    by : (load : Bool) → is_load access ≡ load → alone_at p a c access ≡ true
-    by true e = rw e refl
-    by false e =
-        let exclusive = own (of.alone e) in
-        let two = subst (λ l. holds_line p a l c ≡ true) of.line held in
-        let one = subst (λ l. is_exclusive p a l c ≡ true) of.line exclusive in
-        let come = subst (λ l. has_arrived p a l c c ≡ true) of.line arrived in
-        rw (e, two, one, come) refl
+alone-there p a c access need of held own arrived = grind arith
 
 alone-parts : (p : Past) (a c : ℕ) (access : Access) → is_load access ≡ false → alone_at p a c access ≡ true
     → (holds_line p a (accessed_line access) c ≡ true) × (is_exclusive p a (accessed_line access) c ≡ true)
     × (has_arrived p a (accessed_line access) c c ≡ true)
-alone-parts p a c access load e =
-    let line = accessed_line access in
-    let e' = rw load at e in
-    let outer = and_parts (holds_line p a line c && is_exclusive p a line c) (has_arrived p a line c c) e' in
-    let inner = and_parts (holds_line p a line c) (is_exclusive p a line c) outer.0 in
-    (inner.0, inner.1, outer.1)
+alone-parts p a c access load e = grind arith
 
 hit-lines : (p : Past) (a c : ℕ) (v : AgentView) (line : ℕ) → IsViewOf p a c v → is_hit p a c ≡ true
     → (k : LogsItem p a c) → line_state_by (completed_by v c) line
@@ -164,8 +123,7 @@ hit-lines p a c v line view hit k =
     ∙ held-by p a c c dirty v need.line view.lines
     ∙ (served-parts p a c need served).0)) needs in
     let any = list_any (λ (step : Step). stores_into line step.access) (steps_of_item number item) in
-    let logged : any_stored p a line c ≡ any =
-    stores-by-steps a line c p.log ∙ ap (list_any (λ (step : Step). stores_into line step.access)) k.steps in
+    let logged : any_stored p a line c ≡ any = grind (arith, stores-by-steps) in
     ap (λ s. states (hand_after_steps (hand_of v) s).lines line) steps
     ∙ state-after (hand_of v) (steps_of_item number item) line may
     ∙ (elim (cases_Bool any) [
@@ -182,8 +140,7 @@ hit-lines p a c v line view hit k =
           let held = alone-parts p a c k.0 k.1 k.3 in
           let names : accessed_line k.0 ≡ line = k.2 in
           let arrived : has_arrived p a line c c ≡ true = subst (λ l. has_arrived p a l c c ≡ true) names held.2 in
-          let both : (has_arrived p a line c c && any_stored p a line c) ≡ true =
-          (λ i. arrived i && (logged ∙ on) i) in
+          let both : (has_arrived p a line c c && any_stored p a line c) ≡ true = grind arith in
           rw on
           (sole-told (holds_line p a line c) (is_exclusive p a line c) (is_dirty_below p a line c)
           (subst (λ l. holds_line p a l c ≡ true) names held.0) (subst (λ l. is_exclusive p a l c ≡ true) names held.1)
@@ -220,15 +177,7 @@ hit-view p a c v view hit k = record {
 -- after the hit, where it is logged
 pub performed-logged : (p : Past) (a c : ℕ) (v : AgentView) → IsViewOf p a c v → (is_hit p a c ≡ true → LogsItem p a c)
     → IsViewAfterHit p a c (performed v c)
-performed-logged p a c v view logs =
-    let same = hit-by p a c (λ line. is_dirty_below p a line c) v view.agent (placed-at p a c v view.placed)
-    view.lines in
-    elim (cases_Bool (is_hit p a c)) [
-      | inr none ↦
-          subst (IsViewAfterHit p a c) (sym (performed-by v c false (same ∙ none))) (after-none p a c v view none)
-      | inl hit ↦
-          subst (IsViewAfterHit p a c) (sym (performed-by v c true (same ∙ hit))) (hit-view p a c v view hit (logs hit))
-    ]
+performed-logged p a c v view logs = grind (arith, hit-by, placed-at, after-none, hit-view)
 
 pub performed-view : (r : Run) (a c : ℕ) (v : AgentView) → Reaches r (c + 1) → a < 4 → IsViewOf (past_of r) a c v
     → IsViewAfterHit (past_of r) a c (performed v c)
@@ -237,15 +186,4 @@ performed-view r a c v h few view =
 
 -- bytes that are handed on are nothing to lines, requests and place
 pub handed-view : (p : Past) (a c number : ℕ) (v : AgentView) → IsViewOf p a c v → IsViewOf p a c (handed_on v number)
-handed-view p a c number v h = record {
-  agent = record {
-    number = h.agent.number;
-    items = h.agent.items;
-    ahead = h.agent.ahead;
-    profile = h.agent.profile;
-    cache = h.agent.cache;
-  };
-  placed = record { place = h.placed.place; idle_to = h.placed.idle_to; finished = h.placed.finished };
-  lines = record { states = h.lines.states; fills = h.lines.fills; in_sets = h.lines.in_sets };
-  requests = record { owed = h.requests.owed; wanted = h.requests.wanted; kept = h.requests.kept };
-}
+handed-view p a c number v h = grind arith

@@ -1,16 +1,16 @@
 -- A view has a hit exactly where the run has one, and an arrival likewise.
-use Rattle.std.proofs.Common.{ℕ, ◌+◌, ◌≤◌, ◌≡◌, Bool, true, false, not, ◌&&◌, ◌||◌, List, [], ◌∷◌, Option, Some, None}
-use Rattle.std.proofs.Common.{nat_eq, refl, sym, ap, subst, ◌∙◌, inl, inr, arith}
+use Rattle.std.proofs.Common.{ℕ, ◌+◌, ◌≤◌, ◌≡◌, Bool, true, false, not, ◌&&◌, ◌||◌, List, [], ◌∷◌, Option, Some, refl}
+use Rattle.std.proofs.Common.{sym, ap, subst, ◌∙◌, inl, inr, arith}
 use Rattle.std.specs.List.{list_all, list_any}
 use Rattle.std.specs.Option.{option_map_or}
-use Rattle.std.proofs.lemmas.Bool.{and_from, and_parts, both_ways, cases_Bool, eq-eqb, eqb-true, false_from_ne_true}
+use Rattle.std.proofs.lemmas.Bool.{both_ways, cases_Bool, false_from_ne_true}
 use Rattle.fsb_count.specs.Options.{is_some_and}
 use Rattle.fsb_count.proofs.Interface.{any_where-at, any_where-off}
 use Rattle.fsb_access.specs.declared.item.Item.{Item}
-use Rattle.fsb_timely.specs.Past.{Grant, Past}
-use Rattle.fsb_timely.specs.Grants.{grant_at, is_end_at, is_granted}
+use Rattle.fsb_timely.specs.Past.{Past}
+use Rattle.fsb_timely.specs.Grants.{is_granted}
 use Rattle.fsb_timely.specs.Scripts.{Need, is_idling, needs_of, next_item}
-use Rattle.fsb_timely.specs.Hits.{is_hit, is_served}
+use Rattle.fsb_timely.specs.Hits.{is_hit}
 use Rattle.fsb_timely.specs.Completions.{brings_at, completes_by, is_arrival, is_brought, is_there}
 use Rattle.fsb_lawful.proofs.Interface.{some-and}
 use Rattle.fsb_agent_view.specs.AgentViews.{AgentView, is_served_by, may_complete}
@@ -24,61 +24,29 @@ use Rattle.fsb_agent_run.proofs.Places.{may-by, next-by}
 use Rattle.fsb_agent_run.proofs.StatesTold.{served-by, there-by}
 
 never : (b : Bool) → (b && false) ≡ false
-never true = refl
-never false = refl
+never b = grind arith
 
 -- the same of the next item, where there is one
 of-next : (may free : Bool) (next : Option Item) (f g : Item → Bool) → ((item : Item) → next ≡ Some item → may ≡ free)
     → ((item : Item) → f item ≡ g item) → (may && option_map_or f next false) ≡ (free && is_some_and next g)
 unfolding is_some_and
-of-next may free None f g h k = never may ∙ sym (never free)
-of-next may free (Some item) f g h k =
-    let same = h item refl in
-    let test = k item in
-    λ i. same i && test i
+of-next may free next f g h1 h2 = grind arith
 
 pub hit-by : (p : Past) (a c : ℕ) (dirty : ℕ → Bool) (v : AgentView) → IsAgentOf p a v → IsAtItem p a c false v
     → HasLinesOf p a c c dirty v → is_hit_by v c ≡ is_hit p a c
 unfolding is_hit
-hit-by p a c dirty v is at lines =
-    let next = next-by p a c v is at in
-    let served : (need : Need) → is_served_by v need ≡ is_served p a c need =
-    λ need. served-by p a c dirty v need lines in
-    (λ i. may_complete v c && option_map_or (λ item. list_all (is_served_by v) (needs_of item)) (next i) false)
-    ∙ of-next (may_complete v c) (not (is_idling p a c)) (next_item p a c)
-    (λ item. list_all (is_served_by v) (needs_of item)) (λ item. list_all (is_served p a c) (needs_of item))
-    (λ item e. may-by p a c v item at e) (λ item. λ i. list_all (λ need. served need i) (needs_of item))
+hit-by p a c dirty v is at lines = grind (arith, next-by, served-by, of-next, may-by)
 
 -- the line that comes brings what it brings in the run
 brings-there : (p : Past) (a c line : ℕ) (owns : Bool) (need : Need) → (k : IsComing p a c line owns)
     → is_brought_by line owns need ≡ true → brings_at p a c need k.at ≡ true
 unfolding brings_at is_granted is_some_and
-brings-there p a c line owns need k e =
-    let parts = and_parts (nat_eq need.line line) (owns || not need.alone) e in
-    let of_line : k.grant.line ≡ need.line = k.of_line ∙ sym (eqb-true need.line line parts.0) in
-    rw (k.granted, eq-eqb k.grant.agent a k.to, eq-eqb k.grant.line need.line of_line, k.ends, k.owning) parts.1
+brings-there p a c line owns need k e = grind arith
 
 brings-here : (p : Past) (a c line : ℕ) (owns : Bool) (need : Need) (t : ℕ) → IsComing p a c line owns → t ≤ c
     → brings_at p a c need t ≡ true → is_brought_by line owns need ≡ true
 unfolding brings_at is_granted
-brings-here p a c line owns need t k l e =
-    let halves = and_parts _ _ e in
-    let to = some-and (grant_at p t)
-    (λ (grant : Grant). nat_eq grant.agent a && nat_eq grant.line need.line) halves.0 in
-    let brings =
-    some-and (grant_at p t)
-    (λ (grant : Grant). is_end_at p c grant.first && (grant.owns || not need.alone)) halves.1 in
-    let one : to.0 ≡ brings.0 = (let f = sym to.1 ∙ brings.1 in cc) in
-    let mine = and_parts (nat_eq to.0.agent a) (nat_eq to.0.line need.line) to.2 in
-    let ends = and_parts (is_end_at p c brings.0.first) (brings.0.owns || not need.alone) brings.2 in
-    let agent : brings.0.agent ≡ a = ap (λ (g : Grant). g.agent) (sym one) ∙ eqb-true to.0.agent a mine.0 in
-    let at : t ≡ k.at = k.only t brings.0 l brings.1 agent ends.0 in
-    let same : brings.0 ≡ k.grant = (let f = sym brings.1 ∙ ap (grant_at p) at ∙ k.granted in cc) in
-    let of_line : need.line ≡ line =
-    sym (eqb-true to.0.line need.line mine.1) ∙ ap (λ (g : Grant). g.line) (one ∙ same) ∙ k.of_line in
-    let owning : (owns || not need.alone) ≡ true =
-    ap (λ b. b || not need.alone) (sym (ap (λ (g : Grant). g.owns) same ∙ k.owning)) ∙ ends.1 in
-    and_from (nat_eq need.line line) (owns || not need.alone) (eq-eqb need.line line of_line) owning
+brings-here p a c line owns need t k l e = grind (arith, some-and)
 
 pub brought-by : (p : Past) (a c line : ℕ) (owns : Bool) (need : Need) → IsComing p a c line owns
     → is_brought p a c need ≡ is_brought_by line owns need
@@ -104,29 +72,14 @@ any-both f k (need ∷ needs) =
     (λ i. (f need && k) || rest i) ∙ join (f need) (list_any f needs) k
   where
     join : (x y k : Bool) → ((x && k) || (y && k)) ≡ ((x || y) && k)
-    join true true true = refl
-    join true true false = refl
-    join true false true = refl
-    join true false false = refl
-    join false y k = refl
+    join x y k = grind arith
 
 -- where a need is brought, the others have to be there
 with-others : (p : Past) (a c line : ℕ) (owns : Bool) (v : AgentView) (needs : List Need) (need : Need)
     → IsComing p a c line owns → ((other : Need) → is_served_by v other ≡ is_there p a c other)
     → completes_by p a c needs need ≡ (is_brought_by line owns need && list_all (is_there_by v line) needs)
 unfolding completes_by
-with-others p a c line owns v needs need k there =
-    let brought = brought-by p a c line owns need k in
-    (λ i. brought i && list_all (λ other. nat_eq other.line need.line || is_there p a c other) needs)
-    ∙ others (is_brought_by line owns need) refl
-  where
-    others : (b : Bool) → is_brought_by line owns need ≡ b
-        → (b && list_all (λ other. nat_eq other.line need.line || is_there p a c other) needs)
-        ≡ (b && list_all (is_there_by v line) needs)
-    others false e = refl
-    others true e =
-        let same = eqb-true need.line line (and_parts (nat_eq need.line line) (owns || not need.alone) e).0 in
-        λ i. list_all (λ other. nat_eq other.line (same i) || sym (there other) i) needs
+with-others p a c line owns v needs need k there = grind (arith, brought-by)
 
 arrives : (p : Past) (a c line : ℕ) (owns : Bool) (v : AgentView) (needs : List Need) → IsComing p a c line owns
     → ((other : Need) → is_served_by v other ≡ is_there p a c other)
@@ -152,8 +105,7 @@ arrival-by p a c dirty v out is at lines k = elim (cases_Bool (is_hit p a c)) [
       let line = out.request.line in
       let owns = kind_owns (kind_asks out.request.kind) in
       let next = next-by p a c v is open_item in
-      let there : (other : Need) → is_served_by v other ≡ is_there p a c other =
-      λ other. there-by p a c dirty v other lines in
+      let there : (other : Need) → is_served_by v other ≡ is_there p a c other = grind (arith, there-by) in
       (λ i. may_complete v c && option_map_or (λ item. are_met_with v line owns (needs_of item)) (next i) false)
       ∙ of-next (may_complete v c) (not (is_idling p a c)) (next_item p a c)
       (λ item. are_met_with v line owns (needs_of item))
@@ -165,5 +117,4 @@ arrival-by p a c dirty v out is at lines k = elim (cases_Bool (is_hit p a c)) [
 ]
   where
     whole : (b : Bool) → (b && not false) ≡ b
-    whole true = refl
-    whole false = refl
+    whole b = grind arith

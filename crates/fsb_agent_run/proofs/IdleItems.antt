@@ -1,6 +1,6 @@
 -- The next item behind a place of a script, and the clocks that are idled before it.
 use Rattle.std.proofs.Common.{ℕ, zero, suc, ◌+◌, ◌-◌, ◌<◌, ◌≤◌, ◌≡◌, Bool, true, false, not, List, [], ◌∷◌, length}
-use Rattle.std.proofs.Common.{drop, Option, Some, None, refl, sym, ap, ◌∙◌, inl, inr, arith, zero-add}
+use Rattle.std.proofs.Common.{drop, Option, Some, refl, ap, ◌∙◌, inl, inr, arith, zero-add}
 use Rattle.std.specs.List.{slice_get}
 use Rattle.std.specs.Option.{option_map_or}
 use Rattle.std.proofs.lemmas.Bool.{cases_lt, le-leb, lt-leb}
@@ -12,7 +12,8 @@ use Rattle.fsb_access.specs.declared.item.Item.{Item}
 use Rattle.fsb_access.specs.declared.item.Item.TheVariants.{One, Locked, Idle}
 use Rattle.fsb_timely.specs.Scripts.{idle_clocks, idle_count, is_idle}
 use Rattle.fsb_lawful.proofs.Interface.{get-there}
-use Rattle.fsb_agent_view.specs.Idling.{idle_clocks_in_front, idle_count_in_front, idle_from, is_idle_item, place_from}
+use Rattle.fsb_agent_view.specs.Idling.{idle_clocks_in_front, idle_count_in_front, idle_from, is_idle_item}
+use Rattle.fsb_agent_view.specs.Idling.{place_from}
 use Rattle.fsb_agent_view.proofs.Interface.{busy_from}
 use Rattle.fsb_agent_run.specs.RunViews.{place_of}
 
@@ -39,22 +40,18 @@ front-within (Idle clocks ∷ items) = let rest = front-within items in omega ar
 item-behind : (n j : ℕ) (items : List Item) → slice_get items (n + j) ≡ slice_get (drop n items) j
 item-behind zero j items = ap (slice_get items) (zero-add j)
 item-behind (suc n) j [] = refl
-item-behind (suc n) j (item ∷ items) =
-    let next : suc n + j ≡ suc (n + j) = omega arith in
-    ap (slice_get (item ∷ items)) next ∙ item-behind n j items
+item-behind (suc n) j (item ∷ items) = grind (arith, item-behind n j items)
 
 -- no item is both idle and busy, and one that is there is one of them
 idle-not-busy : (o : Option Item) → option_map_or is_idle o false ≡ true
     → is_some_and o (λ item. not (is_idle item)) ≡ false
 unfolding is_some_and
-idle-not-busy None e = absurd (let no : ⊥ = cc in no)
-idle-not-busy (Some item) e = ap not e
+idle-not-busy o h1 = grind arith
 
 there-busy : (o : Option Item) (item : Item) → o ≡ Some item → option_map_or is_idle o false ≡ false
     → is_some_and o (λ item. not (is_idle item)) ≡ true
 unfolding is_some_and
-there-busy None item there e = absurd (let no : ⊥ = cc in no)
-there-busy (Some other) item there e = ap not e
+there-busy o item h1 h2 = grind arith
 
 -- the first number that passes, where none below k does, and from k on those of the busy items
 pub next-from : (test : ℕ → Bool) (items : List Item) (k : ℕ) → k ≤ length items
@@ -76,8 +73,7 @@ next-from test items k l below from = elim (cases_lt (place_from items k) (lengt
     behind : (n : ℕ) → k ≤ n → n < place_from items k → test n ≡ false
     behind n m early =
         let at : k + (n - k) ≡ n = omega arith in
-        let item : slice_get items n ≡ slice_get (drop k items) (n - k) = ap (slice_get items) (sym at)
-        ∙ item-behind k (n - k) items in
+        let item : slice_get items n ≡ slice_get (drop k items) (n - k) = grind (arith, item-behind) in
         from n m ∙ idle-not-busy (slice_get items n)
         (ap (λ o. option_map_or is_idle o false) item ∙ front-idle (drop k items) (n - k) (omega arith))
 
@@ -96,8 +92,7 @@ idle-none items from (suc n) l = rw (idle-none items from n (omega arith), lt-le
 
 idle-behind : (items : List Item) (k j : ℕ) → idle_clocks items k (k + j) ≡ idles_in (drop k items) j
 unfolding idle_clocks
-idle-behind items k zero =
-    let at : k + 0 ≡ k = omega arith in ap (idle_clocks items k) at ∙ idle-none items k k (omega arith)
+idle-behind items k zero = grind (arith, idle-none)
 idle-behind items k (suc j) =
     let at : k + suc j ≡ suc (k + j) = omega arith in
     let here : idle_clocks items k (suc (k + j))
@@ -117,10 +112,7 @@ unfolding idle_count
 idles-front [] = refl
 idles-front (One access ∷ items) = refl
 idles-front (Locked group ∷ items) = refl
-idles-front (Idle clocks ∷ items) =
-    let next : idle_count_in_front items + 1 ≡ suc (idle_count_in_front items) = omega arith in
-    ap (idles_in (Idle clocks ∷ items)) next ∙ idles-more (Idle clocks) items (idle_count_in_front items)
-    ∙ ap (λ n. clocks + n) (idles-front items)
+idles-front (Idle clocks ∷ items) = grind (arith, idles-more, idles-front items)
 
 -- the clocks that are idled from an item on, before the first that is busy
 pub idles-from : (items : List Item) (k : ℕ) → idle_clocks items k (place_from items k) ≡ idle_from items k

@@ -2,19 +2,18 @@
 use Rattle.std.proofs.Common.{ℕ, ◌+◌, ◌<◌, ◌≡◌, ◌⊎◌, Bool, true, false, not, ◌&&◌, ◌||◌, List, [], ◌∷◌, map, Some}
 use Rattle.std.proofs.Common.{length, nat_eq, refl, ap, ◌∙◌, inl, inr, arith}
 use Rattle.std.specs.List.{list_all, list_any}
-use Rattle.std.proofs.lemmas.Bool.{and_from, and_parts, cases_Bool, eqb-true, or_left, or_right}
+use Rattle.std.proofs.lemmas.Bool.{and_parts, cases_Bool, eqb-true}
 use Rattle.fsb_access.specs.declared.access.Access.{Access}
 use Rattle.fsb_access.specs.declared.item.Item.{Item}
-use Rattle.fsb_access.specs.declared.item.Item.TheVariants.{One, Locked, Idle}
 use Rattle.fsb_access.specs.declared.log.Done.{Done}
 use Rattle.fsb_access.specs.Access.{accessed_line}
 use Rattle.fsb_access.specs.ScriptOrder.{Step, steps_from, steps_of, steps_of_item}
-use Rattle.fsb_timely.specs.Completions.{completes_by, is_arrival}
-use Rattle.fsb_timely.specs.Hits.{is_hit, is_served, is_store_on}
+use Rattle.fsb_timely.specs.Completions.{is_arrival}
+use Rattle.fsb_timely.specs.Hits.{is_hit, is_store_on}
 use Rattle.fsb_timely.specs.Past.{Past}
 use Rattle.fsb_timely.specs.Runs.{Run, past_of}
-use Rattle.fsb_timely.specs.Scripts.{Need, completes_at, is_idling, is_load, locked_need, needs_after, needs_of}
-use Rattle.fsb_timely.specs.Scripts.{next_item, plain_need}
+use Rattle.fsb_timely.specs.Scripts.{Need, completes_at, is_load, locked_need, needs_after, needs_of, next_item}
+use Rattle.fsb_timely.specs.Scripts.{plain_need}
 use Rattle.fsb_timely.proofs.Interface.{at, logged-next, logs-item, not-behind, steps-completed}
 use Rattle.fsb_lawful.proofs.Interface.{some-and}
 use Rattle.fsb_run_laws.specs.Reaches.{Reaches}
@@ -24,12 +23,7 @@ use Rattle.fsb_agent_run.proofs.HandSteps.{stores_into}
 
 pub completes-there : (r : Run) (a c : ℕ) → Reaches r (c + 1) → a < 4
     → (is_hit (past_of r) a c ≡ true) ⊎ (is_arrival (past_of r) a c ≡ true) → completes_at (past_of r) a c ≡ true
-completes-there r a c h few which =
-    let p = past_of r in
-    completes-exactly r a c h few ∙ elim which [
-      | inl hit ↦ or_left (is_hit p a c) (is_arrival p a c) hit
-      | inr arrival ↦ or_right (is_hit p a c) (is_arrival p a c) arrival
-    ]
+completes-there r a c h few which = grind (arith, completes-exactly)
 
 pub completes-not : (r : Run) (a c : ℕ) → Reaches r (c + 1) → a < 4 → is_hit (past_of r) a c ≡ false
     → is_arrival (past_of r) a c ≡ false → completes_at (past_of r) a c ≡ false
@@ -64,14 +58,7 @@ completes-item r a c h few which =
 pub item-there : (p : Past) (a c : ℕ) → (is_hit p a c ≡ true) ⊎ (is_arrival p a c ≡ true)
     → (item : Item) × (next_item p a c ≡ Some item)
 unfolding is_hit is_arrival
-item-there p a c (inl e) =
-    let k = some-and (next_item p a c) (λ item. list_all (is_served p a c) (needs_of item))
-    (and_parts (not (is_idling p a c)) _ e).1 in
-    (k.0, k.1)
-item-there p a c (inr e) =
-    let k = some-and (next_item p a c) (λ item. list_any (completes_by p a c (needs_of item)) (needs_of item))
-    (and_parts (not (is_idling p a c) && not (is_hit p a c)) _ e).1 in
-    (k.0, k.1)
+item-there p a c h1 = grind (arith, some-and)
 
 -- in a timely run it is logged
 pub logged-there : (r : Run) (a c : ℕ) → Reaches r (c + 1) → a < 4
@@ -112,14 +99,10 @@ stores-by-steps a line c (done ∷ log) =
     ]
   where
     no-clock : (x y : Bool) → ((x && y) && false) ≡ false
-    no-clock true true = refl
-    no-clock true false = refl
-    no-clock false y = refl
+    no-clock x y = grind arith
 
     whole : (x y : Bool) → (((true && x) && y) && true) ≡ (x && y)
-    whole true true = refl
-    whole true false = refl
-    whole false y = refl
+    whole x y = grind arith
 
 -- the needs of an item are those of its accesses: what holds of each need holds of each access's line
 group-needs : (f : Need → Bool) (g : Access → Bool) (group accesses : List Access) (n part : ℕ)
@@ -128,9 +111,7 @@ group-needs : (f : Need → Bool) (g : Access → Bool) (group accesses : List A
     → list_all (λ (step : Step). g step.access) (steps_from n part accesses) ≡ true
 group-needs f g group [] n part each all = refl
 group-needs f g group (access ∷ accesses) n part each all =
-    let parts = and_parts (f (locked_need [] group access)) (list_all f (map (locked_need [] group) accesses)) all in
-    and_from (g access) (list_all (λ (step : Step). g step.access) (steps_from n (part + 1) accesses))
-    (each access parts.0) (group-needs f g group accesses n (part + 1) each parts.1)
+    grind (arith, group-needs f g group accesses n (part + 1) each)
 
 -- what is needed for an access: its line, and alone for a store
 pub record IsNeedOf (need : Need) (access : Access) : Type 0 where
@@ -141,14 +122,7 @@ pub steps-need : (f : Need → Bool) (g : Access → Bool) (n : ℕ) (item : Ite
     → ((need : Need) (access : Access) → IsNeedOf need access → f need ≡ true → g access ≡ true)
     → list_all f (needs_of item) ≡ true → list_all (λ (step : Step). g step.access) (steps_of_item n item) ≡ true
 unfolding needs_of needs_after plain_need locked_need
-steps-need f g n (One access) each all =
-    let here = (and_parts (f (plain_need [] access)) true all).0 in
-    and_from (g access) true
-    (each (plain_need [] access) access (record { line = refl; alone = λ e. ap not e }) here) refl
-steps-need f g n (Locked group) each all =
-    group-needs f g group group n 0
-    (λ access e. each (locked_need [] group access) access (record { line = refl; alone = λ _. refl }) e) all
-steps-need f g n (Idle clocks) each all = refl
+steps-need f g n item h1 h2 = grind (arith, group-needs)
 
 -- what passes in each access passes in one that stores into a line
 pub any-stores : (g : Access → Bool) (line : ℕ) (steps : List Step)
@@ -167,5 +141,4 @@ any-stores g line (step ∷ steps) all any =
     ]
   where
     not-load : (b : Bool) → not b ≡ true → b ≡ false
-    not-load false e = refl
-    not-load true e = absurd (let no : ⊥ = cc in no)
+    not-load b h1 = grind arith

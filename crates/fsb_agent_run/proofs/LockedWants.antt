@@ -1,19 +1,17 @@
 -- A want is a locked one exactly where the agent's next item is, and the want is no write-back.
-use Rattle.std.proofs.Common.{ℕ, zero, suc, ◌+◌, ◌-◌, ◌≡◌, ◌&&◌, Bool, true, false, not, Option, Some, None, List, []}
-use Rattle.std.proofs.Common.{◌∷◌, ◌++◌, map, drop, slice_get, if◌then◌else◌, refl, sym, ap, ◌∙◌, arith, inl, inr}
+use Rattle.std.proofs.Common.{ℕ, zero, suc, ◌+◌, ◌≡◌, ◌&&◌, Bool, true, false, not, Option, Some, None, List, [], ◌∷◌}
+use Rattle.std.proofs.Common.{◌++◌, map, drop, slice_get, if◌then◌else◌, refl, sym, ap, ◌∙◌, arith}
 use Rattle.std.specs.List.{find, list_all}
-use Rattle.std.specs.Option.{option_and_then, option_map, option_map_or}
-use Rattle.std.proofs.lemmas.Bool.{and_from, and_parts, cases_Bool}
+use Rattle.std.specs.Option.{option_map, option_map_or}
 use Rattle.std.proofs.lemmas.Option.{slice_get_within}
 use Rattle.fsb_access.specs.declared.access.Access.{Access}
 use Rattle.fsb_access.specs.declared.item.Item.{Item}
 use Rattle.fsb_access.specs.declared.item.Item.TheVariants.{One, Locked, Idle}
 use Rattle.fsb_agent_view.specs.AgentViews.{AgentView, number_by}
-use Rattle.fsb_agent_view.specs.Wanting.{free_id_by, is_missing_by, is_silent_by, kind_by, missing_by, victim_by}
-use Rattle.fsb_agent_view.specs.Wanting.{want_by, want_for_by}
+use Rattle.fsb_agent_view.specs.Wanting.{free_id_by, is_missing_by, kind_by, missing_by, victim_by, want_by}
+use Rattle.fsb_agent_view.specs.Wanting.{want_for_by}
 use Rattle.fsb_agent_view.specs.declared.want.Want.{Want}
 use Rattle.fsb_count.specs.Options.{is_some_and}
-use Rattle.fsb_encode.specs.declared.request.Kind.TheVariants.{Invalidate, Read, Upgrade}
 use Rattle.fsb_encode.specs.declared.request.Request.{Request}
 use Rattle.fsb_timely.specs.BusLock.{wants_lock}
 use Rattle.fsb_timely.specs.Past.{Past}
@@ -32,26 +30,17 @@ is_locked_so b need = if b then need.locked else not need.locked
 all-both : (f : Need → Bool) (xs ys : List Need) → list_all f xs ≡ true → list_all f ys ≡ true
     → list_all f (xs ++ ys) ≡ true
 all-both f [] ys h k = k
-all-both f (x ∷ xs) ys h k =
-    let parts = and_parts (f x) (list_all f xs) h in
-    and_from (f x) (list_all f (xs ++ ys)) parts.0 (all-both f xs ys parts.1 k)
+all-both f (x ∷ xs) ys h k = grind (arith, all-both f xs ys)
 
 all-found : (f g : Need → Bool) (xs : List Need) (x : Need) → list_all f xs ≡ true → find g xs ≡ Some x → f x ≡ true
 all-found f g [] x h e = absurd (let no : ⊥ = cc in no)
-all-found f g (y ∷ ys) x h e =
-    let parts = and_parts (f y) (list_all f ys) h in
-    elim (cases_Bool (g y)) [
-      | inl t ↦ let found = rw t at e in let same : y ≡ x = cc in ap f (sym same) ∙ parts.0
-      | inr t ↦ all-found f g ys x parts.1 (let rest = rw t at e in rest)
-    ]
+all-found f g (y ∷ ys) x h e = grind (arith, all-found f g ys x)
 
 -- an item that is not locked has no locked need, and neither have the plain items
 plain-after : (earlier : List ℕ) (item : Item) → is_locked item ≡ false
     → list_all (is_locked_so false) (needs_after earlier item) ≡ true
 unfolding needs_after plain_need is_locked
-plain-after earlier (One access) e = refl
-plain-after earlier (Locked group) e = absurd (let no : ⊥ = cc in no)
-plain-after earlier (Idle clocks) e = refl
+plain-after earlier item h1 = grind arith
 
 plain-from : (earlier : List ℕ) (n : ℕ) (items : List Item)
     → list_all (is_locked_so false) (needs_from earlier (plain_items n items)) ≡ true
@@ -76,25 +65,10 @@ locked-map earlier group (access ∷ rest) = locked-map earlier group rest
 pub window-locked : (ahead : ℕ) (item : Item) (items : List Item)
     → list_all (is_locked_so (is_locked item)) (needs_from [] (window_from ahead item items)) ≡ true
 unfolding window_from needs_from needs_after is_locked
-window-locked ahead (One access) items =
-    all-both (is_locked_so false) (needs_after [] (One access))
-    (needs_from ([] ++ map (λ need. need.line) (needs_of (One access))) (plain_items (ahead - 1) items))
-    (plain-after [] (One access) refl)
-    (plain-from ([] ++ map (λ need. need.line) (needs_of (One access))) (ahead - 1) items)
-window-locked ahead (Locked group) items =
-    all-both (is_locked_so true) (map (locked_need [] group) group) [] (locked-map [] group group) refl
-window-locked ahead (Idle clocks) items =
-    all-both (is_locked_so false) []
-    (needs_from ([] ++ map (λ need. need.line) (needs_of (Idle clocks))) (plain_items (ahead - 1) items))
-    refl (plain-from ([] ++ map (λ need. need.line) (needs_of (Idle clocks))) (ahead - 1) items)
+window-locked ahead item items = grind (arith, all-both, plain-after, plain-from, locked-map)
 
 so-same : (b : Bool) (need : Need) → is_locked_so b need ≡ true → need.locked ≡ b
-so-same true need e = e
-so-same false need e = by need.locked e
-  where
-    by : (c : Bool) → not c ≡ true → c ≡ false
-    by true e = absurd (let no : ⊥ = cc in no)
-    by false e = refl
+so-same b need h1 = grind arith
 
 -- a need of a window that begins in a script is locked as the item there
 need-locked : (ahead : ℕ) (items : List Item) (n : ℕ) (f : Need → Bool) (need : Need) (o : Option Item)
@@ -115,46 +89,22 @@ need-locked ahead items n f need (Some item) at e = (
 next-there : (p : Past) (a c n : ℕ) (item : Item) (o : Option ℕ) → next_number p a c ≡ o → n ≡ place_of (items_of p a) o
     → slice_get (items_of p a) n ≡ Some item → next_item p a c ≡ Some item
 unfolding next_item
-next-there p a c n item None e at there =
-    let within = slice_get_within (items_of p a) n item there in absurd (omega arith)
-next-there p a c n item (Some m) e at there = ap (option_and_then (slice_get (items_of p a))) e
-    ∙ ap (slice_get (items_of p a)) (sym at) ∙ there
-
-kind-plain : (b c : Bool) → is_write_back_kind (if b then Read else (if c then Upgrade else Invalidate)) ≡ false
-unfolding is_write_back_kind
-kind-plain true c = refl
-kind-plain false true = refl
-kind-plain false false = refl
+next-there p a c n item o h1 h2 h3 = grind (arith, slice_get_within)
 
 -- the want for a need, where this is the victim
 abbrev want_with : AgentView → Need → Option ℕ → Want
 want_with v need (Some victim) = record { request = write_back_of victim (free_id_by v); locked = false }
 want_with v need None = record { request = request_of_kind (kind_by v need) need (free_id_by v); locked = need.locked }
 
-and-false : (a b : Bool) → b ≡ false → a ≡ (a && not b)
-and-false true b e = rw e refl
-and-false false b e = refl
-
-false-and : (a : Bool) → false ≡ (a && false)
-false-and true = refl
-false-and false = refl
-
 -- a write-back is not locked, and another want is as the need
 want-locked : (v : AgentView) (need : Need) (o : Option ℕ)
     → (want_with v need o).locked ≡ (need.locked && not (is_write_back_kind (want_with v need o).request.kind))
 unfolding request_of_kind write_back_of is_write_back_kind
-want-locked v need None = and-false need.locked (is_write_back_kind (kind_by v need)) (kind-plain (not need.alone) _)
-want-locked v need (Some victim) = false-and need.locked
+want-locked v need o = grind arith
 
 silent-none : (v : AgentView) (c : ℕ) (want : Want) → want_by v c ≡ Some want
     → (need : Need) × (missing_by v c ≡ Some need) × (want_for_by v need ≡ want)
-silent-none v c want e = by (is_silent_by v c) (missing_by v c) e
-  where
-    by : (b : Bool) (o : Option Need) → (elim b [ true ↦ None | false ↦ option_map (want_for_by v) o ]) ≡ Some want
-        → (need : Need) × (o ≡ Some need) × (want_for_by v need ≡ want)
-    by true o e = absurd (let no : ⊥ = cc in no)
-    by false None e = absurd (let no : ⊥ = cc in no)
-    by false (Some need) e = (need, refl, (let same : want_for_by v need ≡ want = cc in same))
+silent-none v c want e = grind arith
 
 lock-told : (p : Past) (a c : ℕ) (item : Item) (request : Request) → next_item p a c ≡ Some item
     → want_of p a c ≡ Some request

@@ -1,6 +1,6 @@
 -- What an agent makes at a clock, by its hit and by its arrival, has the steps that a timely run logs of it there.
-use Rattle.std.proofs.Common.{ℕ, ◌+◌, ◌<◌, ◌≡◌, Bool, true, false, ◌&&◌, ◌||◌, List, [], ◌∷◌, ◌++◌, map, Some, nat_eq}
-use Rattle.std.proofs.Common.{append-nil, refl, sym, ap, ◌∙◌, inl, inr}
+use Rattle.std.proofs.Common.{ℕ, ◌+◌, ◌<◌, ◌≡◌, Bool, false, ◌&&◌, ◌||◌, List, [], ◌∷◌, ◌++◌, map, Some, nat_eq}
+use Rattle.std.proofs.Common.{append-nil, refl, sym, ap, ◌∙◌, inl, inr, arith}
 use Rattle.std.specs.List.{filter, list_any}
 use Rattle.std.proofs.lemmas.Bool.{cases_Bool, false_from_ne_true, both_ways}
 use Rattle.fsb_access.specs.declared.item.Item.{Item}
@@ -50,8 +50,7 @@ unlogged a c (done ∷ log) e =
     ]
   where
     rest : (x y : Bool) → (x || y) ≡ false → y ≡ false
-    rest true y e = absurd (let no : ⊥ = cc in no)
-    rest false y e = e
+    rest x y h1 = grind arith
 
 -- the accesses of the clock have the steps of the log
 steps-logged : (r : Run) (a c : ℕ) → Reaches r (c + 1) → a < 4
@@ -84,7 +83,4 @@ pub entries-logged : (r : Run) (a c : ℕ) (hits arrivals : List Done) → Reach
     → LogsAccesses c (completed_if (past_of r) c (is_hit (past_of r) a c) a) hits
     → LogsAccesses c (completed_if (past_of r) c (is_arrival (past_of r) a c) a) arrivals
     → map step_of (hits ++ arrivals) ≡ steps_of a (filter (λ (done : Done). nat_eq done.clock c) r.log)
-entries-logged r a c hits arrivals h few hit arrival =
-    steps-both hits arrivals
-    ∙ (λ i. steps_in (hit.accessed i ++ arrival.accessed i))
-    ∙ steps-logged r a c h few
+entries-logged r a c hits arrivals h few hit arrival = grind (arith, steps-both, steps-logged)

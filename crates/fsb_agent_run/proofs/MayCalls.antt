@@ -1,18 +1,16 @@
 -- A view of an agent may see the snoop ends and ends of a timely run.
-use Rattle.std.proofs.Common.{ℕ, ◌+◌, ◌<◌, ◌≡◌, ◌≢◌, Bool, true, false, not, ◌&&◌, ◌||◌, Option, Some, None, length}
-use Rattle.std.proofs.Common.{nat_lt, refl, sym, ap, ◌∙◌, arith}
+use Rattle.std.proofs.Common.{ℕ, ◌+◌, ◌<◌, ◌≡◌, ◌≢◌, Bool, true, false, not, ◌||◌, Option, Some, None, length, nat_lt}
+use Rattle.std.proofs.Common.{refl, sym, ap, ◌∙◌, arith}
 use Rattle.std.specs.Prelude.{is_some}
-use Rattle.std.proofs.lemmas.Bool.{eq-eqb, lt-ltb}
+use Rattle.std.proofs.lemmas.Bool.{eq-eqb}
 use Rattle.fsb_count.specs.Options.{is_some_and}
 use Rattle.fsb_line.specs.declared.state.Mesi.{Mesi}
 use Rattle.fsb_line.specs.States.{is_modified}
 use Rattle.fsb_trace.specs.declared.outcome.Outcome.{Outcome}
-use Rattle.fsb_trace.specs.declared.outcome.Outcome.TheVariants.{Granted, Handed, Retried, Deferred, Written, Replied}
-use Rattle.fsb_trace.specs.declared.outcome.Outcome.TheVariants.{Failed, Upgraded}
+use Rattle.fsb_trace.specs.declared.outcome.Outcome.TheVariants.{Deferred, Written, Upgraded}
 use Rattle.fsb_timely.specs.Past.{Claim, Grant, Past, SnoopEnd}
 use Rattle.fsb_timely.specs.Grants.{begun_at, grant_at, is_granted, snooped_at}
 use Rattle.fsb_timely.specs.Hits.{is_dirty}
-use Rattle.fsb_timely.specs.Moments.{is_upgraded, makes_grant}
 use Rattle.fsb_timely.specs.Runs.{Run, past_of}
 use Rattle.fsb_timely.specs.Timely.{Timely}
 use Rattle.fsb_lawful.specs.Beginning.{KeepsBounds}
@@ -31,7 +29,7 @@ use Rattle.fsb_agent_run.specs.RunViews.{is_awaited}
 use Rattle.fsb_agent_run.proofs.BufferCounts.{fill-counted}
 use Rattle.fsb_agent_run.proofs.FewOwed.{owed-before}
 use Rattle.fsb_agent_run.proofs.FillsTold.{fill_out}
-use Rattle.fsb_agent_run.proofs.GivenBytes.{granted-if, same-first}
+use Rattle.fsb_agent_run.proofs.GivenBytes.{same-first}
 use Rattle.fsb_agent_run.proofs.OwnEnds.{awaited-at-end, snooped-before, ungranted-unawaited, written-dirty}
 use Rattle.fsb_agent_run.proofs.OwnLines.{open-unawaited, own-claim, own-grant, settled-unawaited}
 
@@ -44,9 +42,7 @@ granted-as p a n c v out sound fills found =
 few-owed : (r : Run) (a c : ℕ) (s : SnoopEnd) (v : AgentView) → Timely r → KeepsBounds r.plan → c < length r.trace
     → snooped_at (past_of r) c ≡ Some s → HasBytesOwed (past_of r) a c (c + 1) c v
     → nat_lt (owed_count v.buffers) 8 ≡ true
-few-owed r a c s v h bounds l there owed =
-    let few = owed-before r a c s h bounds l there in
-    lt-ltb (owed_count v.buffers) 8 (omega (arith, few, owed.count))
+few-owed r a c s v h bounds l there owed = grind (arith, owed-before)
 
 -- what an agent writes back it has Modified
 settled-as : (r : Run) (a c : ℕ) (s : SnoopEnd) (out : OwnRequest) (state : Mesi) → Timely r → KeepsBounds r.plan
@@ -64,14 +60,7 @@ settled-as r a c s out state h bounds l k dirty = by s.outcome refl
         written-dirty r a out.request.line c s claim h bounds l k.there claims own.0 own.1 e
 
     by : (outcome : Outcome) → s.outcome ≡ outcome → may_be_settled outcome state ≡ true
-    by Granted e = refl
-    by Handed e = refl
-    by Retried e = refl
-    by Deferred e = refl
-    by Written e = dirty ∙ written e s.claim refl
-    by Replied e = refl
-    by Failed e = refl
-    by Upgraded e = refl
+    by outcome h1 = grind (arith, written)
 
 pub own-may : (r : Run) (a c : ℕ) (s : SnoopEnd) (out : OwnRequest) (v : AgentView) → Timely r → KeepsBounds r.plan
     → c < length r.trace → IsOwnSnoopEnd (past_of r) a c s out → IsSound v
@@ -115,9 +104,7 @@ settled-granted r a line t s grant out h bounds l k made = by s.claim refl
         let fits = (facts.settles.settled s claim k.there claims refl).fits in
         let x : Grant =
         record { first = s.first; agent = fits.agent; line = claim.line; owns = fits.owns; shared = fits.shared } in
-        let is : x ≡ grant =
-        granted-if (makes_grant fits.kind s.outcome ||
-        (is_upgraded s.outcome && fits.won)) s.grant x grant fits.granted made in
+        let is : x ≡ grant = grind arith in
         from (ap (λ (y : Grant). y.agent) (sym is)
         ∙ sym (same-first (past_of r) claim.line t s claim claims fits).1 ∙ own.0)
         (ap (λ (y : Grant). y.line) (sym is) ∙ own.1)
@@ -132,8 +119,7 @@ granted-at-end r a c s grant out v h bounds l k made sound found fills =
     (settled-granted r a out.request.line k.at s grant out h bounds (omega arith) k.snooped made) k.ends
 
 some-grant : (o : Option Grant) → is_some o ≡ true → (grant : Grant) × (o ≡ Some grant)
-some-grant None e = absurd (let no : ⊥ = cc in no)
-some-grant (Some grant) e = (grant, refl)
+some-grant o h1 = grind arith
 
 pub arrives-may : (r : Run) (a c : ℕ) (s : SnoopEnd) (out : OwnRequest) (v : AgentView) → Timely r → KeepsBounds r.plan
     → c < length r.trace → IsOwnEnd (past_of r) a c s out → is_some s.grant ≡ true → IsSound v
@@ -158,17 +144,14 @@ pub upgrade-may : (r : Run) (a c : ℕ) (s : SnoopEnd) (out : OwnRequest) (v : A
 upgrade-may r a c s out v h bounds l k upgraded sound found fills kept = rw found (by s.grant refl)
   where
     last : (b : Bool) → (not b || true) ≡ true
-    last true = refl
-    last false = refl
+    last b = grind arith
 
     by : (o : Option Grant) → s.grant ≡ o → (not out.granted || is_some out.kept) ≡ true
     by None none =
         let open_one = ungranted-at-end r a c s out v h bounds l k none
         (λ e. let both = sym upgraded ∙ e in let no : ⊥ = cc in no) sound found fills in
         rw open_one refl
-    by (Some grant) made =
-        let has : is_some out.kept ≡ true = kept ∙ ap is_some made in
-        rw has (last out.granted)
+    by (Some grant) made = grind arith
 
 pub given-up-may : (r : Run) (a c : ℕ) (s : SnoopEnd) (out : OwnRequest) (v : AgentView) → Timely r → KeepsBounds r.plan
     → c < length r.trace → IsOwnEnd (past_of r) a c s out → s.grant ≡ None → s.outcome ≢ Deferred → IsSound v
@@ -185,7 +168,5 @@ pub cancelled-may : (r : Run) (a c : ℕ) (claim : Claim) (out : OwnRequest) (v 
 cancelled-may r a c claim out v h bounds l cancels agent names sound begun found fills =
     let k = (clock-facts r out.request.line c h bounds l).begins.cancelled claim.first claim cancels begun names in
     let unawaited = open-unawaited r claim.agent out.request.line c k.0 h bounds (omega arith) k.1 in
-    let open_one : out.granted ≡ false =
-    granted-as (past_of r) a c c v out sound fills found
-    ∙ ap (λ b. is_awaited (past_of r) b out.request.line c c) (sym agent) ∙ unawaited in
+    let open_one : out.granted ≡ false = grind (arith, granted-as) in
     rw found (ap not open_one)

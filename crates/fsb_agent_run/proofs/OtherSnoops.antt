@@ -1,11 +1,11 @@
 -- The snoop end of another agent's request, of a reply, and a clock without one, in an agent's view.
-use Rattle.std.proofs.Common.{ℕ, ◌+◌, ◌<◌, ◌≡◌, ◌≢◌, ◌⊎◌, Bool, true, false, cond, not, ◌&&◌, ◌||◌, [], length, Option}
+use Rattle.std.proofs.Common.{ℕ, ◌+◌, ◌<◌, ◌≡◌, ◌≢◌, ◌⊎◌, Bool, true, false, not, ◌&&◌, ◌||◌, [], length, Option}
 use Rattle.std.proofs.Common.{Some, None, is_some, nat_eq, refl, sym, ap, subst, ◌∙◌, inl, inr, arith, if◌then◌else◌}
 use Rattle.std.specs.Prelude.{◌==◌}
 use Rattle.std.specs.List.{find}
 use Rattle.std.specs.Option.{option_map_or}
 use Rattle.std.proofs.lemmas.Bool.{cases_Bool, eqb-true, false_from_ne_true, ne_eqb}
-use Rattle.fsb_cache.specs.Sets.{CacheSets, held_shared, sets_filled, states}
+use Rattle.fsb_cache.specs.Sets.{CacheSets, sets_filled, states}
 use Rattle.fsb_count.specs.Options.{is_at, is_some_and}
 use Rattle.fsb_count.proofs.Interface.{is_at-some, nat_eq-sym}
 use Rattle.fsb_encode.specs.declared.request.Kind.{Kind}
@@ -19,18 +19,16 @@ use Rattle.fsb_line.specs.States.{after_snoop, asks_line, granted, is_held}
 use Rattle.fsb_line.proofs.Interface.{modified_is_sole}
 use Rattle.fsb_linebuf.specs.Buffers.{Buffered}
 use Rattle.fsb_timely.specs.Past.{Claim, Grant, Owing, Past, SnoopEnd}
-use Rattle.fsb_timely.specs.Grants.{grant_at, holds_line, is_claim_of, is_claim_of_other, is_evicted, is_exclusive}
-use Rattle.fsb_timely.specs.Grants.{is_granted, is_named_by_other, is_owning, is_snooped, is_taken_away}
-use Rattle.fsb_timely.specs.Grants.{is_written_back, snooped_at}
-use Rattle.fsb_timely.specs.Hits.{is_dirty}
+use Rattle.fsb_timely.specs.Grants.{grant_at, holds_line, is_claim_of, is_claim_of_other, is_granted}
+use Rattle.fsb_timely.specs.Grants.{is_named_by_other, is_owning, is_snooped, is_taken_away, is_written_back}
+use Rattle.fsb_timely.specs.Grants.{snooped_at}
 use Rattle.fsb_timely.specs.Moments.{is_owner_request, is_upgraded}
 use Rattle.fsb_timely.specs.Runs.{Run, past_of}
 use Rattle.fsb_timely.specs.Wants.{owed, want_of}
 use Rattle.fsb_trace.specs.Outcome.{is_deferral}
 use Rattle.fsb_trace.specs.Requests.{is_write_back_kind}
 use Rattle.fsb_trace.specs.declared.outcome.Outcome.{Outcome}
-use Rattle.fsb_trace.specs.declared.outcome.Outcome.TheVariants.{Granted, Handed, Retried, Deferred, Written, Replied}
-use Rattle.fsb_trace.specs.declared.outcome.Outcome.TheVariants.{Failed, Upgraded}
+use Rattle.fsb_trace.specs.declared.outcome.Outcome.TheVariants.{Replied}
 use Rattle.fsb_coherent.specs.Awaits.{cancelled_in, purpose_of}
 use Rattle.fsb_coherent.specs.Fitting.{fits_getting, fits_kind, fits_upgrade, fits_write_back}
 use Rattle.fsb_lawful.proofs.Interface.{map-some}
@@ -45,7 +43,7 @@ use Rattle.fsb_agent_view.specs.Snooping.{buffers_giving, committed, granted_by,
 use Rattle.fsb_agent_view.specs.Snooping.{other_settled, own_settled, sets_lowered, state_snooped, with_fill}
 use Rattle.fsb_agent_view.proofs.Interface.{length-with_slot}
 use Rattle.fsb_agent_run.specs.AgentClocks.{number_asked}
-use Rattle.fsb_agent_run.specs.RunViews.{HasRequestsOf, fill_count, is_won_below, state_told}
+use Rattle.fsb_agent_run.specs.RunViews.{HasRequestsOf, fill_count, is_won_below}
 use Rattle.fsb_agent_run.specs.Stages.{IsViewAfterSnoop, IsViewBeforeSnoop, is_uncancelled, owed_sent, owed_through}
 use Rattle.fsb_agent_run.proofs.Among.{Among, among-left, filter-among, found-among}
 use Rattle.fsb_agent_run.proofs.FillCounts.{count_on, count-promised}
@@ -53,8 +51,7 @@ use Rattle.fsb_agent_run.proofs.OutLists.{find-number, out-there, wanted-of}
 use Rattle.fsb_agent_run.proofs.OwedApart.{one-line, owed-apart}
 use Rattle.fsb_agent_run.proofs.OwedSteps.{owed-there, reaches-less}
 use Rattle.fsb_agent_run.proofs.OwnSnoops.{grant-of-snoop, own-won, settled-as}
-use Rattle.fsb_agent_run.proofs.SlotStates.{InSets, in_sets-mapped, in_sets-without, length-without, state-shared}
-use Rattle.fsb_agent_run.proofs.SlotStates.{state-without}
+use Rattle.fsb_agent_run.proofs.SlotStates.{InSets, in_sets-mapped, in_sets-without, state-shared, state-without}
 use Rattle.fsb_agent_run.proofs.SnoopSteps.{granted-to-other, granted-view, lowered-view, number-other, outs-apart}
 use Rattle.fsb_agent_run.proofs.SnoopSteps.{requests-still}
 use Rattle.fsb_agent_run.proofs.WonSteps.{no-snoop, other-snoop, won-known, won-still}
@@ -98,32 +95,15 @@ lowered-invalid : (sets : CacheSets) (line other : ℕ) (state : Mesi) → state
 lowered-invalid sets line other state e = rw e (state-without sets line other)
 
 pub in_sets-lowered : (sets : CacheSets) (line : ℕ) (state : Mesi) → InSets sets → InSets (sets_lowered sets line state)
-in_sets-lowered sets line Invalid in_sets = in_sets-without sets line in_sets
-in_sets-lowered sets line Shared in_sets = in_sets-mapped sets line held_shared (λ held. refl) in_sets
-in_sets-lowered sets line Exclusive in_sets = in_sets
-in_sets-lowered sets line Modified in_sets = in_sets
+in_sets-lowered sets line state h1 = grind (arith, in_sets-without, in_sets-mapped)
 
 pub length-lowered : (sets : CacheSets) (line : ℕ) (state : Mesi) → length (sets_lowered sets line state) ≡ length sets
-length-lowered sets line Invalid = length-without sets line
-length-lowered sets line Shared = length-with_slot sets line _
-length-lowered sets line Exclusive = refl
-length-lowered sets line Modified = refl
-
-same-there : (sets : CacheSets) (line other : ℕ) (state : Mesi) → states sets line ≡ state
-    → (if other == line then state else states sets other) ≡ states sets other
-same-there sets line other state e = elim (cases_Bool (other == line)) [
-  | inl on ↦ rw on (sym e ∙ ap (states sets) (sym (eqb-true other line on)))
-  | inr off ↦ rw off refl
-]
+length-lowered sets line state = grind (arith, length-with_slot)
 
 -- a line that is lowered to what it is
 pub lowered-same : (sets : CacheSets) (line other : ℕ) (state : Mesi) → states sets line ≡ state
     → states (sets_lowered sets line state) other ≡ states sets other
-lowered-same sets line other Invalid e = state-without sets line other ∙ same-there sets line other Invalid e
-lowered-same sets line other Shared e = state-shared sets line other (ap is_held e)
-    ∙ same-there sets line other Shared e
-lowered-same sets line other Exclusive e = refl
-lowered-same sets line other Modified e = refl
+lowered-same sets line other state h1 = grind (arith, state-without, state-shared)
 
 -- bytes that are owed or promised to another add no fill
 fills-giving : (v : AgentView) (line number other : ℕ) (gives : Bool)
@@ -166,18 +146,9 @@ writes-alone r a c s claim h there claims kind other =
 abbrev told_by : Kind → Mesi → Mesi
 told_by kind state = if is_owning kind then Invalid else state_read state
 
-pub unheld-invalid : (state : Mesi) → is_held state ≡ false → state ≡ Invalid
-unheld-invalid Invalid e = refl
-unheld-invalid Shared e = absurd (let no : ⊥ = cc in no)
-unheld-invalid Exclusive e = absurd (let no : ⊥ = cc in no)
-unheld-invalid Modified e = absurd (let no : ⊥ = cc in no)
-
 read-held : (state : Mesi) → is_held state ≡ true → state_read state ≡ Shared
 unfolding state_read
-read-held Invalid e = absurd (let no : ⊥ = cc in no)
-read-held Shared e = refl
-read-held Exclusive e = refl
-read-held Modified e = refl
+read-held state h1 = grind arith
 
 read-invalid : state_read Invalid ≡ Invalid
 unfolding state_read
@@ -188,41 +159,17 @@ snooped-line : (sets : CacheSets) (line other : ℕ) (kind : Kind) → is_write_
     → states (sets_lowered sets line (after_snoop (states sets line) (kind_asks kind))) other
     ≡ (if other == line then told_by kind (states sets line) else states sets other)
 unfolding is_owning is_write_back_kind
-snooped-line sets line other kinds.Reply plain not_reply = absurd (not_reply refl)
-snooped-line sets line other kinds.Invalidate plain not_reply = state-without sets line other
-snooped-line sets line other kinds.Upgrade plain not_reply = state-without sets line other
-snooped-line sets line other kinds.WriteBack plain not_reply = absurd (let no : ⊥ = cc in no)
-snooped-line sets line other kinds.Read plain not_reply = elim (cases_Bool (is_held (states sets line))) [
-  | inl held ↦
-      lowered-shared sets line other (cond (is_held (states sets line)) Shared Invalid)
-      (ap (λ b. cond b Shared Invalid) held) held
-      ∙ ap (λ x. if other == line then x else states sets other) (sym (read-held (states sets line) held))
-  | inr off ↦
-      let none = unheld-invalid (states sets line) off in
-      lowered-invalid sets line other (cond (is_held (states sets line)) Shared Invalid)
-      (ap (λ b. cond b Shared Invalid) off)
-      ∙ ap (λ x. if other == line then x else states sets other) (sym read-invalid ∙ ap state_read (sym none))
-]
+snooped-line sets line other kind h1 h2 =
+    grind (arith, state-without, lowered-shared, read-held, lowered-invalid, read-invalid)
 
 never-replied : (kind : Kind) → fits_kind kind Replied ≡ true → ⊥
 unfolding fits_kind fits_getting fits_upgrade fits_write_back
-never-replied kinds.Reply e = cc
-never-replied kinds.Invalidate e = cc
-never-replied kinds.Read e = cc
-never-replied kinds.WriteBack e = cc
-never-replied kinds.Upgrade e = cc
+never-replied kind h1 = grind arith
 
 snooped-as : (state : Mesi) (kind : Kind) (outcome : Outcome) → fits_kind kind outcome ≡ true
     → state_snooped state kind outcome ≡ after_snoop state (kind_asks kind)
 unfolding fits_kind
-snooped-as state kind Granted e = refl
-snooped-as state kind Handed e = refl
-snooped-as state kind Retried e = refl
-snooped-as state kind Deferred e = refl
-snooped-as state kind Written e = refl
-snooped-as state kind Failed e = refl
-snooped-as state kind Upgraded e = refl
-snooped-as state kind Replied e = absurd (never-replied kind e)
+snooped-as state kind outcome h1 = grind (arith, never-replied)
 
 no-reply-fits : (kind : Kind) (outcome : Outcome) → fits_kind kind outcome ≡ true → kind ≢ kinds.Reply
 unfolding fits_kind
@@ -230,18 +177,11 @@ no-reply-fits kind outcome e same = let e' = rw same at e in cc
 
 write-back : (kind : Kind) → is_write_back_kind kind ≡ true → kind ≡ kinds.WriteBack
 unfolding is_write_back_kind
-write-back kinds.Reply e = absurd (let no : ⊥ = cc in no)
-write-back kinds.Invalidate e = absurd (let no : ⊥ = cc in no)
-write-back kinds.Read e = absurd (let no : ⊥ = cc in no)
-write-back kinds.WriteBack e = refl
-write-back kinds.Upgrade e = absurd (let no : ⊥ = cc in no)
+write-back kind h1 = grind arith
 
 at-line : (l line : ℕ) (f : Mesi → Mesi) (state : ℕ → Mesi)
     → (if l == line then f (state line) else state l) ≡ (if l == line then f (state l) else state l)
-at-line l line f state = elim (cases_Bool (l == line)) [
-  | inl on ↦ rw on (ap (λ x. f (state x)) (sym (eqb-true l line on)))
-  | inr off ↦ rw off refl
-]
+at-line l line f state = grind arith
 
 -- the snoop end of another agent's request
 pub other-claimed : (r : Run) (a c number : ℕ) (s : SnoopEnd) (claim : Claim) (request : Request) (shared : Bool)
@@ -256,8 +196,7 @@ other-claimed r a c number s claim request shared v h there claims other want vi
     let same : k.request ≡ request = cc in
     let line : request.line ≡ claim.line = ap (λ (q : Request). q.line) (sym same) ∙ k.line in
     let kind : s.kind ≡ Some request.kind = k.kind ∙ ap (λ (q : Request). Some q.kind) same in
-    let fits : fits_kind request.kind s.outcome ≡ true =
-    ap (λ (q : Request). fits_kind q.kind s.outcome) (sym same) ∙ k.fits in
+    let fits : fits_kind request.kind s.outcome ≡ true = grind arith in
     let w : AgentView = other_settled v number request s.outcome in
     let st = line_state_by v request.line in
     lowered-view r a c v w
@@ -286,14 +225,11 @@ other-claimed r a c number s claim request shared v h there claims other want vi
     view
   where
     made-by : (b : Bool) (mine grant : Grant) → (if b then Some mine else None) ≡ Some grant → mine ≡ grant
-    made-by true mine grant e = (let same : mine ≡ grant = cc in same)
-    made-by false mine grant e = absurd (let no : ⊥ = cc in no)
+    made-by b mine grant h1 = grind arith
 
     told : (x y : Bool) (state : Mesi) → (if x then (if y then Invalid else state_read state) else state)
         ≡ (if false || (x && y) then Invalid else (if x then state_read state else state))
-    told true true state = refl
-    told true false state = refl
-    told false y state = refl
+    told x y state = grind arith
 
     by-kind : (l : ℕ) → request.line ≡ claim.line → s.kind ≡ Some request.kind → fits_kind request.kind s.outcome ≡ true
         → (is_write_back_kind request.kind ≡ true) ⊎ (is_write_back_kind request.kind ≡ false)
@@ -310,18 +246,14 @@ other-claimed r a c number s claim request shared v h there claims other want vi
     by-kind l line kind fits (inl writes) =
         let is = write-back request.kind writes in
         let alone = writes-alone r a c s claim h there claims (kind ∙ ap Some is) other in
-        let none : line_state_by v request.line ≡ Invalid = ap (line_state_by v) line ∙ view.lines.states claim.line
-        ∙ (λ i. state_told (alone i && not (is_evicted (past_of r) a claim.line c))
-        (is_exclusive (past_of r) a claim.line c && not (is_evicted (past_of r) a claim.line c))
-        (is_dirty (past_of r) a claim.line c)) in
+        let none : line_state_by v request.line ≡ Invalid = grind arith in
         ap (λ x. states
         (sets_lowered v.lines request.line (after_snoop (line_state_by v request.line) (kind_asks x))) l) is
         ∙ lowered-same v.lines request.line l (line_state_by v request.line) refl
         ∙ (elim (cases_Bool (nat_eq claim.line l)) [
           | inr off ↦ rw off refl
           | inl on ↦
-              let here : line_state_by v l ≡ Invalid = ap (line_state_by v)
-              (sym (eqb-true claim.line l on) ∙ sym line) ∙ none in
+              let here : line_state_by v l ≡ Invalid = grind arith in
               rw (on, is) (here ∙ sym read-invalid ∙ ap state_read (sym here))
         ])
 
@@ -336,15 +268,7 @@ pub unclaimed-view : (r : Run) (a c : ℕ) (v w : AgentView) → Reaches r (c + 
     → InSets w.lines → length w.lines ≡ length v.lines → w ≡ record v { lines = w.lines; buffers = w.buffers }
     → IsViewBeforeSnoop (past_of r) a c v → IsViewAfterSnoop (past_of r) a c w
 unclaimed-view r a c v w h none still won states fills in_sets size same view =
-    lowered-view r a c v w none
-    (record {
-      states = λ line. let k = still line in rw (k.0, k.1) (states line);
-      fills = fills;
-      in_sets = in_sets;
-      size = size;
-    }) same
-    (requests-still r a c v w (ap (λ (x : AgentView). x.outs) same) won view.requests)
-    view
+    grind (arith, lowered-view, requests-still)
 
 -- a clock without a snoop end, or with one that makes nothing of anybody's request
 pub quiet-view : (r : Run) (a c : ℕ) (v : AgentView) → Reaches r (c + 1)
@@ -452,8 +376,7 @@ served-out r a c n number grant v h serves mine asked requests =
     let numbered : found.0.number ≡ q = ap (λ (o : Owing). o.claim.first) found.2 ∙ first in
     let here = find-number p a found.0 v.outs (outs-apart r a c n v h requests) found.1 in
     let wanted = wanted-of p a n (owed_through p a c) v found.0 requests found.1 in
-    let mine_want : want_of p a q ≡ Some want.request =
-    subst (λ b. want_of p b q ≡ Some want.request) agent want.want in
+    let mine_want : want_of p a q ≡ Some want.request = grind arith in
     let told : want_of p a q ≡ Some found.0.request = ap (want_of p a) (sym numbered) ∙ wanted in
     let request : found.0.request ≡ want.request = (let e = sym told ∙ mine_want in cc) in
     record {
@@ -472,25 +395,14 @@ served-out r a c n number grant v h serves mine asked requests =
 
 deferred-plain : (outcome : Outcome) → is_deferral outcome ≡ true → is_upgraded outcome ≡ false
 unfolding is_deferral is_upgraded
-deferred-plain Granted e = refl
-deferred-plain Handed e = refl
-deferred-plain Retried e = refl
-deferred-plain Deferred e = refl
-deferred-plain Written e = refl
-deferred-plain Replied e = refl
-deferred-plain Failed e = refl
-deferred-plain Upgraded e = absurd (let no : ⊥ = cc in no)
+deferred-plain outcome h1 = grind arith
 
 -- the state of a line that a reply grants
 replied-state : (kind : Kind) (shared : Bool) → is_never_held_up kind ≡ false
     → (asks_line (kind_asks kind) ≡ true)
     × (granted (kind_asks kind) shared ≡ (if is_owning kind then Modified else (if shared then Shared else Exclusive)))
 unfolding is_owning
-replied-state kinds.Reply shared e = absurd (let no : ⊥ = cc in no)
-replied-state kinds.Invalidate shared e = (refl, refl)
-replied-state kinds.Read shared e = (refl, refl)
-replied-state kinds.WriteBack shared e = absurd (let no : ⊥ = cc in no)
-replied-state kinds.Upgrade shared e = (refl, refl)
+replied-state kind shared h1 = grind arith
 
 -- the snoop end of the reply to the agent's deferred request
 pub own-replied : (r : Run) (a c number : ℕ) (s : SnoopEnd) (grant : Grant) (request : Request) (v : AgentView)
@@ -507,8 +419,7 @@ own-replied r a c number s grant request v h some there none makes mine asked vi
     let out : OwnRequest = k.out in
     let at : grant_at p c ≡ Some grant = grant-of-snoop p c s there ∙ makes in
     let state = replied-state out.request.kind grant.shared k.plain in
-    let told : granted (kind_asks out.request.kind) grant.shared ≡ state_granted grant =
-    state.1 ∙ ap (λ b. if b then Modified else (if grant.shared then Shared else Exclusive)) (sym k.owns) in
+    let told : granted (kind_asks out.request.kind) grant.shared ≡ state_granted grant = grind arith in
     let before = k.serves.before in
     let known = snoop-below r c k.serves.clock k.serves.end h (omega arith) k.serves.snooped.tied.there in
     let unwon : is_won_below p (c + 1) out.number ≡ false =

@@ -1,7 +1,6 @@
 -- The requests of a view, as its agent's run knows them: without one, and with one granted.
-use Rattle.std.proofs.Common.{ℕ, ◌≡◌, ◌≢◌, ◌⊎◌, true, false, cond, not, List, [], ◌∷◌, map, Option, Some, is_some}
-use Rattle.std.proofs.Common.{nat_eq, refl, sym, ap, subst, ◌∙◌, inl, inr}
-use Rattle.std.specs.Prelude.{◌==◌}
+use Rattle.std.proofs.Common.{ℕ, ◌≡◌, ◌≢◌, ◌⊎◌, true, false, not, List, [], ◌∷◌, map, Option, Some, is_some, nat_eq}
+use Rattle.std.proofs.Common.{refl, sym, ap, subst, ◌∙◌, inl, inr, arith}
 use Rattle.std.specs.List.{filter, list_all}
 use Rattle.std.proofs.lemmas.Bool.{and_parts, both_ways, cases_Bool, eq-eqb, eqb-true, false_from_ne_true, ne_eqb}
 use Rattle.fsb_timely.specs.Past.{Owing, Past}
@@ -9,7 +8,6 @@ use Rattle.fsb_timely.specs.Wants.{want_of}
 use Rattle.fsb_agent_view.specs.declared.want.OwnRequest.{OwnRequest}
 use Rattle.fsb_agent_view.specs.AgentViews.{AgentView}
 use Rattle.fsb_agent_view.specs.OwnRequests.{is_numbered, request_numbered, requests_granted, requests_without}
-use Rattle.fsb_agent_view.specs.OwnRequests.{with_grant}
 use Rattle.fsb_agent_view.proofs.Interface.{without_first-cons}
 use Rattle.fsb_agent_run.specs.Owings.{are_owings_apart, is_owing_apart}
 use Rattle.fsb_agent_run.specs.RunViews.{HasRequestsOf, is_won_below, owing_by}
@@ -31,11 +29,7 @@ pub requests-from : (p : Past) (a n : ℕ) (owings : List Owing) (v : AgentView)
     → ((out : OwnRequest) → Among out v.outs → want_of p a out.number ≡ Some out.request)
     → ((out : OwnRequest) → Among out v.outs → is_some out.kept ≡ is_won_below p n out.number)
     → HasRequestsOf p a n owings v
-requests-from p a n owings v owed wanted kept = record {
-  owed = owed;
-  wanted = λ k out e. wanted out (get-among out v.outs k e);
-  kept = λ k out e. kept out (get-among out v.outs k e);
-}
+requests-from p a n owings v owed wanted kept = grind (arith, get-among)
 
 -- a request of the run is one of the view
 pub out-there : (p : Past) (a n : ℕ) (owings : List Owing) (v : AgentView) (owing : Owing)
@@ -82,50 +76,26 @@ map-without p a number (out ∷ outs) h =
 pub among-without : (number : ℕ) (out : OwnRequest) (outs : List OwnRequest) → Among out (requests_without number outs)
     → Among out outs
 among-without number out [] k = absurd k
-among-without number out (x ∷ outs) k =
-    let k' : Among out (cond (is_numbered number x) outs (x ∷ requests_without number outs)) =
-    subst (Among out) (without_first-cons (is_numbered number) x outs) k in
-    elim (cases_Bool (is_numbered number x)) [
-      | inl on ↦ inr (rw on at k')
-      | inr off ↦
-          elim (let k'' : (x ≡ out) ⊎ Among out (requests_without number outs) = rw off at k' in k'') [
-            | inl e ↦ inl e
-            | inr m ↦ inr (among-without number out outs m)
-          ]
-    ]
+among-without number out (x ∷ outs) k = grind (arith, among-without number out outs)
 
 -- the one of a number
 pub find-number : (p : Past) (a : ℕ) (out : OwnRequest) (outs : List OwnRequest)
     → are_owings_apart p (map (owing_by a) outs) ≡ true → Among out outs → request_numbered out.number outs ≡ Some out
 unfolding are_owings_apart
 find-number p a out [] h k = absurd k
-find-number p a out (x ∷ outs) h (inl e) =
-    rw (eq-eqb x.number out.number (ap (λ (o : OwnRequest). o.number) e)) (ap Some e)
+find-number p a out (x ∷ outs) h (inl e) = grind arith
 find-number p a out (x ∷ outs) h (inr k) =
-    let owings = map (owing_by a) outs in
-    let parts = and_parts (list_all (is_owing_apart p (owing_by a x)) owings) (are_owings_apart p owings) h in
-    let apart = numbers-apart p a x out
-    (all-among (is_owing_apart p (owing_by a x)) (owing_by a out) owings parts.0 (among-map (owing_by a) out outs k)) in
-    rw apart (find-number p a out outs parts.1 k)
+    grind (arith, numbers-apart, all-among, among-map, find-number p a out outs)
 
 pub numbered-among : (number : ℕ) (out : OwnRequest) (outs : List OwnRequest) → request_numbered number outs ≡ Some out
     → Among out outs × (out.number ≡ number)
 numbered-among number out outs e =
     let k = found-among (is_numbered number) out outs e in (k.0, eqb-true out.number number k.1)
 
--- with one granted
-grant-owing : (a number : ℕ) (kept : Option (List ℕ)) (out : OwnRequest)
-    → owing_by a (with_grant number kept out) ≡ owing_by a out
-grant-owing a number kept out =
-    elim (cases_Bool (is_numbered number out)) [ inl on ↦ rw on refl | inr off ↦ rw off refl ]
-
 pub map-granted : (a number : ℕ) (kept : Option (List ℕ)) (outs : List OwnRequest)
     → map (owing_by a) (requests_granted number kept outs) ≡ map (owing_by a) outs
 map-granted a number kept [] = refl
-map-granted a number kept (out ∷ outs) =
-    let here = grant-owing a number kept out in
-    let rest = map-granted a number kept outs in
-    λ i. here i ∷ rest i
+map-granted a number kept (out ∷ outs) = grind (arith, map-granted a number kept outs)
 
 -- a request of the list with one granted: it is that one, and keeps what is given it, or another one as it was
 pub record IsGrantedAs (number : ℕ) (kept : Option (List ℕ)) (out after : OwnRequest) : Type 0 where
@@ -133,24 +103,7 @@ pub record IsGrantedAs (number : ℕ) (kept : Option (List ℕ)) (out after : Ow
   pub request_same : after.request ≡ out.request
   pub how : ((out.number ≡ number) × (after.kept ≡ kept)) ⊎ ((out.number ≢ number) × (after.kept ≡ out.kept))
 
-grant-parts : (number : ℕ) (kept : Option (List ℕ)) (out : OwnRequest)
-    → IsGrantedAs number kept out (with_grant number kept out)
-grant-parts number kept out = elim (cases_Bool (is_numbered number out)) [
-  | inl on ↦ record {
-    number_same = rw on refl;
-    request_same = rw on refl;
-    how = inl (eqb-true out.number number on, rw on refl);
-  }
-  | inr off ↦ record {
-    number_same = rw off refl;
-    request_same = rw off refl;
-    how = inr ((λ e. both_ways (out.number == number) off (eq-eqb out.number number e)), rw off refl);
-  }
-]
-
 pub among-granted : (number : ℕ) (kept : Option (List ℕ)) (after : OwnRequest) (outs : List OwnRequest)
     → Among after (requests_granted number kept outs)
     → (out : OwnRequest) × Among out outs × IsGrantedAs number kept out after
-among-granted number kept after outs k =
-    let there = map-among (with_grant number kept) after outs k in
-    (there.0, there.1, subst (IsGrantedAs number kept there.0) there.2 (grant-parts number kept there.0))
+among-granted number kept after outs k = grind (arith, map-among)

@@ -1,7 +1,6 @@
 -- The outstanding requests of an agent are apart from each other, and few.
-use Rattle.std.proofs.Common.{ℕ, zero, suc, ◌+◌, ◌≤◌, ◌≡◌, ◌⊎◌, Bool, true, false, not, ◌&&◌, List, [], ◌∷◌, ◌++◌}
-use Rattle.std.proofs.Common.{Option, Some, None, length, nat_eq, refl, sym, ap, subst, ◌∙◌, inl, inr, add-one}
-use Rattle.std.proofs.Common.{append-nil, arith, length-append}
+use Rattle.std.proofs.Common.{ℕ, zero, suc, ◌+◌, ◌≤◌, ◌≡◌, ◌⊎◌, Bool, true, false, List, [], ◌∷◌, ◌++◌, Some, length}
+use Rattle.std.proofs.Common.{nat_eq, refl, sym, ap, subst, ◌∙◌, inl, inr, add-one, append-nil, arith, length-append}
 use Rattle.std.specs.List.{filter, list_all}
 use Rattle.std.proofs.lemmas.Bool.{and_from, and_parts, both_ways, cases_Bool, eq-eqb, eqb-true, false_from_ne_true}
 use Rattle.std.proofs.lemmas.Bool.{ne_eqb}
@@ -18,7 +17,7 @@ use Rattle.fsb_run_laws.proofs.Interface.{begun-wanted, owing-claim}
 use Rattle.fsb_agent_run.specs.Owings.{are_owings_apart, is_owing_apart}
 use Rattle.fsb_agent_run.specs.Stages.{owings_begun, owed_sent}
 use Rattle.fsb_agent_run.proofs.Among.{Among, all-among, among-all, among-any, among-filter}
-use Rattle.fsb_agent_run.proofs.OwedSteps.{is_own, none-owed, owed-more, owing-is, reaches-less, stays_out}
+use Rattle.fsb_agent_run.proofs.OwedSteps.{none-owed, owed-more, owing-is, reaches-less, stays_out}
 
 -- requests that are apart stay so when some have gone
 pub apart-filter : (p : Past) (f : Owing → Bool) (xs : List Owing) → are_owings_apart p xs ≡ true
@@ -51,9 +50,7 @@ apart-push p (x ∷ xs) y h each =
     all-push : (f : Owing → Bool) (zs : List Owing) (z : Owing) → list_all f zs ≡ true → f z ≡ true
         → list_all f (zs ++ z ∷ []) ≡ true
     all-push f [] z a b = and_from (f z) true b refl
-    all-push f (u ∷ zs) z a b =
-        let two = and_parts (f u) (list_all f zs) a in
-        and_from (f u) (list_all f (zs ++ z ∷ [])) two.0 (all-push f zs z two.1 b)
+    all-push f (u ∷ zs) z a b = grind (arith, all-push f zs z)
 
 same-set-flip : (p : Past) (x y : ℕ) → is_same_set p x y ≡ true → is_same_set p y x ≡ true
 unfolding is_same_set
@@ -74,10 +71,7 @@ begun-apart-from r a n y x h begun mine there =
     let here : Among x (owed p y.claim.agent n) = subst (λ c. Among x (owed p c n)) (sym mine) there in
     let firsts : nat_eq x.claim.first y.claim.first ≡ false = ne_eqb _ _ (λ e. omega (arith, e)) in
     let few = want-few p y.claim.agent n b.0 h.bounds.few_ahead b.1 in
-    let ids : nat_eq x.did y.did ≡ false = false_from_ne_true (nat_eq x.did y.did) (λ e.
-    let same : x.did ≡ b.0.did = eqb-true x.did y.did e ∙ b.2 in
-    both_ways (is_id_used (owed p y.claim.agent n) b.0.did) few.2
-    (among-any (λ o. nat_eq o.did b.0.did) x (owed p y.claim.agent n) here (eq-eqb x.did b.0.did same))) in
+    let ids : nat_eq x.did y.did ≡ false = grind (arith, among-any) in
     let sets : is_same_set p x.claim.line y.claim.line ≡ false =
     false_from_ne_true (is_same_set p x.claim.line y.claim.line) (λ e.
     both_ways (is_asked_for (owed p y.claim.agent n) x.claim.line)
@@ -90,30 +84,14 @@ begun-apart-from r a n y x h begun mine there =
 begun-list : (p : Past) (a n : ℕ) → (owings_begun p a n ≡ [])
     ⊎ ((y : Owing) × (owings_begun p a n ≡ y ∷ []) × (owing_begun p n ≡ Some y) × (y.claim.agent ≡ a))
 unfolding owings_begun listed
-begun-list p a n = by (owing_begun p n) refl
-  where
-    by : (o : Option Owing) → owing_begun p n ≡ o → (filter (is_own a) (listed o) ≡ [])
-        ⊎ ((y : Owing) × (filter (is_own a) (listed o) ≡ y ∷ []) × (owing_begun p n ≡ Some y) × (y.claim.agent ≡ a))
-    by None e = inl refl
-    by (Some y) e = elim (cases_Bool (is_own a y)) [
-      | inl t ↦ inr (y, rw t refl, e, eqb-true y.claim.agent a t)
-      | inr f ↦ inl (rw f refl)
-    ]
+begun-list p a n = grind arith
 
 -- with the one that begins they are apart where they were so before
 apart-begun : (r : Run) (a n : ℕ) (f : Owing → Bool) → Reaches r (n + 1)
     → are_owings_apart (past_of r) (owed (past_of r) a n) ≡ true
     → are_owings_apart (past_of r) (filter f (owed (past_of r) a n) ++ owings_begun (past_of r) a n) ≡ true
 apart-begun r a n f h apart =
-    let p = past_of r in
-    let kept = apart-filter p f (owed p a n) apart in
-    elim (begun-list p a n) [
-      | inl none ↦ rw (none, append-nil (filter f (owed p a n))) kept
-      | inr one ↦
-          rw (one.1)
-          (apart-push p (filter f (owed p a n)) one.0 kept
-          (λ x k. begun-apart-from r a n one.0 x h one.2 one.3 (among-filter f x (owed p a n) k).0))
-    ]
+    grind (arith, apart-filter, begun-list, append-nil, apart-push, begun-apart-from, among-filter)
 
 pub owed-apart : (r : Run) (a n : ℕ) → Reaches r n → are_owings_apart (past_of r) (owed (past_of r) a n) ≡ true
 unfolding are_owings_apart
@@ -129,14 +107,7 @@ owed-apart r a (suc n) h =
 pub sent-apart : (r : Run) (a n : ℕ) → Reaches r (n + 1)
     → are_owings_apart (past_of r) (owed_sent (past_of r) a n) ≡ true
 unfolding owed_sent
-sent-apart r a n h =
-    let p = past_of r in
-    let before = owed-apart r a n (reaches-less r n (n + 1) (omega arith) h) in
-    elim (begun-list p a n) [
-      | inl none ↦ rw (none, append-nil (owed p a n)) before
-      | inr one ↦ rw (one.1)
-          (apart-push p (owed p a n) one.0 before (λ x k. begun-apart-from r a n one.0 x h one.2 one.3 k))
-    ]
+sent-apart r a n h = grind (arith, owed-apart, begun-list, append-nil, apart-push, begun-apart-from)
 
 -- no more are owed than the plan says
 few-more : (r : Run) (a n : ℕ) → Reaches r (n + 1) → length (owed (past_of r) a n) ≤ r.plan.ahead
@@ -171,19 +142,9 @@ apart-firsts : (p : Past) (u v : Owing) → is_owing_apart p u v ≡ true → u.
 unfolding is_owing_apart
 apart-firsts p u v t f = let t' = rw (eq-eqb u.claim.first v.claim.first f) at t in cc
 
-last-false : (x y : Bool) → (x && y && not true) ≡ false
-last-false true true = refl
-last-false true false = refl
-last-false false y = refl
-
 apart-lines : (p : Past) (u v : Owing) → is_owing_apart p u v ≡ true → u.claim.line ≡ v.claim.line → ⊥
 unfolding is_owing_apart is_same_set
-apart-lines p u v t f =
-    let same = eq-eqb (set_of p u.claim.line) (set_of p v.claim.line) (ap (set_of p) f) in
-    let t' = rw same at t in
-    let no : false ≡ true =
-    sym (last-false (not (nat_eq u.claim.first v.claim.first)) (not (nat_eq u.did v.did))) ∙ t' in
-    cc
+apart-lines p u v t f = grind arith
 
 -- of requests that are apart one alone has a first clock, or a line
 pub one-first : (p : Past) (xs : List Owing) (x y : Owing) → are_owings_apart p xs ≡ true → Among x xs → Among y xs

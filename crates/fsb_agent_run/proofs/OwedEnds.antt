@@ -1,18 +1,16 @@
 -- What an agent owes after the ends of a clock: where a line comes whose bytes are promised, they are there.
-use Rattle.std.proofs.Common.{ℕ, ◌+◌, ◌<◌, ◌≡◌, ◌≢◌, Bool, true, false, cond, not, ◌&&◌, ◌||◌, if◌then◌else◌, List, []}
-use Rattle.std.proofs.Common.{◌∷◌, Option, Some, None, length, length-append, nat_eq, refl, sym, ap, subst, ◌∙◌, inl}
-use Rattle.std.proofs.Common.{inr, arith}
+use Rattle.std.proofs.Common.{ℕ, ◌+◌, ◌<◌, ◌≡◌, ◌≢◌, Bool, true, false, cond, if◌then◌else◌, List, Option, Some, None}
+use Rattle.std.proofs.Common.{length, length-append, nat_eq, refl, sym, ap, ◌∙◌, inl, inr, arith}
 use Rattle.std.specs.Prelude.{◌==◌, is_some}
 use Rattle.std.proofs.lemmas.Bool.{cases_eq, eq-eqb, false_from_ne_true}
-use Rattle.std.specs.Option.{option_and_then}
-use Rattle.fsb_count.specs.Clocks.{count_where, last_where}
+use Rattle.fsb_count.specs.Clocks.{count_where}
 use Rattle.fsb_count.specs.Options.{is_at, is_some_and}
 use Rattle.fsb_count.proofs.Interface.{any_where-at, any_where-off, is_at-some}
 use Rattle.fsb_cache.specs.Sets.{copies}
 use Rattle.fsb_linebuf.specs.declared.entry.Push.{Push}
 use Rattle.fsb_linebuf.specs.Buffers.{fills_without, promise_on, pushed_to}
-use Rattle.fsb_timely.specs.Past.{Claim, Grant, Past}
-use Rattle.fsb_timely.specs.Grants.{begun_at, is_end_at, is_ended, latest_grant}
+use Rattle.fsb_timely.specs.Past.{Claim, Past}
+use Rattle.fsb_timely.specs.Grants.{begun_at}
 use Rattle.fsb_timely.specs.Runs.{Run, past_of}
 use Rattle.fsb_timely.specs.Timely.{Timely}
 use Rattle.fsb_timely.proofs.Interface.{is_ended-more}
@@ -21,19 +19,17 @@ use Rattle.fsb_coherent.specs.Awaits.{responded_in}
 use Rattle.fsb_coherent.specs.Relation.{is_responded_below}
 use Rattle.fsb_agent_view.specs.declared.want.OwnRequest.{OwnRequest}
 use Rattle.fsb_agent_view.specs.AgentViews.{AgentView}
-use Rattle.fsb_agent_view.specs.Arriving.{arrived_for, buffers_landed, ended_for, given_up, is_arrival_by, line_arrived}
-use Rattle.fsb_agent_view.specs.Arriving.{met_by, upgrade_ended}
+use Rattle.fsb_agent_view.specs.Arriving.{arrived_for, buffers_landed, ended_for, line_arrived, met_by, upgrade_ended}
 use Rattle.fsb_agent_view.specs.OwnRequests.{request_numbered}
 use Rattle.fsb_agent_view.specs.Snooping.{owed_count}
 use Rattle.fsb_agent_run.proofs.AwaitedFills.{HasFillsOf}
-use Rattle.fsb_agent_run.specs.BytesOwed.{HasBytesOwed, claim_given_at, given_since, gives_line_at, is_given_below}
-use Rattle.fsb_agent_run.specs.BytesOwed.{is_promised, is_pushed, owes_bytes_from, promise_told}
+use Rattle.fsb_agent_run.specs.BytesOwed.{HasBytesOwed, claim_given_at, is_given_below, is_promised, is_pushed}
+use Rattle.fsb_agent_run.specs.BytesOwed.{owes_bytes_from, promise_told}
 use Rattle.fsb_agent_run.specs.RunViews.{is_awaited, one_if}
 use Rattle.fsb_agent_run.proofs.BufferCounts.{promise_on-none, promise_on-without, push_count, push_count-pushed}
 use Rattle.fsb_agent_run.proofs.FillCounts.{count-without_other, count-without_this, count_on}
 use Rattle.fsb_agent_run.proofs.FillsTold.{promised_count, promised_count-without}
 use Rattle.fsb_agent_run.proofs.GivenBytes.{given}
-use Rattle.fsb_agent_run.proofs.OwedSnoops.{owed-on, same-debts}
 use Rattle.fsb_agent_run.proofs.PromiseSteps.{promised-same, unawaited-unpromised}
 use Rattle.fsb_agent_run.proofs.PromisesTold.{promised-at, promised-unresponded}
 
@@ -41,44 +37,24 @@ use Rattle.fsb_agent_run.proofs.PromisesTold.{promised-at, promised-unresponded}
 told-same : (p : Past) (a line n c d : ℕ) → is_awaited p a line n d ≡ is_awaited p a line n c
     → promise_told p a line n d ≡ promise_told p a line n c
 unfolding promise_told
-told-same p a line n c d same =
-    λ i. if same i then option_and_then (given_since p a line n) (last_where (gives_line_at p a line) n) else None
+told-same p a line n c d same = grind arith
 
 one-same : (x y : Bool) → one_if x ≡ one_if y → x ≡ y
-one-same true true e = refl
-one-same true false e = absurd (omega (arith, e))
-one-same false true e = absurd (omega (arith, e))
-one-same false false e = refl
+one-same x y h1 = grind arith
 
 -- where no line comes, nothing that is owed changes
 pub ends-kept : (p : Past) (a n r c d : ℕ) (v w : AgentView) → w.buffers ≡ v.buffers → HasFillsOf p a n c v
     → HasFillsOf p a n d w → HasBytesOwed p a n r c v → HasBytesOwed p a n r d w
 unfolding is_pushed
-ends-kept p a n r c d v w e before after owed =
-    let awaited : (line : ℕ) → is_awaited p a line n d ≡ is_awaited p a line n c =
-    λ line. one-same (is_awaited p a line n d) (is_awaited p a line n c)
-    (sym (after.fills line) ∙ ap (λ b. count_on line b.fills) e ∙ before.fills line) in
-    let promises : (line : ℕ) → promise_told p a line n d ≡ promise_told p a line n c =
-    λ line. told-same p a line n c d (awaited line) in
-    let promised : (q : ℕ) → is_promised p a n d q ≡ is_promised p a n c q =
-    λ q. promised-same p a n c n d q promises in
-    owed-on p a n r c n r d v w
-    (record {
-      pushes = λ q. λ i. is_given_below p a n q && not (is_responded_below p r q) && not (promised q i);
-      promises = promises;
-      count = refl;
-    })
-    (same-debts v.buffers w.buffers e) owed
+ends-kept p a n r c d v w e before after owed = grind (arith, told-same, promised-same)
 
 is_for-at : (q : ℕ) (to : Option ℕ) → elim to [ None ↦ false | Some number ↦ number == q ] ≡ is_at to q
 unfolding is_at is_some_and
-is_for-at q None = refl
-is_for-at q (Some number) = refl
+is_for-at q to = grind arith
 
 length-pushed : (to : Option ℕ) (bytes : List ℕ) (pushes : List Push)
     → length (pushed_to to bytes pushes) ≡ length pushes + cond (is_some to) 1 0
-length-pushed None bytes pushes = omega arith
-length-pushed (Some number) bytes pushes = length-append pushes (record { number = number; bytes = bytes } ∷ [])
+length-pushed to bytes pushes = grind (arith, length-append)
 
 -- the line that comes to an agent, and its buffers before and after
 record Lands (r : Run) (a c line : ℕ) (bytes : List ℕ) (v w : AgentView) : Type 0 where
@@ -89,17 +65,7 @@ record Lands (r : Run) (a c line : ℕ) (bytes : List ℕ) (v w : AgentView) : T
 
 awaited-later : (p : Past) (a line n c : ℕ) → is_awaited p a line n c ≡ false → is_awaited p a line n (c + 1) ≡ false
 unfolding is_awaited is_some_and
-awaited-later p a line n c none = by (latest_grant p a line n) none
-  where
-    more : (x y : Bool) → not x ≡ false → not (x || y) ≡ false
-    more true y e = refl
-    more false y e = absurd (let no : ⊥ = cc in no)
-
-    by : (o : Option Grant) → is_some_and o (λ grant. not (is_ended p c grant.first)) ≡ false
-        → is_some_and o (λ grant. not (is_ended p (c + 1) grant.first)) ≡ false
-    by None e = e
-    by (Some grant) e = rw (is_ended-more p c grant.first) (more (is_ended p c grant.first)
-        (is_end_at p c grant.first) e)
+awaited-later p a line n c none = grind (arith, is_ended-more)
 
 -- it is awaited no more, and none of its fills is left
 gone : (r : Run) (a c line : ℕ) (bytes : List ℕ) (v w : AgentView) → Lands r a c line bytes v w
@@ -123,8 +89,7 @@ none-left r a c line bytes v w k =
 -- nothing is promised of it behind
 told-none : (r : Run) (a c line : ℕ) (bytes : List ℕ) (v w : AgentView) → Lands r a c line bytes v w
     → promise_told (past_of r) a line (c + 1) (c + 1) ≡ None
-told-none r a c line bytes v w k =
-    unawaited-unpromised (past_of r) a line (c + 1) (c + 1) (gone r a c line bytes v w k)
+told-none r a c line bytes v w k = grind (arith, unawaited-unpromised, gone)
 
 -- and other lines are promised as before
 told-kept : (r : Run) (a c line : ℕ) (bytes : List ℕ) (v w : AgentView) → Lands r a c line bytes v w → (other : ℕ)
@@ -140,29 +105,14 @@ promised-kept : (r : Run) (a c line : ℕ) (bytes : List ℕ) (v w : AgentView) 
     → is_at (promise_told (past_of r) a line (c + 1) c) q ≡ false
     → is_promised (past_of r) a (c + 1) (c + 1) q ≡ is_promised (past_of r) a (c + 1) c q
 unfolding is_promised is_some_and is_at
-promised-kept r a c line bytes v w k q free = by (begun_at (past_of r) q)
-  where
-    by : (o : Option Claim) → is_some_and o (λ claim. is_at (promise_told (past_of r) a claim.line (c + 1) (c + 1)) q)
-        ≡ is_some_and o (λ claim. is_at (promise_told (past_of r) a claim.line (c + 1) c) q)
-    by None = refl
-    by (Some x) =
-        elim (cases_eq x.line line) [
-          | inl same ↦
-              let after : is_at (promise_told (past_of r) a x.line (c + 1) (c + 1)) q ≡ false =
-              ap (λ y. is_at (promise_told (past_of r) a y (c + 1) (c + 1)) q) same
-              ∙ rw (told-none r a c line bytes v w k) refl in
-              after ∙ sym (ap (λ y. is_at (promise_told (past_of r) a y (c + 1) c) q) same ∙ free)
-          | inr apart ↦ ap (λ o. is_at o q) (told-kept r a c line bytes v w k x.line apart)
-        ]
+promised-kept r a c line bytes v w k q free = grind (arith, told-none, told-kept)
 
 -- the pushes for it are the same
 pushed-kept : (r : Run) (a c line : ℕ) (bytes : List ℕ) (v w : AgentView) → Lands r a c line bytes v w → (q : ℕ)
     → is_at (promise_told (past_of r) a line (c + 1) c) q ≡ false
     → is_pushed (past_of r) a (c + 1) (c + 1) (c + 1) q ≡ is_pushed (past_of r) a (c + 1) (c + 1) c q
 unfolding is_pushed
-pushed-kept r a c line bytes v w k q free =
-    let promised = promised-kept r a c line bytes v w k q free in
-    λ i. is_given_below (past_of r) a (c + 1) q && not (is_responded_below (past_of r) (c + 1) q) && not (promised i)
+pushed-kept r a c line bytes v w k q free = grind (arith, promised-kept)
 
 -- the request that the line is promised to
 record Promised (r : Run) (a c line q : ℕ) : Type 0 where
@@ -197,27 +147,15 @@ pushed-new : (r : Run) (a c line : ℕ) (bytes : List ℕ) (v w : AgentView) →
     → promise_told (past_of r) a line (c + 1) c ≡ Some q → Promised r a c line q
     → (is_pushed (past_of r) a (c + 1) (c + 1) c q ≡ false) × (is_pushed (past_of r) a (c + 1) (c + 1) (c + 1) q ≡ true)
 unfolding is_pushed is_promised is_some_and is_at
-pushed-new r a c line bytes v w k q told m =
-    let p : Past = past_of r in
-    let before : is_promised p a (c + 1) c q ≡ true = rw (m.begun, m.names, told) (eq-eqb q q refl) in
-    let after : is_promised p a (c + 1) (c + 1) q ≡ false =
-    rw (m.begun, m.names, told-none r a c line bytes v w k) refl in
-    (rw (before, m.given, m.unresponded) refl, rw (after, m.given, m.unresponded) refl)
+pushed-new r a c line bytes v w k q told m = grind (arith, told-none)
 
 -- the line comes: what was promised is pushed
 landed-pushes : (r : Run) (a c line : ℕ) (bytes : List ℕ) (v w : AgentView) → Timely r → KeepsBounds r.plan
     → c < length r.trace → Lands r a c line bytes v w → (q : ℕ) (b : Bool)
     → is_at (promise_told (past_of r) a line (c + 1) c) q ≡ b
     → push_count q v.buffers.pushes + cond b 1 0 ≡ (if is_pushed (past_of r) a (c + 1) (c + 1) (c + 1) q then 1 else 0)
-landed-pushes r a c line bytes v w h bounds l k q true e =
-    let told = is_at-some (promise_told (past_of r) a line (c + 1) c) q e in
-    let new = pushed-new r a c line bytes v w k q told (promised-to r a c line q h bounds l told) in
-    let none : push_count q v.buffers.pushes ≡ 0 = k.owed.pushes q ∙ ap (λ b. if b then 1 else 0) new.0 in
-    rw (none, new.1) refl
-landed-pushes r a c line bytes v w h bounds l k q false e =
-    let same = pushed-kept r a c line bytes v w k q e in
-    let here : push_count q v.buffers.pushes + 0 ≡ push_count q v.buffers.pushes = omega arith in
-    here ∙ k.owed.pushes q ∙ sym (ap (λ b. if b then 1 else 0) same)
+landed-pushes r a c line bytes v w h1 h2 h3 h4 q b h5 =
+    grind (arith, is_at-some, pushed-new, promised-to, pushed-kept)
 
 landed-owed : (r : Run) (a c line : ℕ) (bytes : List ℕ) (v w : AgentView) → Timely r → KeepsBounds r.plan
     → c < length r.trace → Lands r a c line bytes v w → HasBytesOwed (past_of r) a (c + 1) (c + 1) (c + 1) w
@@ -239,17 +177,11 @@ landed-owed r a c line bytes v w h bounds l k = record {
   where
     here : (other : ℕ) → other ≡ line
         → promise_on other (fills_without line v.buffers.fills) ≡ promise_told (past_of r) a other (c + 1) (c + 1)
-    here other same =
-        subst (λ x. promise_on x (fills_without line v.buffers.fills)
-        ≡ promise_told (past_of r) a x (c + 1) (c + 1)) (sym same)
-        (promise_on-none line (fills_without line v.buffers.fills) (none-left r a c line bytes v w k)
-        ∙ sym (told-none r a c line bytes v w k))
+    here other same = grind (arith, promise_on-none, none-left, told-none)
 
     elsewhere : (other : ℕ) → other ≢ line
         → promise_on other (fills_without line v.buffers.fills) ≡ promise_told (past_of r) a other (c + 1) (c + 1)
-    elsewhere other apart =
-        promise_on-without other line v.buffers.fills apart ∙ k.owed.promises other
-        ∙ sym (told-kept r a c line bytes v w k other apart)
+    elsewhere other apart = grind (arith, promise_on-without, told-kept)
 
     counted : length (pushed_to (promise_on line v.buffers.fills) bytes v.buffers.pushes)
         ≡ length v.buffers.pushes + cond (is_some (promise_on line v.buffers.fills)) 1 0
@@ -261,11 +193,7 @@ landed-owed r a c line bytes v w h bounds l k = record {
 
 met-kept : (v : AgentView) (clock : ℕ) (out : OwnRequest) (bytes : List ℕ)
     → (met_by v clock out bytes).buffers ≡ v.buffers
-met-kept v clock out bytes = by (is_arrival_by v clock out) refl
-  where
-    by : (b : Bool) → is_arrival_by v clock out ≡ b → (met_by v clock out bytes).buffers ≡ v.buffers
-    by true e = rw (e, met_by) refl
-    by false e = rw (e, met_by) refl
+met-kept v clock out bytes = grind arith
 
 arrived-owed : (r : Run) (a c : ℕ) (out : OwnRequest) (bytes : List ℕ) (v : AgentView) → Timely r → KeepsBounds r.plan
     → c < length r.trace → HasFillsOf (past_of r) a (c + 1) c v
@@ -287,13 +215,7 @@ pub line-owed : (r : Run) (a c number : ℕ) (bytes : List ℕ) (v : AgentView) 
     → HasFillsOf (past_of r) a (c + 1) (c + 1) (line_arrived v c number bytes)
     → HasBytesOwed (past_of r) a (c + 1) (c + 1) c v
     → HasBytesOwed (past_of r) a (c + 1) (c + 1) (c + 1) (line_arrived v c number bytes)
-line-owed r a c number bytes v h bounds l before after owed = go (request_numbered number v.outs) refl
-  where
-    go : (found : Option OwnRequest) → request_numbered number v.outs ≡ found
-        → HasBytesOwed (past_of r) a (c + 1) (c + 1) (c + 1) (line_arrived v c number bytes)
-    go None e = rw e (ends-kept (past_of r) a (c + 1) (c + 1) c (c + 1) v v refl before (rw e at after) owed)
-    go (Some out) e =
-        rw e (arrived-owed r a c out bytes v h bounds l before (rw e at after) owed)
+line-owed r a c number bytes v h bounds l before after owed = grind (arith, ends-kept, arrived-owed)
 
 pub upgrade-owed : (r : Run) (a c number : ℕ) (v : AgentView) → Timely r → KeepsBounds r.plan
     → c < length r.trace → HasFillsOf (past_of r) a (c + 1) c v
@@ -305,15 +227,8 @@ upgrade-owed r a c number v h bounds l before after owed = go (request_numbered 
     kept : (out : OwnRequest) (bytes : Option (List ℕ)) → out.kept ≡ bytes
         → HasFillsOf (past_of r) a (c + 1) (c + 1) (ended_for v c out)
         → HasBytesOwed (past_of r) a (c + 1) (c + 1) (c + 1) (ended_for v c out)
-    kept out None e fills =
-        let fills' = rw (e, ended_for) at fills in
-        rw (e, ended_for)
-        (ends-kept (past_of r) a (c + 1) (c + 1) c (c + 1) v (given_up v out.number) refl before fills' owed)
-    kept out (Some bytes) e fills =
-        let fills' = rw (e, ended_for) at fills in
-        rw (e, ended_for) (arrived-owed r a c out bytes v h bounds l before fills' owed)
+    kept out bytes h1 h2 = grind (arith, ends-kept, arrived-owed)
 
     go : (found : Option OwnRequest) → request_numbered number v.outs ≡ found
         → HasBytesOwed (past_of r) a (c + 1) (c + 1) (c + 1) (upgrade_ended v c number)
-    go None e = rw e (ends-kept (past_of r) a (c + 1) (c + 1) c (c + 1) v v refl before (rw e at after) owed)
-    go (Some out) e = rw e (kept out out.kept refl (rw e at after))
+    go found h1 = grind (arith, ends-kept, kept)

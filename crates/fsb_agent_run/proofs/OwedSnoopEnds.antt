@@ -1,15 +1,15 @@
 -- What an agent owes after a snoop end of its own request, of another agent's, and after a clock without one.
 use Rattle.std.proofs.Common.{ℕ, ◌+◌, ◌<◌, ◌≡◌, ◌≢◌, ◌⊎◌, Bool, true, false, not, ◌&&◌, [], ◌∷◌, ◌++◌, Option, Some}
-use Rattle.std.proofs.Common.{None, length, nat_eq, refl, sym, ap, subst, ◌∙◌, inl, inr, arith}
-use Rattle.std.proofs.lemmas.Bool.{and_from, and_parts, both_ways, cases_Bool, eq-eqb, false_from_ne_true, ne_eqb}
+use Rattle.std.proofs.Common.{None, length, nat_eq, refl, sym, ap, ◌∙◌, inl, inr, arith}
+use Rattle.std.proofs.lemmas.Bool.{and_parts, cases_Bool, eq-eqb, false_from_ne_true}
 use Rattle.fsb_cache.specs.Sets.{copies}
 use Rattle.fsb_count.specs.Clocks.{first_where}
 use Rattle.fsb_count.specs.Options.{is_at, is_some_and}
 use Rattle.fsb_count.proofs.Interface.{first_where-at, first_where-found, is_at-from, is_at-some}
 use Rattle.fsb_encode.specs.declared.request.Kind.{Kind}
-use Rattle.fsb_encode.specs.declared.request.Kind.TheVariants.{Invalidate, Read, Reply, Upgrade, WriteBack}
+use Rattle.fsb_encode.specs.declared.request.Kind.TheVariants.{WriteBack}
 use Rattle.fsb_encode.specs.declared.request.Request.{Request}
-use Rattle.fsb_line.specs.States.{asks_line, is_held, is_modified}
+use Rattle.fsb_line.specs.States.{asks_line, is_modified}
 use Rattle.fsb_linebuf.specs.Buffers.{promise_on, promised_to}
 use Rattle.fsb_trace.specs.declared.outcome.Outcome.{Outcome}
 use Rattle.fsb_trace.specs.declared.outcome.Outcome.TheVariants.{Granted, Handed, Retried, Deferred, Written, Replied}
@@ -51,11 +51,7 @@ own-ungiven p a c s out k unwritten = by s.claim refl
     by None e = none-claimed p a c s k.there e
     by (Some claim) e =
         let own = own-claim a out.request.line s claim e k.settles in
-        let none : gives_claim p a c s claim ≡ false = false_from_ne_true (gives_claim p a c s claim) (λ t.
-        elim (gives-by p a c s claim t).way [
-          | inl handed ↦ handed.1 (sym own.0)
-          | inr written ↦ unwritten written.0
-        ]) in
+        let none : gives_claim p a c s claim ≡ false = grind (arith, gives-by) in
         claim-given p a c s claim k.there e ∙ rw none refl
 
 -- what an agent writes back
@@ -88,18 +84,10 @@ writes-back r a c s out h bounds l k written = by s.claim refl
 
 pub granted-debts : (v : AgentView) (out : OwnRequest) (shared : Bool)
     → SameDebts v.buffers (granted_by v out shared).buffers
-granted-debts v out shared =
-    elim (cases_Bool (asks_line (kind_asks out.request.kind))) [
-      | inl on ↦ rw (on, granted_by) (filled-debts v.buffers out.request.line out.number)
-      | inr off ↦ rw (off, granted_by) (same-debts v.buffers v.buffers refl)
-    ]
+granted-debts v out shared = grind (arith, filled-debts)
 
 upgraded-debts : (v : AgentView) (out : OwnRequest) → SameDebts v.buffers (upgraded_by v out).buffers
-upgraded-debts v out =
-    elim (cases_Bool (is_held (line_state_by v out.request.line))) [
-      | inl on ↦ rw (on, upgraded_by) (filled-debts v.buffers out.request.line out.number)
-      | inr off ↦ rw (off, upgraded_by) (same-debts v.buffers v.buffers refl)
-    ]
+upgraded-debts v out = grind (arith, filled-debts)
 
 pub own-owed-after : (r : Run) (a c : ℕ) (s : SnoopEnd) (out : OwnRequest) (v : AgentView) (request : Request)
     (shared : Bool) → Timely r → KeepsBounds r.plan → c < length r.trace → IsOwnSnoopEnd (past_of r) a c s out
@@ -121,9 +109,7 @@ own-owed-after r a c s out v request shared h bounds l k found owed = rw found (
     by Deferred e = quiet v (λ f. let both = sym e ∙ f in let no : ⊥ = cc in no) (same-debts v.buffers v.buffers refl)
     by Written e =
         let w = writes-back r a c s out h bounds l k e in
-        let unawaited : is_awaited (past_of r) a w.claim.line c c ≡ false =
-        ap (λ line. is_awaited (past_of r) a line c c) w.names
-        ∙ settled-unawaited r a out.request.line c s h bounds l k.there k.settles in
+        let unawaited : is_awaited (past_of r) a w.claim.line c c ≡ false = grind (arith, settled-unawaited) in
         pushed-owed r a c w.claim (copies v.lines out.request.line) v (own_settled v out shared Written)
         (gives-now r a c w.claim h bounds l w.gives) unawaited
         (ap (λ n. record v.buffers {
@@ -155,9 +141,7 @@ unfolding owner_at
 owner-found r a b line c h bounds l few other on =
     let p : Past = past_of r in
     let test : ℕ → Bool = λ x. not (nat_eq x b) && is_dirty (past_to p c) x line c in
-    let mine : test a ≡ true =
-    and_from (not (nat_eq a b)) (is_dirty (past_to p c) a line c) (ap not (ne_eqb a b other))
-    (dirty-at r line c h bounds l a ∙ on) in
+    let mine : test a ≡ true = grind (arith, dirty-at) in
     let alone : (x : ℕ) → x < a → test x ≡ false = λ x below. false_from_ne_true (test x) (λ t.
     let dirty = sym (dirty-at r line c h bounds l x) ∙ (and_parts (not (nat_eq x b)) (is_dirty
     (past_to p c) x line c) t).1 in
@@ -168,46 +152,21 @@ owner-found r a b line c h bounds l few other on =
 owner-none : (r : Run) (a b line c : ℕ) → Timely r → KeepsBounds r.plan → c < length r.trace
     → is_dirty (past_of r) a line c ≡ false → is_at (owner_at (past_to (past_of r) c) b line c) a ≡ false
 unfolding owner_at
-owner-none r a b line c h bounds l off =
-    let p : Past = past_of r in
-    let test : ℕ → Bool = λ x. not (nat_eq x b) && is_dirty (past_to p c) x line c in
-    false_from_ne_true (is_at (first_where test 4) a) (λ e.
-    let at = first_where-found test 4 a (is_at-some (first_where test 4) a e) in
-    both_ways (is_dirty p a line c) off
-    (sym (dirty-at r line c h bounds l a) ∙ (and_parts (not (nat_eq a b)) (is_dirty (past_to p c) a line c) at.1).1))
+owner-none r a b line c h bounds l off = grind (arith, first_where-found, is_at-some, dirty-at)
 
 -- the owner that hands a line over is the other agent that is dirty on it
 pub owner-is : (r : Run) (a b line c : ℕ) → Timely r → KeepsBounds r.plan → c < length r.trace → a < 4 → a ≢ b
     → is_at (owner_at (past_to (past_of r) c) b line c) a ≡ is_dirty (past_of r) a line c
-owner-is r a b line c h bounds l few other =
-    elim (cases_Bool (is_dirty (past_of r) a line c)) [
-      | inl on ↦ owner-found r a b line c h bounds l few other on ∙ sym on
-      | inr off ↦ owner-none r a b line c h bounds l off ∙ sym off
-    ]
+owner-is r a b line c h bounds l few other = grind (arith, owner-found, owner-none)
 
 -- a request that is handed its line asks for it
 handed-asks : (kind : Kind) (outcome : Outcome) → outcome ≡ Handed → (kind ≡ WriteBack → outcome ≢ Handed)
     → fits_kind kind outcome ≡ true → asks_line (kind_asks kind) ≡ true
 unfolding fits_kind
-handed-asks Reply outcome e free fits = absurd (let no : ⊥ = cc in no)
-handed-asks WriteBack outcome e free fits = absurd (free refl e)
-handed-asks Invalidate outcome e free fits = refl
-handed-asks Read outcome e free fits = refl
-handed-asks Upgrade outcome e free fits = refl
-
-unhanded : (x z : Bool) (outcome : Outcome) → is_handed outcome ≡ false → (x && is_handed outcome && z) ≡ false
-unhanded true z outcome off = rw off refl
-unhanded false z outcome off = refl
+handed-asks kind outcome h1 h2 h3 = grind arith
 
 handed-or-not : (outcome : Outcome) → (outcome ≡ Handed) ⊎ (is_handed outcome ≡ false)
-handed-or-not Granted = inr refl
-handed-or-not Handed = inl refl
-handed-or-not Retried = inr refl
-handed-or-not Deferred = inr refl
-handed-or-not Written = inr refl
-handed-or-not Replied = inr refl
-handed-or-not Failed = inr refl
-handed-or-not Upgraded = inr refl
+handed-or-not outcome = grind arith
 
 -- a view gives the line exactly where the agent does
 giver-same : (r : Run) (a c number : ℕ) (s : SnoopEnd) (claim : Claim) (v : AgentView) (request : Request) → Timely r
@@ -226,12 +185,9 @@ giver-same r a c number s claim v request h bounds l few k e dirty =
         let free = uncontested r claim.line c s (writes-back-alone r h bounds) k.there fits in
         let known : Some fits.kind ≡ Some request.kind = sym fits.known ∙ k.kind claim e in
         let same : fits.kind ≡ request.kind = cc in
-        let asks : asks_line (kind_asks request.kind) ≡ true =
-        subst (λ kind. asks_line (kind_asks kind)
-        ≡ true) same (handed-asks fits.kind s.outcome handed free (fits.fits free)) in
+        let asks : asks_line (kind_asks request.kind) ≡ true = grind (arith, handed-asks) in
         let other : a ≢ claim.agent = λ is. k.other claim e (sym is) in
-        let mine : is_giver v request s.outcome ≡ is_dirty p a request.line c =
-        rw (handed, asks, dirty) (whole (is_dirty p a request.line c)) in
+        let mine : is_giver v request s.outcome ≡ is_dirty p a request.line c = grind arith in
         mine ∙ ap (λ line. is_dirty p a line c) (k.line claim e)
         ∙ sym (rw handed (owner-is r a claim.agent claim.line c h bounds l few other))
       where
@@ -241,13 +197,7 @@ giver-same r a c number s claim v request h bounds l few k e dirty =
 
     otherwise : is_handed s.outcome ≡ false
         → is_giver v request s.outcome ≡ is_at (giver_at (past_of r) claim.line c claim.agent s) a
-    otherwise off =
-        unhanded (is_modified (line_state_by v request.line)) (asks_line (kind_asks request.kind)) s.outcome off
-        ∙ sym (false_from_ne_true (is_at (giver_at (past_of r) claim.line c claim.agent s) a) (λ t.
-        elim (gives-by (past_of r) a c s claim t).way [
-          | inl handed ↦ both_ways (is_handed s.outcome) off (ap is_handed handed.0)
-          | inr written ↦ k.other claim e written.1
-        ]))
+    otherwise off = grind (arith, gives-by)
 
 -- what an agent owes after the snoop end of a reply to another agent
 pub replied-owed-after : (r : Run) (a c number : ℕ) (s : SnoopEnd) (grant : Grant) (v : AgentView) (request : Request)
@@ -256,9 +206,7 @@ pub replied-owed-after : (r : Run) (a c number : ℕ) (s : SnoopEnd) (grant : Gr
     → HasBytesOwed (past_of r) a (c + 1) (c + 1) c (committed v number false request shared s.outcome)
 replied-owed-after r a c number s grant v request shared h bounds l there none made owed =
     let replied = (clock-facts r grant.line c h bounds l).settles.replied s grant there none made refl in
-    let off : is_giver v request s.outcome ≡ false =
-    unhanded (is_modified (line_state_by v request.line)) (asks_line (kind_asks request.kind)) s.outcome
-    (ap is_handed replied.replied) in
+    let off : is_giver v request s.outcome ≡ false = grind arith in
     owed-on (past_of r) a c (c + 1) c (c + 1) (c + 1) c v (other_settled v number request s.outcome)
     (quiet-owed r a c h bounds l (none-claimed (past_of r) a c s there none))
     (same-debts v.buffers (other_settled v number request s.outcome).buffers (rw (off, other_settled) refl)) owed
@@ -284,13 +232,9 @@ other-owed-after r a c number s v request shared h bounds l few k dirty fills ow
     gives claim e given on =
         let line : request.line ≡ claim.line = k.line claim e in
         let fits = ((clock-facts r claim.line c h bounds l).settles.settled s claim k.there e refl).fits in
-        let first : number ≡ claim.first =
-        k.first claim e ∙ sym (same-first (past_of r) claim.line c s claim e fits).0 in
+        let first : number ≡ claim.first = grind arith in
         let now = gives-now r a c claim h bounds l given in
-        let modified : is_modified (line_state_by v request.line) ≡ true =
-        (and_parts (is_modified (line_state_by v request.line)) (is_handed s.outcome)
-        (and-first (is_modified (line_state_by v request.line)) (is_handed s.outcome) (asks_line
-        (kind_asks request.kind)) on)).0 in
+        let modified : is_modified (line_state_by v request.line) ≡ true = grind arith in
         elim (cases_Bool (is_awaited (past_of r) a claim.line c c)) [
           | inr here ↦
               let come : has_come v request.line ≡ true =
@@ -350,5 +294,4 @@ unsettled-owed-after r a c v h bounds l none owed =
     (same-debts v.buffers v.buffers refl) owed
   where
     by : (o : Option SnoopEnd) → snooped_at (past_of r) c ≡ o → claim_given_at (past_of r) a c ≡ None
-    by None e = none-snooped (past_of r) a c e
-    by (Some s) e = none-claimed (past_of r) a c s e (none s e)
+    by o h1 = grind (arith, none-snooped, none-claimed)

@@ -1,9 +1,9 @@
 -- What an agent owes after a snoop end at which it gives no bytes, and after one at which it does.
 use Rattle.std.proofs.Common.{ℕ, ◌+◌, ◌<◌, ◌≡◌, ◌≢◌, Bool, true, false, cond, not, ◌&&◌, ◌||◌, if◌then◌else◌, Option}
-use Rattle.std.proofs.Common.{Some, None, List, [], ◌∷◌, ◌++◌, length, length-append, nat_eq, refl, sym, ap, subst, ◌∙◌}
-use Rattle.std.proofs.Common.{inl, inr, arith}
+use Rattle.std.proofs.Common.{Some, None, List, [], ◌∷◌, ◌++◌, length, length-append, nat_eq, refl, sym, ap, subst}
+use Rattle.std.proofs.Common.{◌∙◌, inl, inr, arith}
 use Rattle.std.specs.Prelude.{◌==◌}
-use Rattle.std.proofs.lemmas.Bool.{cases_Bool, cases_eq, eq-eqb, ne_eqb}
+use Rattle.std.proofs.lemmas.Bool.{cases_eq, eq-eqb, ne_eqb}
 use Rattle.fsb_count.specs.Clocks.{count_where}
 use Rattle.fsb_count.specs.Options.{is_at, is_some_and}
 use Rattle.fsb_count.proofs.Interface.{any_where-more, count_where-failed, count_where-passed}
@@ -35,19 +35,11 @@ pub record SameDebts (b d : Buffered) : Type 0 where
   pub count : owed_count d ≡ owed_count b
 
 pub same-debts : (b d : Buffered) → d ≡ b → SameDebts b d
-same-debts b d e = record {
-  pushes = λ q. ap (λ x. push_count q x.pushes) e;
-  promises = λ line. ap (λ x. promise_on line x.fills) e;
-  count = ap owed_count e;
-}
+same-debts b d e = grind arith
 
 -- a fill that comes is not promised
 pub filled-debts : (b : Buffered) (line number : ℕ) → SameDebts b (with_fill b line number)
-filled-debts b line number = record {
-  pushes = λ q. refl;
-  promises = λ other. promise_on-push other line number b.fills;
-  count = ap (λ n. length b.pushes + n) (promised_count-push line number b.fills);
-}
+filled-debts b line number = grind (arith, promise_on-push, promised_count-push)
 
 -- a past that owes the same at two moments
 pub record SameOwed (p : Past) (a n r c m s d : ℕ) : Type 0 where
@@ -66,9 +58,7 @@ owed-on p a n r c m s d v w same debts h = record {
 
 pub owed-same : (p : Past) (a n r c : ℕ) (v w : AgentView) → w.buffers ≡ v.buffers → HasBytesOwed p a n r c v
     → HasBytesOwed p a n r c w
-owed-same p a n r c v w e h =
-    owed-on p a n r c n r c v w (record { pushes = λ q. refl; promises = λ line. refl; count = refl })
-    (same-debts v.buffers w.buffers e) h
+owed-same p a n r c v w e h = grind arith
 
 ungiven-line : (p : Past) (a line c : ℕ) → claim_given_at p a c ≡ None → gives_line_at p a line c ≡ false
 unfolding gives_line_at is_some_and
@@ -80,8 +70,7 @@ unfolding is_given_below
 given-more p a c q = any_where-more (λ t. is_some_and (claim_given_at p a t) (λ claim. nat_eq claim.first q)) c
 
 or-none : (b x : Bool) → x ≡ false → (b || x) ≡ b
-or-none true x e = refl
-or-none false x e = e
+or-none b x h1 = grind arith
 
 given-kept : (p : Past) (a c q : ℕ) → is_some_and (claim_given_at p a c) (λ claim. nat_eq claim.first q) ≡ false
     → is_given_below p a (c + 1) q ≡ is_given_below p a c q
@@ -92,23 +81,17 @@ pub quiet-owed : (r : Run) (a c : ℕ) → Timely r → KeepsBounds r.plan → c
     → claim_given_at (past_of r) a c ≡ None → SameOwed (past_of r) a c (c + 1) c (c + 1) (c + 1) c
 unfolding is_pushed owes_bytes_from is_some_and
 quiet-owed r a c h bounds l none =
-    let p : Past = past_of r in
-    let promises : (line : ℕ) → promise_told p a line (c + 1) c ≡ promise_told p a line c c =
-    λ line. elim (cases_Bool (is_granted p a line c)) [
-      | inl on ↦ promise-granted p a line c (ungiven-line p a line c none) on
-          ∙ sym (unawaited-unpromised p a line c c (granted-unawaited r a line c
-          (record { timely = h; bounds = bounds; long = omega arith }) on))
-      | inr off ↦ promise-kept p a line c (ungiven-line p a line c none) off
-    ] in
-    let given : (q : ℕ) → is_given_below p a (c + 1) q ≡ is_given_below p a c q =
-    λ q. given-kept p a c q (rw none refl) in
-    let promised : (q : ℕ) → is_promised p a (c + 1) c q ≡ is_promised p a c c q =
-    λ q. promised-same p a c c (c + 1) c q promises in
-    record {
-      pushes = λ q. λ i. given q i && not (is_responded_below p (c + 1) q) && not (promised q i);
-      promises = promises;
-      count = count_where-failed (owes_bytes_from p a (c + 1)) c (rw none refl);
-    }
+    grind (
+      arith,
+      promise-granted,
+      ungiven-line,
+      unawaited-unpromised,
+      granted-unawaited,
+      promise-kept,
+      given-kept,
+      promised-same,
+      count_where-failed,
+    )
 
 -- the request whose bytes an agent gives at a snoop end, and what is known of it there
 pub record GivesNow (r : Run) (a c : ℕ) (claim : Claim) : Type 0 where
@@ -140,26 +123,18 @@ owes-more : (r : Run) (a c : ℕ) (claim : Claim) → GivesNow r a c claim
     → count_where (owes_bytes_from (past_of r) a (c + 1)) (c + 1)
     ≡ count_where (owes_bytes_from (past_of r) a (c + 1)) c + 1
 unfolding owes_bytes_from is_some_and
-owes-more r a c claim k =
-    count_where-passed (owes_bytes_from (past_of r) a (c + 1)) c (rw (k.gives, k.unresponded) refl)
+owes-more r a c claim k = grind (arith, count_where-passed)
 
 -- another request's bytes are given as before
 other-given : (p : Past) (a c q : ℕ) (claim : Claim) → claim_given_at p a c ≡ Some claim → (q ≡ claim.first → ⊥)
     → is_given_below p a (c + 1) q ≡ is_given_below p a c q
 unfolding is_some_and
-other-given p a c q claim gives apart =
-    given-kept p a c q (rw gives (ne_eqb claim.first q (λ e. apart (sym e))))
+other-given p a c q claim gives apart = grind (arith, given-kept)
 
 now-given : (p : Past) (a c : ℕ) (claim : Claim) → claim_given_at p a c ≡ Some claim
     → is_given_below p a (c + 1) claim.first ≡ true
 unfolding is_some_and
-now-given p a c claim gives =
-    given-more p a c claim.first
-    ∙ rw (gives, eq-eqb claim.first claim.first refl) (last (is_given_below p a c claim.first))
-  where
-    last : (b : Bool) → (b || true) ≡ true
-    last true = refl
-    last false = refl
+now-given p a c claim gives = grind (arith, given-more)
 
 promised-on : (p : Past) (a n c q : ℕ) (claim : Claim) → begun_at p q ≡ Some claim
     → is_promised p a n c q ≡ is_at (promise_told p a claim.line n c) q
@@ -191,8 +166,7 @@ pushed-owed r a c claim bytes v w k unawaited e h =
     here : (line : ℕ) → line ≡ claim.line
         → promise_told (past_of r) a line (c + 1) c ≡ promise_told (past_of r) a line c c
     here line same =
-        let none : is_awaited (past_of r) a line c c ≡ false =
-        ap (λ x. is_awaited (past_of r) a x c c) same ∙ unawaited in
+        let none : is_awaited (past_of r) a line c c ≡ false = grind arith in
         promise-unawaited (past_of r) a line c (k.ungranted line) none
         ∙ sym (unawaited-unpromised (past_of r) a line c c none)
 
@@ -205,15 +179,12 @@ pushed-owed r a c claim bytes v w k unawaited e h =
     new promises q same =
         let p : Past = past_of r in
         let before : is_pushed p a c (c + 1) c claim.first ≡ false = rw k.not_before refl in
-        let none : push_count claim.first v.buffers.pushes ≡ 0 =
-        h.pushes claim.first ∙ ap (λ b. if b then 1 else 0) before in
-        let unpromised : promise_told p a claim.line (c + 1) c ≡ None =
-        promise-unawaited p a claim.line c (k.ungranted claim.line) unawaited in
+        let none : push_count claim.first v.buffers.pushes ≡ 0 = grind arith in
+        let unpromised : promise_told p a claim.line (c + 1) c ≡ None = grind (arith, promise-unawaited) in
         let free : is_promised p a (c + 1) c claim.first ≡ false =
         promised-on p a (c + 1) c claim.first claim k.begun
         ∙ at-none claim.first (promise_told p a claim.line (c + 1) c) unpromised in
-        let after : is_pushed p a (c + 1) (c + 1) c claim.first ≡ true =
-        rw (now-given p a c claim k.gives, k.unresponded, free) refl in
+        let after : is_pushed p a (c + 1) (c + 1) c claim.first ≡ true = grind (arith, now-given) in
         let here : push_count claim.first v.buffers.pushes + cond (claim.first == claim.first) 1 0
         ≡ (if is_pushed p a (c + 1) (c + 1) c claim.first then 1 else 0) =
         rw (none, eq-eqb claim.first claim.first refl, after) refl in
@@ -230,8 +201,7 @@ pushed-owed r a c claim bytes v w k unawaited e h =
         let p : Past = past_of r in
         let given = other-given p a c q claim k.gives apart in
         let promised = promised-same p a c c (c + 1) c q promises in
-        let same : is_pushed p a (c + 1) (c + 1) c q ≡ is_pushed p a c (c + 1) c q =
-        λ i. given i && not (is_responded_below p (c + 1) q) && not (promised i) in
+        let same : is_pushed p a (c + 1) (c + 1) c q ≡ is_pushed p a c (c + 1) c q = grind arith in
         let none : cond (claim.first == q) 1 0 ≡ 0 =
         ap {B = ℕ} (λ b. cond b 1 0) (ne_eqb claim.first q (λ is. apart (sym is))) in
         let here : push_count q v.buffers.pushes + cond (claim.first == q) 1 0 ≡ push_count q v.buffers.pushes =
@@ -273,8 +243,7 @@ promised-owed r a c claim v w k awaited one free e h = record {
 
     kept : (line : ℕ) → line ≢ claim.line
         → promise_told (past_of r) a line (c + 1) c ≡ promise_told (past_of r) a line c c
-    kept line other = promise-kept (past_of r) a line c (other-line (past_of r) a c line claim k.gives other)
-        (k.ungranted line)
+    kept line other = grind (arith, promise-kept, other-line)
 
     here : (line : ℕ) → line ≡ claim.line
         → promise_on line (promised_to claim.line claim.first v.buffers.fills)
@@ -288,8 +257,7 @@ promised-owed r a c claim v w k awaited one free e h = record {
     elsewhere : (line : ℕ) → line ≢ claim.line
         → promise_on line (promised_to claim.line claim.first v.buffers.fills)
         ≡ promise_told (past_of r) a line (c + 1) c
-    elsewhere line other =
-        promise_on-other line claim.line claim.first v.buffers.fills other ∙ h.promises line ∙ sym (kept line other)
+    elsewhere line other = grind (arith, promise_on-other, kept)
 
     new : (q : ℕ) → q ≡ claim.first
         → is_pushed (past_of r) a (c + 1) (c + 1) c q ≡ is_pushed (past_of r) a c (c + 1) c q
@@ -297,8 +265,7 @@ promised-owed r a c claim v w k awaited one free e h = record {
         let p : Past = past_of r in
         let told : is_promised p a (c + 1) c claim.first ≡ true =
         promised-on p a (c + 1) c claim.first claim k.begun ∙ rw made (eq-eqb claim.first claim.first refl) in
-        let after : is_pushed p a (c + 1) (c + 1) c claim.first ≡ false =
-        rw told (last (is_given_below p a (c + 1) claim.first) (is_responded_below p (c + 1) claim.first)) in
+        let after : is_pushed p a (c + 1) (c + 1) c claim.first ≡ false = grind arith in
         let before : is_pushed p a c (c + 1) c claim.first ≡ false = rw k.not_before refl in
         subst (λ x. is_pushed p a (c + 1) (c + 1) c x ≡ is_pushed p a c (c + 1) c x) (sym same) (after ∙ sym before)
       where
@@ -316,19 +283,14 @@ promised-owed r a c claim v w k awaited one free e h = record {
               let after : is_at (promise_told (past_of r) a x.line (c + 1) c) q ≡ false =
               ap (λ line. is_at (promise_told (past_of r) a line (c + 1) c) q) same
               ∙ rw made (ne_eqb claim.first q (λ is. other (sym is))) in
-              let before : is_at (promise_told (past_of r) a x.line c c) q ≡ false =
-              ap (λ line. is_at (promise_told (past_of r) a line c c) q) same ∙ rw unmade refl in
+              let before : is_at (promise_told (past_of r) a x.line c c) q ≡ false = grind arith in
               rw begun (after ∙ sym before)
           | inr apart ↦ rw begun (ap (λ o. is_at o q) (kept x.line apart))
         ]
 
     old : (q : ℕ) → (q ≡ claim.first → ⊥)
         → is_pushed (past_of r) a (c + 1) (c + 1) c q ≡ is_pushed (past_of r) a c (c + 1) c q
-    old q other =
-        let p : Past = past_of r in
-        let given = other-given p a c q claim k.gives other in
-        let promised = promised-kept q other (begun_at p q) refl in
-        λ i. given i && not (is_responded_below p (c + 1) q) && not (promised i)
+    old q other = grind (arith, other-given, promised-kept)
 
     counted : promised_count (promised_to claim.line claim.first v.buffers.fills) ≡ promised_count v.buffers.fills + 1
         → owed_count v.buffers ≡ count_where (owes_bytes_from (past_of r) a (c + 1)) c

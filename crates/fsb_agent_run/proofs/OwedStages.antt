@@ -1,15 +1,14 @@
 -- What an agent owes after the snoop ends and ends of a clock, by its record at the stages of the clock.
-use Rattle.std.proofs.Common.{ℕ, ◌+◌, ◌<◌, ◌≡◌, ◌≢◌, Bool, true, false, not, ◌&&◌, ◌||◌, Some, None, nat_eq, refl, sym}
-use Rattle.std.proofs.Common.{ap, subst, ◌∙◌}
+use Rattle.std.proofs.Common.{ℕ, ◌+◌, ◌<◌, ◌≡◌, ◌≢◌, Bool, true, false, ◌&&◌, Some, None, nat_eq, refl, sym, ap}
+use Rattle.std.proofs.Common.{subst, ◌∙◌, arith}
 use Rattle.std.specs.Prelude.{is_some}
-use Rattle.std.proofs.lemmas.Bool.{and_parts, both_ways, eq-eqb, eqb-true, false_from_ne_true}
+use Rattle.std.proofs.lemmas.Bool.{and_parts, both_ways, eqb-true, false_from_ne_true}
 use Rattle.fsb_count.specs.Options.{is_some_and}
 use Rattle.fsb_encode.specs.declared.request.Request.{Request}
 use Rattle.fsb_line.specs.States.{is_modified}
 use Rattle.fsb_timely.specs.Past.{Claim, Grant, Past, SnoopEnd}
-use Rattle.fsb_timely.specs.Grants.{begun_at, holds_line, is_claim_of, is_evicted, is_exclusive, is_rival, latest_grant}
-use Rattle.fsb_timely.specs.Grants.{snooped_at}
-use Rattle.fsb_timely.specs.Hits.{is_dirty, is_stored_since}
+use Rattle.fsb_timely.specs.Grants.{begun_at, holds_line, is_claim_of, is_evicted, is_exclusive, is_rival, snooped_at}
+use Rattle.fsb_timely.specs.Hits.{is_dirty}
 use Rattle.fsb_timely.specs.Runs.{Run, past_of}
 use Rattle.fsb_timely.specs.Wants.{want_of}
 use Rattle.fsb_lawful.proofs.Interface.{some-and}
@@ -30,7 +29,6 @@ use Rattle.fsb_agent_run.proofs.OtherSnoops.{served-out}
 use Rattle.fsb_agent_run.proofs.OwedSnoopEnds.{other-owed-after, own-owed-after}
 use Rattle.fsb_agent_run.proofs.OwnEvents.{IsOwnSnoopEnd, is_settled_for}
 use Rattle.fsb_agent_run.proofs.OwnSnoops.{own-out, settled-as}
-use Rattle.fsb_agent_run.proofs.StatesTold.{modified-told}
 
 pub fills-before : (p : Past) (a c : ℕ) (v : AgentView) → IsViewBeforeSnoop p a c v → HasFillsOf p a c c v
 fills-before p a c v view = record { fills = view.lines.fills }
@@ -56,49 +54,23 @@ dirty-stays r a line c h dirty =
 dirty-held : (p : Past) (a line c : ℕ) → is_dirty p a line c ≡ true
     → (holds_line p a line c ≡ true) × (is_exclusive p a line c ≡ true)
 unfolding is_dirty is_exclusive
-dirty-held p a line c dirty =
-    let sole = (and_parts (is_exclusive p a line c)
-    (is_some_and (latest_grant p a line c) (λ grant. grant.owns || is_stored_since p a line c grant.first)) dirty).0 in
-    ((and_parts (holds_line p a line c) _ (and_parts (holds_line p a line c && _) _ sole).0).0, sole)
+dirty-held p a line c dirty = grind arith
 
 -- before the snoop end the record has those lines Modified on which its agent is dirty
 pub modified-kept : (r : Run) (a c line : ℕ) (v : AgentView) → Reaches r (c + 1) → IsViewBeforeSnoop (past_of r) a c v
     → is_modified (line_state_by v line) ≡ is_dirty (past_of r) a line c
-modified-kept r a c line v h view =
-    ap is_modified (view.lines.states line)
-    ∙ modified-told (holds_line (past_of r) a line c && not (is_evicted (past_of r) a line c))
-    (is_exclusive (past_of r) a line c && not (is_evicted (past_of r) a line c)) (is_dirty (past_of r) a line c)
-    ∙ by (is_dirty (past_of r) a line c) refl
-  where
-    none : (x y : Bool) → (x && (y && false)) ≡ false
-    none true true = refl
-    none true false = refl
-    none false y = refl
-
-    by : (b : Bool) → is_dirty (past_of r) a line c ≡ b
-        → ((holds_line (past_of r) a line c && not (is_evicted (past_of r) a line c))
-        && ((is_exclusive (past_of r) a line c && not (is_evicted (past_of r) a line c)) && is_dirty
-        (past_of r) a line c))
-        ≡ is_dirty (past_of r) a line c
-    by true dirty =
-        let k = dirty-held (past_of r) a line c dirty in
-        rw (dirty, k.0, k.1, dirty-stays r a line c h dirty) refl
-    by false clean =
-        rw clean (none (holds_line (past_of r) a line c && not (is_evicted (past_of r) a line c))
-        (is_exclusive (past_of r) a line c && not (is_evicted (past_of r) a line c)))
+modified-kept r a c line v h view = grind (arith, dirty-held, dirty-stays)
 
 -- the snoop end is that of the agent's request, or of the reply to it
 pub settled-claimed : (a line : ℕ) (s : SnoopEnd) (claim : Claim) → s.claim ≡ Some claim → claim.agent ≡ a
     → claim.line ≡ line → is_settled_for a line s ≡ true
 unfolding is_settled_for is_claim_of
-settled-claimed a line s claim claims mine names =
-    rw (claims, eq-eqb claim.agent a mine, eq-eqb claim.line line names) refl
+settled-claimed a line s claim claims mine names = grind arith
 
 pub settled-replied : (a line : ℕ) (s : SnoopEnd) (grant : Grant) → s.claim ≡ None → s.grant ≡ Some grant
     → grant.agent ≡ a → grant.line ≡ line → is_settled_for a line s ≡ true
 unfolding is_settled_for is_granted_by is_some_and
-settled-replied a line s grant none made mine names =
-    rw (none, made, eq-eqb grant.agent a mine, eq-eqb grant.line line names) refl
+settled-replied a line s grant none made mine names = grind arith
 
 pub unclaimed-number : (s : SnoopEnd) (n m : ℕ) → s.claim ≡ None → is_some s.claim ≡ true → n ≡ m
 unclaimed-number s n m none some = absurd (let never : false ≡ true = rw none at some in (let no : ⊥ = cc in no))

@@ -1,6 +1,6 @@
 -- The outstanding requests of an agent: what each of them is, and how they go on by a clock.
-use Rattle.std.proofs.Common.{ℕ, zero, suc, ◌+◌, ◌<◌, ◌≤◌, ◌≡◌, Bool, true, not, ◌&&◌, [], ◌++◌, Option, Some, None}
-use Rattle.std.proofs.Common.{nat_eq, refl, sym, ap, subst, ◌∙◌, inl, inr, add-one, arith}
+use Rattle.std.proofs.Common.{ℕ, zero, suc, ◌+◌, ◌<◌, ◌≤◌, ◌≡◌, Bool, true, not, ◌&&◌, [], ◌++◌, Option, Some, nat_eq}
+use Rattle.std.proofs.Common.{refl, sym, ap, subst, ◌∙◌, inl, inr, add-one, arith}
 use Rattle.std.specs.List.{filter, list_any}
 use Rattle.std.specs.Option.{option_map}
 use Rattle.std.proofs.lemmas.Bool.{and_from, and_parts, eq-eqb, eqb-true}
@@ -27,19 +27,13 @@ abbrev pub stays_out : Run → ℕ → Owing → Bool
 stays_out r n owing = not (is_last_clock r.trace n owing.claim.first)
 
 pub reaches-less : (r : Run) (m n : ℕ) → m ≤ n → Reaches r n → Reaches r m
-reaches-less r m n l h =
-    let long = h.long in record { timely = h.timely; bounds = h.bounds; long = omega arith }
+reaches-less r m n l h = grind arith
 
 -- one clock further
 pub owed-more : (r : Run) (a n : ℕ) → Reaches r (n + 1)
     → owed (past_of r) a (n + 1) ≡ filter (stays_out r n) (owed (past_of r) a n) ++ owings_begun (past_of r) a n
 unfolding owed owings_begun
-owed-more r a n h =
-    let p = past_of r in
-    ap (filter (is_own a)) (owed-step r n h)
-    ∙ filter-append (is_own a) (filter (stays_out r n) (outstanding_at p n)) (listed (owing_begun p n))
-    ∙ ap (λ xs. xs ++ filter (is_own a) (listed (owing_begun p n)))
-    (filter-swap (is_own a) (stays_out r n) (outstanding_at p n))
+owed-more r a n h = grind (arith, owed-step, filter-append, filter-swap)
 
 pub none-owed : (p : Past) (a : ℕ) → owed p a 0 ≡ []
 unfolding owed outstanding_at
@@ -54,38 +48,20 @@ pub record IsOwing (p : Past) (a n : ℕ) (owing : Owing) : Type 0 where
 
 listed-is : (o : Option Owing) (owing : Owing) → Among owing (listed o) → o ≡ Some owing
 unfolding listed
-listed-is None owing h = absurd h
-listed-is (Some x) owing (inl e) = ap Some e
-listed-is (Some x) owing (inr h) = absurd h
+listed-is o owing h1 = grind arith
 
 -- what begins at n
 pub begun-is : (r : Run) (a n : ℕ) (owing : Owing) → Reaches r (n + 1) → Among owing (owings_begun (past_of r) a n)
     → (owing_begun (past_of r) n ≡ Some owing) × (owing.claim.agent ≡ a) × (owing.claim.first ≡ n)
 unfolding owings_begun
-begun-is r a n owing h k =
-    let p = past_of r in
-    let parts = among-filter (is_own a) owing (listed (owing_begun p n)) k in
-    let begun = listed-is (owing_begun p n) owing parts.0 in
-    (begun, eqb-true owing.claim.agent a parts.1, (begun-wanted r n owing h begun).4)
+begun-is r a n owing h k = grind (arith, among-filter, listed-is, begun-wanted)
 
 pub begun-owing : (r : Run) (a n : ℕ) (owing : Owing) → Reaches r (n + 1) → Among owing (owings_begun (past_of r) a n)
     → IsOwing (past_of r) a (n + 1) owing
-begun-owing r a n owing h k =
-    let p = past_of r in
-    let b = begun-is r a n owing h k in
-    let at : n ≡ owing.claim.first = sym b.2 in
-    let begun : owing_begun p owing.claim.first ≡ Some owing = subst (λ q. owing_begun p q ≡ Some owing) at b.0 in
-    record {
-      begun = begun;
-      claimed = owing-claim p owing.claim.first owing begun;
-      agent = b.1;
-      before = omega (arith, at);
-    }
+begun-owing r a n owing h k = grind (arith, begun-is, owing-claim)
 
 owing-later : (p : Past) (a m n : ℕ) (owing : Owing) → m ≤ n → IsOwing p a m owing → IsOwing p a n owing
-owing-later p a m n owing l k =
-    let below = k.before in
-    record { begun = k.begun; claimed = k.claimed; agent = k.agent; before = omega arith }
+owing-later p a m n owing l k = grind arith
 
 -- what an agent owes
 pub owing-is : (r : Run) (a n : ℕ) (owing : Owing) → Reaches r n → Among owing (owed (past_of r) a n)
@@ -120,8 +96,7 @@ sent-is r a n owing h k =
 
 mapped : (f : Owing → Claim) (o : Option Owing) (claim : Claim) → option_map f o ≡ Some claim
     → (owing : Owing) × (o ≡ Some owing) × (f owing ≡ claim)
-mapped f None claim e = absurd (let no : ⊥ = cc in no)
-mapped f (Some owing) claim e = (owing, refl, (let same : f owing ≡ claim = cc in same))
+mapped f o claim h1 = grind arith
 
 pub begun-parts : (p : Past) (q : ℕ) (claim : Claim) → begun_at p q ≡ Some claim
     → (owing : Owing) × (owing_begun p q ≡ Some owing) × (owing.claim ≡ claim)
@@ -156,7 +131,6 @@ owed-there r n q claim h begun below out =
     let first : found.0.claim.first ≡ owing.claim.first = eqb-true _ _ parts.0 in
     let mine : Reaches r (q + 1) = reaches-less r (q + 1) n (omega arith) h in
     let at : owing.claim.first ≡ q = (begun-wanted r q owing mine k.1).4 in
-    let here : owing_begun p q ≡ Some found.0 =
-    subst (λ x. owing_begun p x ≡ Some found.0) (first ∙ at) fact.begun in
+    let here : owing_begun p q ≡ Some found.0 = grind arith in
     let same : found.0 ≡ owing = (let e = sym here ∙ k.1 in cc) in
     (found.0, among, ap (λ (o : Owing). o.claim) same ∙ k.2, here)

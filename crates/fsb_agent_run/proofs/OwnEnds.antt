@@ -1,11 +1,10 @@
 -- At the end of its own request an agent awaits the line where the request was granted, and nothing on the line
 -- where it was not; and at the snoop end of its write-back it is dirty on the line.
 use Rattle.std.proofs.Common.{ℕ, ◌+◌, ◌<◌, ◌≤◌, ◌≡◌, ◌≢◌, Bool, true, false, ◌&&◌, ◌||◌, if◌then◌else◌, List, [], ◌∷◌}
-use Rattle.std.proofs.Common.{Option, Some, None, length, nat_eq, nat_lt, refl, sym, ap, subst, ◌∙◌, inl, inr, arith}
+use Rattle.std.proofs.Common.{Option, Some, None, length, nat_lt, refl, sym, ap, subst, ◌∙◌, inl, inr, arith}
 use Rattle.std.specs.List.{list_any}
-use Rattle.std.specs.Option.{option_map_or}
-use Rattle.std.proofs.lemmas.Bool.{and_from, and_parts, both_ways, cases_eq, cases_lt, eqb-true, false_from_ne_true}
-use Rattle.std.proofs.lemmas.Bool.{lt-ltb, ltb-true, or_left, or_right, or_cases}
+use Rattle.std.proofs.lemmas.Bool.{and_from, and_parts, both_ways, cases_eq, cases_lt, false_from_ne_true, or_left}
+use Rattle.std.proofs.lemmas.Bool.{or_right, or_cases}
 use Rattle.fsb_count.specs.Clocks.{any_where, from_clock, last_where}
 use Rattle.fsb_count.specs.Options.{is_at, is_some_and}
 use Rattle.fsb_count.proofs.Interface.{any_where-found, any_where-none, any_where-off, is_at-some}
@@ -18,8 +17,7 @@ use Rattle.fsb_line.specs.declared.purpose.Purpose.TheVariants as purposes
 use Rattle.fsb_line.specs.Line.{LineDeferral, OpenRequest}
 use Rattle.fsb_line.specs.States.{is_modified}
 use Rattle.fsb_trace.specs.declared.outcome.Outcome.{Outcome}
-use Rattle.fsb_trace.specs.declared.outcome.Outcome.TheVariants.{Granted, Handed, Retried, Deferred, Written, Replied}
-use Rattle.fsb_trace.specs.declared.outcome.Outcome.TheVariants.{Failed, Upgraded}
+use Rattle.fsb_trace.specs.declared.outcome.Outcome.TheVariants.{Deferred, Written}
 use Rattle.fsb_trace.specs.Outcome.{is_deferral}
 use Rattle.fsb_timely.specs.Past.{Claim, Grant, Past, SnoopEnd}
 use Rattle.fsb_timely.specs.Grants.{begun_at, grant_at, is_end_at, is_ended, is_exclusive, is_granted, latest_grant}
@@ -42,7 +40,8 @@ use Rattle.fsb_agent_view.specs.declared.want.OwnRequest.{OwnRequest}
 use Rattle.fsb_agent_run.proofs.OwnEvents.{IsOwnEnd, is_settled_for}
 use Rattle.fsb_agent_run.specs.RunViews.{is_awaited}
 use Rattle.fsb_agent_run.proofs.GivenBytes.{same-first, written-kind}
-use Rattle.fsb_agent_run.proofs.OwnLines.{granted-settled, machine_at, own-claim, own-grant, settled-unawaited, tied-at}
+use Rattle.fsb_agent_run.proofs.OwnLines.{granted-settled, machine_at, own-claim, own-grant, settled-unawaited}
+use Rattle.fsb_agent_run.proofs.OwnLines.{tied-at}
 use Rattle.fsb_agent_run.proofs.PromisesTold.{awaits-by}
 
 -- a request whose end is c has its snoop end two clocks before at least
@@ -123,16 +122,7 @@ stored-more : (p : Past) (a line n q : ℕ) (log : List Done)
     → list_any (λ done. is_store_on a line done && is_ended p done.clock q && nat_lt done.clock n) log ≡ true
     → list_any (λ done. is_store_on a line done && is_ended p done.clock q && nat_lt done.clock (n + 1)) log ≡ true
 stored-more p a line n q [] e = e
-stored-more p a line n q (done ∷ log) e =
-    elim (or_cases (is_store_on a line done && is_ended p done.clock q && nat_lt done.clock n) _ e) [
-      | inl here ↦
-          let parts = and_parts (is_store_on a line done && is_ended p done.clock q) (nat_lt done.clock n) here in
-          let low = ltb-true done.clock n parts.1 in
-          or_left _ _ (and_from (is_store_on a line done && is_ended p done.clock q) (nat_lt done.clock (n + 1)) parts.0
-          (lt-ltb done.clock (n + 1) (omega arith)))
-      | inr there ↦ or_right (is_store_on a line done && is_ended p done.clock q && nat_lt done.clock (n + 1)) _
-          (stored-more p a line n q log there)
-    ]
+stored-more p a line n q (done ∷ log) e = grind (arith, stored-more p a line n q log)
 
 -- who is dirty on a line below the hits of a clock is dirty with them
 dirty-with-hits : (p : Past) (a line n : ℕ) → is_dirty_below p a line n ≡ true → is_dirty p a line n ≡ true
@@ -155,13 +145,11 @@ dirty-with-hits p a line n e =
   where
     some-more : (o : Option Grant) (f g : Grant → Bool) → ((x : Grant) → f x ≡ true → g x ≡ true)
         → is_some_and o f ≡ true → is_some_and o g ≡ true
-    some-more None f g less t = t
-    some-more (Some x) f g less t = less x t
+    some-more o f g h1 h2 = grind arith
 
     either : (b : Bool) → is_dirty_through p a line n ≡ true
         → (if b then is_dirty_through p a line n else is_dirty_below p a line n) ≡ true
-    either true through = through
-    either false through = e
+    either b h1 = grind arith
 
 -- at the snoop end of its write-back an agent is dirty on the line
 pub written-dirty : (r : Run) (a line c : ℕ) (s : SnoopEnd) (claim : Claim) → Timely r → KeepsBounds r.plan
@@ -183,8 +171,7 @@ written-dirty r a line c s claim h bounds l there claims agent names written =
     let suits = tied.ordered.suited fits.agent request asked in
     let modified : is_modified ((machine_at r line c).state fits.agent) ≡ true = (let e = rw purpose at suits in e) in
     let whose : fits.agent ≡ a = sym (same-first (past_of r) line c s claim claims fits).1 ∙ agent in
-    let below : is_dirty_below (past_of r) a line c ≡ true =
-    ap (λ b. is_dirty_below (past_of r) b line c) (sym whose) ∙ sym (tied.tied.modified fits.agent) ∙ modified in
+    let below : is_dirty_below (past_of r) a line c ≡ true = grind arith in
     dirty-with-hits (past_of r) a line c below
 
 -- an open request was open before, where it had begun
@@ -236,8 +223,7 @@ not-begun r a line c t q s claim h bounds l there claims agent names ends late l
     let mine = own-open r a line t s claim h bounds (omega arith) there claims agent names in
     let before : s.first < t = mine.1.before in
     let k = begun-want r q (record { first = q; agent = a; line = line }) h bounds (omega arith) begun in
-    let free : is_asked_for (owed p a q) line ≡ false =
-    ap (is_asked_for (owed p a q)) (sym k.line) ∙ want_of-new p a q k.request k.want in
+    let free : is_asked_for (owed p a q) line ≡ false = grind (arith, want_of-new) in
     let taken = own-owed r q s.first (record { first = s.first; agent = a; line = line }) h bounds (omega arith)
     (omega arith)
     mine.1.begun (live-uncancelled r q t s (omega arith) there) (ended-once r c q s.first h l low ends) in
@@ -289,44 +275,7 @@ record DeferredAt (p : Past) (line n : ℕ) (d : LineDeferral) : Type 0 where
 
 deferred-at : (p : Past) (line n : ℕ) (d : LineDeferral) → deferral_below p line n ≡ Some d → DeferredAt p line n d
 unfolding deferral_below defers_line deferral_at deferred_to
-deferred-at p line n d e = by (last_where (defers_line p line) n) refl
-  where
-    if-since : (b : Bool) (o : Option LineDeferral) → (if b then None else o) ≡ Some d → (b ≡ false) × (o ≡ Some d)
-    if-since true o f = absurd (let no : ⊥ = cc in no)
-    if-since false o f = (refl, f)
-
-    agent-of : (o : Option Claim) (s : SnoopEnd) (t : ℕ) (claim : Claim) → o ≡ Some claim
-        → option_map_or (λ (x : Claim). Some (deferred_to p line t s x.agent)) o None ≡ Some d → claim.agent ≡ d.agent
-    agent-of None s t claim f g = absurd (let no : ⊥ = cc in no)
-    agent-of (Some x) s t claim f g =
-        let is : x ≡ claim = cc in
-        let same : deferred_to p line t s x.agent ≡ d = cc in
-        ap (λ (y : Claim). y.agent) (sym is) ∙ ap (λ (y : LineDeferral). y.agent) same
-
-    by : (o : Option ℕ) → last_where (defers_line p line) n ≡ o → DeferredAt p line n d
-    by None f = absurd (let no : ⊥ = (let e' = rw (f, deferral_below) at e in cc) in no)
-    by (Some t) f =
-        let k = if-since (any_where (from_clock (t + 1) (replies_line p line)) n) (deferral_at p line t) (rw
-        (f, deferral_below) at e) in
-        let found = last_where-found (defers_line p line) n t f in
-        let s = some-and (snooped_at p t) (λ (x : SnoopEnd).
-        is_deferral x.outcome && is_some_and x.claim (λ claim. nat_eq claim.line line)) found.1 in
-        let parts = and_parts (is_deferral s.0.outcome) (is_some_and s.0.claim (λ claim. nat_eq claim.line line)) s.2 in
-        let claim = some-and s.0.claim (λ (x : Claim). nat_eq x.line line) parts.1 in
-        record {
-          at = t;
-          last = f;
-          since = k.0;
-          made = k.1;
-          below = found.0;
-          end = s.0;
-          there = s.1;
-          deferred = parts.0;
-          claim = claim.0;
-          claims = claim.1;
-          agent = agent-of s.0.claim s.0 t claim.0 claim.1 (rw s.1 at k.1);
-          names = eqb-true claim.0.line line claim.2;
-        }
+deferred-at p line n d e = grind (arith, last_where-found, some-and)
 
 last-cut : (test : ℕ → Bool) (n m t : ℕ) → m ≤ n → t < m → last_where test n ≡ Some t → last_where test m ≡ Some t
 last-cut test n m t l low last =
@@ -356,14 +305,7 @@ deferral-then p line n m d l k low =
 
 deferral-is : (outcome : Outcome) → is_deferral outcome ≡ true → outcome ≡ Deferred
 unfolding is_deferral
-deferral-is Granted e = absurd (let no : ⊥ = cc in no)
-deferral-is Handed e = absurd (let no : ⊥ = cc in no)
-deferral-is Retried e = absurd (let no : ⊥ = cc in no)
-deferral-is Deferred e = refl
-deferral-is Written e = absurd (let no : ⊥ = cc in no)
-deferral-is Replied e = absurd (let no : ⊥ = cc in no)
-deferral-is Failed e = absurd (let no : ⊥ = cc in no)
-deferral-is Upgraded e = absurd (let no : ⊥ = cc in no)
+deferral-is outcome h1 = grind arith
 
 -- behind the snoop end of a request that is neither granted nor deferred nothing of its line is granted to its
 -- agent until it has its end
@@ -405,9 +347,7 @@ not-granted-later r a line c t u s claim h bounds l there claims agent names end
                 let mine = own-open r a line t s claim h bounds (omega arith) there claims agent names in
                 let tied = tied-at r line t h bounds (omega arith) in
                 let pending = deferral-then p line u t d (omega arith) k (omega arith) in
-                let none : (machine_at r line t).ask a ≡ None =
-                ap (λ b. (machine_at r line t).ask b) (sym whose) ∙ (tied.ordered.pending d (tied.tied.deferral
-                ∙ pending)).no_ask in
+                let none : (machine_at r line t).ask a ≡ None = grind arith in
                 let both = sym none ∙ tied.tied.opened a (record { kind = mine.0; number = s.first }) mine.1 in
                 (let no : ⊥ = cc in no)
           ]
@@ -449,8 +389,7 @@ ungranted-unawaited r a c s out h bounds l k none plain = by s.claim refl
                 (let no : ⊥ = cc in no)
             | inr apart ↦
                 let last = last-cut (is_granted p a line) (c + 1) k.at w.at (omega arith) (omega arith) w.last in
-                let unended : is_ended p k.at w.grant.first ≡ false =
-                unended-before p k.at c w.grant.first (omega arith) w.unended in
+                let unended : is_ended p k.at w.grant.first ≡ false = grind (arith, unended-before) in
                 both_ways (is_awaited p a line k.at k.at)
                 (settled-unawaited r a line k.at s h bounds (omega arith) k.snooped.there k.snooped.settles)
                 (awaited-from p a line k.at k.at w.at w.end w.grant last w.there w.made unended)

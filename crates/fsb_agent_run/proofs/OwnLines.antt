@@ -13,7 +13,6 @@ use Rattle.fsb_line.specs.LineRuns.{run}
 use Rattle.fsb_line.specs.Links.{is_linked}
 use Rattle.fsb_timely.specs.Past.{Claim, Grant, Past, SnoopEnd}
 use Rattle.fsb_timely.specs.Grants.{is_claim_of, is_ended, is_granted, snooped_at}
-use Rattle.fsb_timely.specs.Moments.{is_upgraded, makes_grant}
 use Rattle.fsb_timely.specs.Runs.{Run, past_of}
 use Rattle.fsb_timely.specs.Timely.{Timely}
 use Rattle.fsb_lawful.specs.Beginning.{KeepsBounds}
@@ -27,7 +26,6 @@ use Rattle.fsb_coherent.proofs.Interface.{facts-keep-ties, may-below}
 use Rattle.fsb_tied.proofs.Interface.{awaits-grant, clock-facts, grant-first, granted-parts}
 use Rattle.fsb_agent_run.proofs.OwnEvents.{is_settled_for}
 use Rattle.fsb_agent_run.specs.RunViews.{is_awaited}
-use Rattle.fsb_agent_run.proofs.GivenBytes.{granted-if, same-first}
 use Rattle.fsb_agent_run.proofs.PromisesTold.{awaits-by}
 
 -- the line of the machine at a clock, whatever its bytes
@@ -46,16 +44,14 @@ linked-append a (x ∷ xs) ys = ap (λ b. (x.agent == a) || b) (linked-append a 
     ∙ grouped (x.agent == a) (is_linked a xs) (is_linked a ys)
   where
     grouped : (x y z : Bool) → (x || (y || z)) ≡ ((x || y) || z)
-    grouped true y z = refl
-    grouped false y z = refl
+    grouped x y z = grind arith
 
 -- the link of a grant whose end is to come
 linked-by : (p : Past) (a line c t : ℕ) (s : SnoopEnd) (grant : Grant) → snooped_at p t ≡ Some s → s.grant ≡ Some grant
     → grant.agent ≡ a → grant.line ≡ line → is_ended p c s.first ≡ false
     → is_linked a (option_map_or (link_left p line c t) (snooped_at p t) []) ≡ true
 unfolding link_left link_for awaited_by_grant
-linked-by p a line c t s grant there made agent names unended =
-    rw (there, unended, awaits-grant s grant made, eq-eqb grant.line line names, eq-eqb grant.agent a agent) refl
+linked-by p a line c t s grant there made agent names unended = grind (arith, awaits-grant)
 
 linked-above : (p : Past) (a line c t n : ℕ) → t < n
     → is_linked a (option_map_or (link_left p line c t) (snooped_at p t) []) ≡ true
@@ -106,8 +102,7 @@ pub deferred-unawaited : (r : Run) (line n : ℕ) (d : LineDeferral) → Timely 
     → deferral_below (past_of r) line n ≡ Some d → is_awaited (past_of r) d.agent line n n ≡ false
 deferred-unawaited r line n d h bounds l pending =
     let tied = tied-at r line n h bounds l in
-    let apart : is_linked d.agent (machine_at r line n).chain ≡ false =
-    (tied.ordered.pending d (tied.tied.deferral ∙ pending)).no_link in
+    let apart : is_linked d.agent (machine_at r line n).chain ≡ false = grind arith in
     false_from_ne_true (is_awaited (past_of r) d.agent line n n) (λ e.
     both_ways (is_linked d.agent (chain_below (past_of r) line n)) (ap (is_linked d.agent) (sym tied.tied.chain)
     ∙ apart)
@@ -117,20 +112,13 @@ deferred-unawaited r line n d h bounds l pending =
 pub own-claim : (a line : ℕ) (s : SnoopEnd) (claim : Claim) → s.claim ≡ Some claim → is_settled_for a line s ≡ true
     → (claim.agent ≡ a) × (claim.line ≡ line)
 unfolding is_settled_for is_claim_of
-own-claim a line s claim claims settles =
-    let e : (nat_eq claim.agent a && nat_eq claim.line line) ≡ true = rw claims at settles in
-    let names = and_parts (nat_eq claim.agent a) (nat_eq claim.line line) e in
-    (eqb-true claim.agent a names.0, eqb-true claim.line line names.1)
+own-claim a line s claim claims settles = grind arith
 
 -- or, of a reply, whose grant
 pub own-grant : (a line : ℕ) (s : SnoopEnd) → s.claim ≡ None → is_settled_for a line s ≡ true
     → (grant : Grant) × (s.grant ≡ Some grant) × (grant.agent ≡ a) × (grant.line ≡ line)
 unfolding is_settled_for is_granted_by
-own-grant a line s none settles =
-    let e : is_some_and s.grant (λ grant. nat_eq grant.agent a && nat_eq grant.line line) ≡ true = rw none at settles in
-    let g = some-and s.grant (λ (grant : Grant). nat_eq grant.agent a && nat_eq grant.line line) e in
-    let names = and_parts (nat_eq g.0.agent a) (nat_eq g.0.line line) g.2 in
-    (g.0, g.1, eqb-true g.0.agent a names.0, eqb-true g.0.line line names.1)
+own-grant a line s none settles = grind (arith, some-and)
 
 -- the snoop end of an agent's request for a line, by its claim or by its grant
 settled-by : (r : Run) (a line c : ℕ) (s : SnoopEnd) (o : Option Claim) → s.claim ≡ o → Timely r → KeepsBounds r.plan
@@ -142,13 +130,11 @@ settled-by r a line c s (Some claim) claims h bounds l there settles =
     let names = and_parts (nat_eq claim.agent a) (nat_eq claim.line line) e in
     let settled = (clock-facts r line c h bounds l).settles.settled s claim there claims
     (eqb-true claim.line line names.1) in
-    let agent : settled.fits.agent ≡ a =
-    sym (same-first (past_of r) line c s claim claims settled.fits).1 ∙ eqb-true claim.agent a names.0 in
+    let agent : settled.fits.agent ≡ a = grind arith in
     ap (λ b. is_awaited (past_of r) b line c c) (sym agent)
     ∙ open-unawaited r settled.fits.agent line c _ h bounds (omega arith) settled.opened
 settled-by r a line c s None claims h bounds l there settles =
-    let e : is_some_and s.grant (λ grant. nat_eq grant.agent a && nat_eq grant.line line) ≡ true =
-    rw claims at settles in
+    let e : is_some_and s.grant (λ grant. nat_eq grant.agent a && nat_eq grant.line line) ≡ true = grind arith in
     let g = some-and s.grant (λ (grant : Grant). nat_eq grant.agent a && nat_eq grant.line line) e in
     let names = and_parts (nat_eq g.0.agent a) (nat_eq g.0.line line) g.2 in
     let replied = (clock-facts r line c h bounds l).settles.replied s g.0 there claims g.1
@@ -174,11 +160,8 @@ granted-by r a line c s grant (Some claim) claims h bounds l there made agent na
     let same = facts.settles.elsewhere s claim grant there claims made in
     let x : Grant =
     record { first = s.first; agent = fits.agent; line = claim.line; owns = fits.owns; shared = fits.shared } in
-    let is : x ≡ grant =
-    granted-if (makes_grant fits.kind s.outcome ||
-    (is_upgraded s.outcome && fits.won)) s.grant x grant fits.granted made in
-    let whose : claim.agent ≡ a =
-    (same-first (past_of r) claim.line c s claim claims fits).1 ∙ ap (λ (y : Grant). y.agent) is ∙ agent in
+    let is : x ≡ grant = grind arith in
+    let whose : claim.agent ≡ a = grind arith in
     rw (claims, eq-eqb claim.agent a whose, eq-eqb claim.line line (sym same ∙ names)) refl
 granted-by r a line c s grant None claims h bounds l there made agent names =
     rw (claims, made, eq-eqb grant.agent a agent, eq-eqb grant.line line names) refl
@@ -186,6 +169,4 @@ granted-by r a line c s grant None claims h bounds l there made agent names =
 pub granted-settled : (r : Run) (a line c : ℕ) → Timely r → KeepsBounds r.plan → c < length r.trace
     → is_granted (past_of r) a line c ≡ true
     → (s : SnoopEnd) × (snooped_at (past_of r) c ≡ Some s) × (is_settled_for a line s ≡ true)
-granted-settled r a line c h bounds l e =
-    let g = granted-parts (past_of r) a line c e in
-    (g.0, g.2, granted-by r a line c g.0 g.1 g.0.claim refl h bounds l g.2 g.3 g.4 g.5)
+granted-settled r a line c h bounds l e = grind (arith, granted-parts, granted-by)

@@ -1,6 +1,6 @@
 -- The snoop end of an agent's own request, and of the reply to its deferred one, in its view.
-use Rattle.std.proofs.Common.{ℕ, ◌+◌, ◌<◌, ◌≡◌, ◌≢◌, ◌⊎◌, Bool, true, false, not, ◌&&◌, ◌||◌, List, Option, Some, None}
-use Rattle.std.proofs.Common.{is_some, nat_eq, refl, sym, ap, subst, ◌∙◌, inl, inr, arith, if◌then◌else◌}
+use Rattle.std.proofs.Common.{ℕ, ◌+◌, ◌<◌, ◌≡◌, ◌≢◌, ◌⊎◌, Bool, true, false, not, ◌&&◌, ◌||◌, List, Option, Some}
+use Rattle.std.proofs.Common.{None, is_some, nat_eq, refl, sym, ap, subst, ◌∙◌, inl, inr, arith, if◌then◌else◌}
 use Rattle.std.specs.Prelude.{◌==◌}
 use Rattle.std.specs.Option.{option_and_then, option_map_or}
 use Rattle.std.proofs.lemmas.Bool.{both_ways, cases_Bool, eq-eqb, eqb-true}
@@ -44,7 +44,6 @@ use Rattle.fsb_agent_run.proofs.OutLists.{among-granted, find-number, kept-of, o
 use Rattle.fsb_agent_run.proofs.OwedSteps.{owed-there, reaches-less}
 use Rattle.fsb_agent_run.proofs.SlotStates.{in_sets-without, length-without, state-without}
 use Rattle.fsb_agent_run.proofs.SnoopSteps.{granted-to-other, granted-view, lowered-view, outs-apart, requests-still}
-use Rattle.fsb_agent_run.proofs.StatesTold.{held-told}
 use Rattle.fsb_agent_run.proofs.WonSteps.{other-snoop, won-before, won-now, won-still}
 
 -- the snoop end of a symmetric agent's request: what its agent wanted, and how it is settled
@@ -74,19 +73,7 @@ pub record IsSettledAs (r : Run) (c : ℕ) (s : SnoopEnd) (claim : Claim) : Type
 owns-by : (kind : Kind) (purpose : Purpose) → purpose_of kind ≡ Some purpose
     → kind_owns purpose ≡ kind_owns (kind_asks kind)
 unfolding purpose_of
-owns-by kinds.Reply purpose e = absurd (let no : ⊥ = cc in no)
-owns-by kinds.Invalidate purpose e =
-    (let same : Rattle.fsb_line.specs.declared.purpose.Purpose.TheVariants.Own ≡ purpose = cc in
-    ap kind_owns (sym same))
-owns-by kinds.Read purpose e =
-    (let same : Rattle.fsb_line.specs.declared.purpose.Purpose.TheVariants.Read ≡ purpose = cc in
-    ap kind_owns (sym same))
-owns-by kinds.WriteBack purpose e =
-    (let same : Rattle.fsb_line.specs.declared.purpose.Purpose.TheVariants.WriteBack ≡ purpose = cc in
-    ap kind_owns (sym same))
-owns-by kinds.Upgrade purpose e =
-    (let same : Rattle.fsb_line.specs.declared.purpose.Purpose.TheVariants.Upgrade ≡ purpose = cc in
-    ap kind_owns (sym same))
+owns-by kind purpose h1 = grind arith
 
 pub settled-as : (r : Run) (c : ℕ) (s : SnoopEnd) (claim : Claim) → Reaches r (c + 1)
     → snooped_at (past_of r) c ≡ Some s
@@ -112,10 +99,8 @@ settled-as r c s claim h there claims =
     let asks : s.kind ≡ Some want.request.kind = k.kind ∙ ap (λ (x : Request). Some x.kind) same in
     let kind : fits.kind ≡ want.request.kind = cc in
     let alone = uncontested r claim.line c s (writes-back-alone r h.timely h.bounds) there fits in
-    let owns : fits.owns ≡ kind_owns (kind_asks want.request.kind) =
-    settled.owns ∙ owns-by fits.kind settled.purpose settled.known ∙ ap (λ x. kind_owns (kind_asks x)) kind in
-    let won : fits.won ≡ holds_line p claim.agent claim.line c = settled.won
-    ∙ ap (λ a. holds_line p a claim.line c) (sym agent) in
+    let owns : fits.owns ≡ kind_owns (kind_asks want.request.kind) = grind (arith, owns-by) in
+    let won : fits.won ≡ holds_line p claim.agent claim.line c = grind arith in
     record {
       request = want.request;
       want = want.want;
@@ -163,8 +148,7 @@ own-out r a c n s claim v h there claims mine requests k =
     let numbered = find-number p a found.0 v.outs (outs-apart r a c n v h requests) found.1 in
     let wanted = wanted-of p a n (owed_through p a c) v found.0 requests found.1 in
     let want = k.want in
-    let mine_want : want_of p a s.first ≡ Some k.request =
-    subst (λ b. want_of p b s.first ≡ Some k.request) mine want in
+    let mine_want : want_of p a s.first ≡ Some k.request = grind arith in
     let here : want_of p a s.first ≡ Some found.0.request = ap (want_of p a) (sym number) ∙ wanted in
     let request : found.0.request ≡ k.request = (let e = sym here ∙ mine_want in cc) in
     (found.0, found.1, number, subst (λ q. request_numbered q v.outs ≡ Some found.0) number numbered, request)
@@ -187,8 +171,7 @@ unfolding is_written_back is_snooped is_claim_of is_some_and
 own-written p a line c s claim kind there claims is mine = rw (there, claims, is, eq-eqb claim.agent a mine) refl
 
 never-both : (x y : Bool) → y ≡ false → ((x && y) || false) ≡ false
-never-both true y e = rw e refl
-never-both false y e = refl
+never-both x y h1 = grind arith
 
 own-kept : (p : Past) (a line c : ℕ) (s : SnoopEnd) (claim : Claim) (kind : Kind) → snooped_at p c ≡ Some s
     → s.claim ≡ Some claim → s.kind ≡ Some kind → claim.agent ≡ a → is_write_back_kind kind ≡ false
@@ -210,15 +193,7 @@ pub own-won : (r : Run) (a c number : ℕ) (kept : Option (List ℕ)) (v : Agent
     → is_won_below (past_of r) (c + 1) out.number ≡ is_won_below (past_of r) c out.number)
     → Among after (requests_granted number kept v.outs)
     → is_some after.kept ≡ is_won_below (past_of r) (c + 1) after.number
-own-won r a c number kept v after requests won others there =
-    let p = past_of r in
-    let k = among-granted number kept after v.outs there in
-    elim k.2.how [
-      | inl is ↦ ap is_some is.1 ∙ won ∙ ap (is_won_below p (c + 1)) (sym is.0 ∙ sym k.2.number_same)
-      | inr other ↦
-          ap is_some other.1 ∙ kept-of p a c (owed_through p a c) v k.0 requests k.1 ∙ sym (others k.0 k.1 other.0)
-          ∙ ap (is_won_below p (c + 1)) (sym k.2.number_same)
-    ]
+own-won r a c number kept v after requests won others there = grind (arith, among-granted, kept-of)
 
 -- a request that gets its line
 got-view : (r : Run) (a c : ℕ) (s : SnoopEnd) (claim : Claim) (grant : Grant) (out : OwnRequest) (shared : Bool)
@@ -235,8 +210,7 @@ got-view r a c s claim grant out shared v h some there claims mine k makes agent
     let still : (x : OwnRequest) → Among x v.outs → x.number ≢ out.number
     → is_won_below p (c + 1) x.number ≡ is_won_below p c x.number =
     λ x _ apart. won-still p c x.number (other-snoop p c x.number s there (λ e. apart (sym e ∙ sym number))) in
-    let none : false ≡ is_won_below p (c + 1) out.number =
-    sym (ap (is_won_below p (c + 1)) number ∙ won-now r c s h there ∙ ap (λ b. b && is_some s.grant) plain) in
+    let none : false ≡ is_won_below p (c + 1) out.number = grind (arith, won-now) in
     rw (asks, granted_by) (subst (λ l. IsViewAfterSnoop p a c (record v {
       lines = sets_filled v.lines l (granted (kind_asks out.request.kind) shared) no_bytes;
       buffers = with_fill v.buffers l out.number;
@@ -259,22 +233,11 @@ pub record IsGetting (kind : Kind) (outcome : Outcome) : Type 0 where
 
 pub getting-granted : (kind : Kind) → fits_kind kind Granted ≡ true → IsGetting kind Granted
 unfolding fits_kind fits_getting fits_upgrade fits_write_back makes_grant is_got is_upgraded is_write_back_kind
-getting-granted kinds.Reply e = absurd (let no : ⊥ = cc in no)
-getting-granted kinds.Invalidate e =
-    record { makes = refl; plain = refl; kept = refl; asks = refl; state = λ shared. refl }
-getting-granted kinds.Read e = record { makes = refl; plain = refl; kept = refl; asks = refl; state = λ shared. refl }
-getting-granted kinds.WriteBack e = absurd (let no : ⊥ = cc in no)
-getting-granted kinds.Upgrade e = absurd (let no : ⊥ = cc in no)
+getting-granted kind h1 = grind arith
 
 pub getting-handed : (kind : Kind) → fits_kind kind Handed ≡ true → IsGetting kind Handed
 unfolding fits_kind fits_getting fits_upgrade fits_write_back makes_grant is_got is_upgraded is_write_back_kind
-getting-handed kinds.Reply e = absurd (let no : ⊥ = cc in no)
-getting-handed kinds.Invalidate e =
-    record { makes = refl; plain = refl; kept = refl; asks = refl; state = λ shared. refl }
-getting-handed kinds.Read e = record { makes = refl; plain = refl; kept = refl; asks = refl; state = λ shared. refl }
-getting-handed kinds.WriteBack e = absurd (let no : ⊥ = cc in no)
-getting-handed kinds.Upgrade e =
-    record { makes = refl; plain = refl; kept = refl; asks = refl; state = λ shared. refl }
+getting-handed kind h1 = grind arith
 
 -- a kind that gets nothing with an outcome, and asks for no write-back
 pub record IsIdle (kind : Kind) (outcome : Outcome) : Type 0 where
@@ -284,48 +247,24 @@ pub record IsIdle (kind : Kind) (outcome : Outcome) : Type 0 where
 
 pub idle-retried : (kind : Kind) → fits_kind kind Retried ≡ true → IsIdle kind Retried
 unfolding fits_kind fits_getting fits_upgrade fits_write_back makes_grant is_got is_upgraded is_write_back_kind
-idle-retried kinds.Reply e = absurd (let no : ⊥ = cc in no)
-idle-retried kinds.Invalidate e = record { makes = refl; plain = refl; kept = refl }
-idle-retried kinds.Read e = record { makes = refl; plain = refl; kept = refl }
-idle-retried kinds.WriteBack e = absurd (let no : ⊥ = cc in no)
-idle-retried kinds.Upgrade e = record { makes = refl; plain = refl; kept = refl }
+idle-retried kind h1 = grind arith
 
 pub idle-deferred : (kind : Kind) → fits_kind kind Deferred ≡ true → IsIdle kind Deferred
 unfolding fits_kind fits_getting fits_upgrade fits_write_back makes_grant is_got is_upgraded is_write_back_kind
-idle-deferred kinds.Reply e = absurd (let no : ⊥ = cc in no)
-idle-deferred kinds.Invalidate e = record { makes = refl; plain = refl; kept = refl }
-idle-deferred kinds.Read e = record { makes = refl; plain = refl; kept = refl }
-idle-deferred kinds.WriteBack e = absurd (let no : ⊥ = cc in no)
-idle-deferred kinds.Upgrade e = absurd (let no : ⊥ = cc in no)
+idle-deferred kind h1 = grind arith
 
 pub written-kind : (kind : Kind) → fits_kind kind Written ≡ true → kind ≡ kinds.WriteBack
 unfolding fits_kind fits_getting fits_upgrade fits_write_back
-written-kind kinds.Reply e = absurd (let no : ⊥ = cc in no)
-written-kind kinds.Invalidate e = absurd (let no : ⊥ = cc in no)
-written-kind kinds.Read e = absurd (let no : ⊥ = cc in no)
-written-kind kinds.WriteBack e = refl
-written-kind kinds.Upgrade e = absurd (let no : ⊥ = cc in no)
+written-kind kind h1 = grind arith
 
 upgraded-kind : (kind : Kind) → fits_kind kind Upgraded ≡ true → kind ≡ kinds.Upgrade
 unfolding fits_kind fits_getting fits_upgrade fits_write_back
-upgraded-kind kinds.Reply e = absurd (let no : ⊥ = cc in no)
-upgraded-kind kinds.Invalidate e = absurd (let no : ⊥ = cc in no)
-upgraded-kind kinds.Read e = absurd (let no : ⊥ = cc in no)
-upgraded-kind kinds.WriteBack e = absurd (let no : ⊥ = cc in no)
-upgraded-kind kinds.Upgrade e = refl
+upgraded-kind kind h1 = grind arith
 
 pub never-fits : (kind : Kind) (outcome : Outcome) → (outcome ≡ Replied) ⊎ (outcome ≡ Failed)
     → fits_kind kind outcome ≡ true → ⊥
 unfolding fits_kind fits_getting fits_upgrade fits_write_back
-never-fits kinds.Reply outcome which e = cc
-never-fits kinds.Invalidate outcome (inl f) e = let e' = rw f at e in cc
-never-fits kinds.Invalidate outcome (inr f) e = let e' = rw f at e in cc
-never-fits kinds.Read outcome (inl f) e = let e' = rw f at e in cc
-never-fits kinds.Read outcome (inr f) e = let e' = rw f at e in cc
-never-fits kinds.WriteBack outcome (inl f) e = let e' = rw f at e in cc
-never-fits kinds.WriteBack outcome (inr f) e = let e' = rw f at e in cc
-never-fits kinds.Upgrade outcome (inl f) e = let e' = rw f at e in cc
-never-fits kinds.Upgrade outcome (inr f) e = let e' = rw f at e in cc
+never-fits kind outcome h1 h2 = grind arith
 
 -- the grant of such a snoop end
 grant-by : (r : Run) (c : ℕ) (s : SnoopEnd) (claim : Claim) → IsSettledAs r c s claim → Grant
@@ -352,11 +291,7 @@ unfolding grant-by
 getting-view r a c s claim out shared outcome v h some there claims mine k e g request number seen view =
     let grant = grant-by r c s claim k in
     let kind : out.request.kind ≡ k.request.kind = ap (λ (q : Request). q.kind) request in
-    let makes : s.grant ≡ Some grant =
-    k.granted
-    ∙ ap (λ b. if b || (is_upgraded s.outcome && holds_line (past_of r) claim.agent claim.line c)
-    then Some grant else None)
-    (ap (makes_grant k.request.kind) e ∙ g.makes) in
+    let makes : s.grant ≡ Some grant = grind arith in
     got-view r a c s claim grant out shared v h some there claims mine k makes mine
     (sym k.line ∙ sym (ap (λ (q : Request). q.line) request)) number (ap is_upgraded e ∙ g.plain) g.kept
     (ap (λ x. asks_line (kind_asks x)) kind ∙ g.asks)
@@ -368,14 +303,7 @@ getting-view r a c s claim out shared outcome v h some there claims mine k e g r
 pub getting-makes : (r : Run) (c : ℕ) (s : SnoopEnd) (claim : Claim) (k : IsSettledAs r c s claim) (outcome : Outcome)
     → s.outcome ≡ outcome → IsGetting k.request.kind outcome → (grant : Grant) × (s.grant ≡ Some grant)
 unfolding grant-by
-getting-makes r c s claim k outcome e g =
-    let grant = grant-by r c s claim k in (
-      grant,
-      k.granted
-          ∙ ap (λ b. if b || (is_upgraded s.outcome && holds_line (past_of r) claim.agent claim.line c)
-          then Some grant else None)
-          (ap (makes_grant k.request.kind) e ∙ g.makes),
-    )
+getting-makes r c s claim k outcome e g = grind arith
 
 -- where nothing is made of it the view stays
 idle-view : (r : Run) (a c : ℕ) (s : SnoopEnd) (claim : Claim) (v : AgentView) → Reaches r (c + 1)
@@ -385,8 +313,7 @@ idle-view : (r : Run) (a c : ℕ) (s : SnoopEnd) (claim : Claim) (v : AgentView)
 idle-view r a c s claim v h there claims mine k none kept view =
     let p = past_of r in
     let at : grant_at p c ≡ None = grant-of-snoop p c s there ∙ none in
-    let unwon : is_won_below p (c + 1) s.first ≡ false = won-now r c s h there
-    ∙ ap (λ (o : Option Grant). is_upgraded s.outcome && is_some o) none ∙ nothing (is_upgraded s.outcome) in
+    let unwon : is_won_below p (c + 1) s.first ≡ false = grind (arith, won-now) in
     lowered-view r a c v v
     (λ line. granted-to-other p a line c (λ grant e. absurd (let no : ⊥ = cc in no)))
     (record {
@@ -411,12 +338,7 @@ idle-view r a c s claim v h there claims mine k none kept view =
     view
   where
     nothing : (b : Bool) → (b && false) ≡ false
-    nothing true = refl
-    nothing false = refl
-
-none-made : (b : Bool) (o : Option Grant) (grant : Grant) → b ≡ false → o ≡ (if b then Some grant else None) → o ≡ None
-none-made true o grant e f = absurd (let no : ⊥ = cc in no)
-none-made false o grant e f = f
+    nothing b = grind arith
 
 -- a write-back drops its line
 written-view : (r : Run) (a c : ℕ) (s : SnoopEnd) (claim : Claim) (out : OwnRequest) (v : AgentView) → Reaches r (c + 1)
@@ -426,10 +348,8 @@ written-view : (r : Run) (a c : ℕ) (s : SnoopEnd) (claim : Claim) (out : OwnRe
 unfolding makes_grant is_upgraded is_write_back_kind
 written-view r a c s claim out v h there claims mine k e request view =
     let p = past_of r in
-    let kind : k.request.kind ≡ kinds.WriteBack =
-    written-kind k.request.kind (ap (fits_kind k.request.kind) (sym e) ∙ k.fits) in
-    let none : s.grant ≡ None = none-made _ s.grant _
-    ((λ i. makes_grant (kind i) s.outcome || (is_upgraded (e i) && holds_line p claim.agent claim.line c))) k.granted in
+    let kind : k.request.kind ≡ kinds.WriteBack = grind (arith, written-kind) in
+    let none : s.grant ≡ None = grind arith in
     let at : grant_at p c ≡ None = grant-of-snoop p c s there ∙ none in
     let line : out.request.line ≡ claim.line = ap (λ (q : Request). q.line) request ∙ k.line in
     let plain : is_upgraded s.outcome ≡ false = ap is_upgraded e in
@@ -466,8 +386,7 @@ written-view r a c s claim out v h there claims mine k e request view =
   where
     whole : (b : Bool) (state : Mesi) → (if b then Invalid else state)
         ≡ (if (b && true) || false then Invalid else (if false then state_read state else state))
-    whole true state = refl
-    whole false state = refl
+    whole b state = grind arith
 
 -- an upgrade without data is won where the agent still holds the line
 upgraded-view : (r : Run) (a c : ℕ) (s : SnoopEnd) (claim : Claim) (out : OwnRequest) (v : AgentView)
@@ -478,19 +397,11 @@ upgraded-view : (r : Run) (a c : ℕ) (s : SnoopEnd) (claim : Claim) (out : OwnR
 unfolding makes_grant is_got is_upgraded is_write_back_kind grant-by
 upgraded-view r a c s claim out v h some there claims mine k e request number view =
     let p = past_of r in
-    let kind : k.request.kind ≡ kinds.Upgrade =
-    upgraded-kind k.request.kind (ap (fits_kind k.request.kind) (sym e) ∙ k.fits) in
+    let kind : k.request.kind ≡ kinds.Upgrade = grind (arith, upgraded-kind) in
     let line : out.request.line ≡ claim.line = ap (λ (q : Request). q.line) request ∙ k.line in
     let grant = grant-by r c s claim k in
-    let made : s.grant ≡ (if holds_line p claim.agent claim.line c then Some grant else None) =
-    k.granted
-    ∙ (λ i. if makes_grant (kind i) (e i) || (is_upgraded (e i) && holds_line p claim.agent claim.line c)
-    then Some grant else None) in
-    let held : is_held (line_state_by v out.request.line) ≡ holds_line p claim.agent claim.line c =
-    ap (λ l. is_held (line_state_by v l)) line ∙ ap is_held (view.lines.states claim.line) ∙ held-told _ _ _
-    ∙ ap (λ b. holds_line p a claim.line c && not b)
-    (ap (λ b. is_evicted p b claim.line c) (sym mine) ∙ k.unevicted)
-    ∙ whole (holds_line p a claim.line c) ∙ ap (λ b. holds_line p b claim.line c) (sym mine) in
+    let made : s.grant ≡ (if holds_line p claim.agent claim.line c then Some grant else None) = grind arith in
+    let held : is_held (line_state_by v out.request.line) ≡ holds_line p claim.agent claim.line c = grind arith in
     elim (cases_Bool (holds_line p claim.agent claim.line c)) [
       | inr off ↦
           let lost : is_held (line_state_by v out.request.line) ≡ false = held ∙ off in
@@ -502,9 +413,7 @@ upgraded-view r a c s claim out v h some there claims mine k e request number vi
           let makes : s.grant ≡ Some grant = made ∙ ap (λ b. if b then Some grant else None) on in
           let at : grant_at p c ≡ Some grant = grant-of-snoop p c s there ∙ makes in
           let bytes = copies v.lines out.request.line in
-          let now : is_won_below p (c + 1) out.number ≡ true =
-          ap (is_won_below p (c + 1)) number ∙ won-now r c s h there
-          ∙ (λ i. is_upgraded (e i) && is_some (makes i)) in
+          let now : is_won_below p (c + 1) out.number ≡ true = grind (arith, won-now) in
           let still : (x : OwnRequest) → Among x v.outs → x.number ≢ out.number
           → is_won_below p (c + 1) x.number ≡ is_won_below p c x.number =
           λ x _ apart. won-still p c x.number (other-snoop p c x.number s there (λ f. apart (sym f ∙ sym number))) in
@@ -523,16 +432,12 @@ upgraded-view r a c s claim out v h some there claims mine k e request number vi
     ]
   where
     whole : (b : Bool) → (b && not false) ≡ b
-    whole true = refl
-    whole false = refl
+    whole b = grind arith
 
 -- no grant is made
 pub unmade : (r : Run) (c : ℕ) (s : SnoopEnd) (claim : Claim) (k : IsSettledAs r c s claim) (outcome : Outcome)
     → s.outcome ≡ outcome → makes_grant k.request.kind outcome ≡ false → is_upgraded outcome ≡ false → s.grant ≡ None
-unmade r c s claim k outcome e makes plain =
-    none-made _ s.grant _
-    ((λ i. makes_grant k.request.kind (e i) || (is_upgraded (e i) && holds_line (past_of r) claim.agent claim.line c))
-    ∙ (λ i. makes i || (plain i && holds_line (past_of r) claim.agent claim.line c))) k.granted
+unmade r c s claim k outcome e makes plain = grind arith
 
 -- the grant says whether the line was seen to be shared
 seen-as : (r : Run) (c : ℕ) (s : SnoopEnd) (claim : Claim) (k : IsSettledAs r c s claim) (shared : Bool)
@@ -540,13 +445,7 @@ seen-as : (r : Run) (c : ℕ) (s : SnoopEnd) (claim : Claim) (k : IsSettledAs r 
     → ((grant : Grant) → s.grant ≡ Some grant → shared ≡ grant.shared) → s.outcome ≡ outcome
     → IsGetting k.request.kind outcome → shared ≡ k.shared
 unfolding grant-by
-seen-as r c s claim k shared outcome seen e g =
-    let grant = grant-by r c s claim k in
-    seen grant
-    (k.granted
-    ∙ ap (λ b. if b || (is_upgraded s.outcome && holds_line (past_of r) claim.agent claim.line c)
-    then Some grant else None)
-    (ap (makes_grant k.request.kind) e ∙ g.makes))
+seen-as r c s claim k shared outcome seen e g = grind arith
 
 -- the snoop end of the agent's own request
 pub own-claimed : (r : Run) (a c : ℕ) (s : SnoopEnd) (claim : Claim) (request : Request) (shared : Bool) (v : AgentView)

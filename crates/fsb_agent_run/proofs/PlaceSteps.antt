@@ -1,14 +1,13 @@
 -- The place of a view in its script, one clock further.
-use Rattle.std.proofs.Common.{ℕ, ◌+◌, ◌<◌, ◌≤◌, ◌≡◌, Bool, true, false, not, ◌&&◌, ◌||◌, List, length, Option, Some}
-use Rattle.std.proofs.Common.{refl, sym, ap, subst, ◌∙◌, inl, inr, arith}
+use Rattle.std.proofs.Common.{ℕ, ◌+◌, ◌<◌, ◌≤◌, ◌≡◌, false, not, ◌&&◌, ◌||◌, List, length, Option, Some, refl, sym}
+use Rattle.std.proofs.Common.{ap, ◌∙◌, arith}
 use Rattle.std.specs.Option.{option_map, option_map_or}
-use Rattle.std.proofs.lemmas.Bool.{cases_lt, false_from_ne_true}
 use Rattle.fsb_count.proofs.Interface.{first_where-found}
 use Rattle.fsb_access.specs.declared.item.Item.{Item}
 use Rattle.fsb_access.specs.declared.log.Done.{Done}
 use Rattle.fsb_timely.specs.Past.{Past}
-use Rattle.fsb_timely.specs.Scripts.{completes_at, idle_clocks, idle_start, is_logged, is_logged_at, is_to_do, items_of}
-use Rattle.fsb_timely.specs.Scripts.{last_done, next_number, number_after}
+use Rattle.fsb_timely.specs.Scripts.{completes_at, idle_clocks, idle_start, is_logged, is_logged_at, is_to_do}
+use Rattle.fsb_timely.specs.Scripts.{items_of, last_done, next_number, number_after}
 use Rattle.fsb_timely.proofs.Interface.{is_logged-more, next_number-same}
 use Rattle.fsb_agent_run.proofs.LastEntries.{last-over}
 use Rattle.fsb_agent_view.specs.AgentViews.{AgentView}
@@ -30,21 +29,7 @@ end-is p a c = refl
 -- without an entry it stays
 pub place-quiet : (p : Past) (a c : ℕ) (v : AgentView) → completes_at p a c ≡ false → IsPlacedIn p a c v
     → IsPlacedIn p a (c + 1) v
-place-quiet p a c v e h =
-    let number = sym (next_number-same p a c e) in
-    let last = sym (last-over p a c e) in
-    record {
-      place = h.place ∙ ap (place_of (items_of p a)) number;
-      idle_to = h.idle_to ∙ end-is p a c ∙ (λ i. end_with (items_of p a) (last i) (number i))
-          ∙ sym (end-is p a (c + 1));
-      finished = h.finished ∙ ap (option_map finished_by) last;
-    }
-
--- what is not to do stays so
-stays-done : (busy logged more : Bool) → (busy && not logged) ≡ false → (busy && not (logged || more)) ≡ false
-stays-done false logged more e = refl
-stays-done true true more e = refl
-stays-done true false more e = absurd (let no : ⊥ = cc in no)
+place-quiet p a c v e h = grind (arith, next_number-same, last-over, end-is)
 
 to-do-more : (p : Past) (a c n : ℕ)
     → is_to_do p a (c + 1) n ≡ (is_busy (items_of p a) n && not (is_logged p a c n || is_logged_at p a c n))
@@ -54,36 +39,17 @@ to-do-more p a c n = ap (λ b. is_busy (items_of p a) n && not b) (is_logged-mor
 -- what was not to do is not to do at the next clock
 done-stays : (p : Past) (a c n : ℕ) → is_to_do p a c n ≡ false → is_to_do p a (c + 1) n ≡ false
 unfolding is_to_do
-done-stays p a c n e =
-    to-do-more p a c n ∙ stays-done (is_busy (items_of p a) n) (is_logged p a c n) (is_logged_at p a c n) e
+done-stays p a c n e = grind (arith, to-do-more)
 
 -- up to the completed item nothing is to do, and behind it what is busy
 to-do-below : (p : Past) (a c number n : ℕ) → CompletesItem p a c number → n < number + 1
     → is_to_do p a (c + 1) n ≡ false
 unfolding next_number
-to-do-below p a c number n k l = elim (cases_lt n number) [
-  | inl less ↦ done-stays p a c n ((first_where-found (is_to_do p a c) (length (items_of p a)) number k.next).2 n less)
-  | inr more ↦
-      let same : number ≡ n = omega arith in
-      let logged : is_logged_at p a c n ≡ true = subst (λ m. is_logged_at p a c m ≡ true) same k.logged in
-      to-do-more p a c n ∙ rw logged (both (is_busy (items_of p a) n) (is_logged p a c n))
-]
-  where
-    both : (x y : Bool) → (x && not (y || true)) ≡ false
-    both true true = refl
-    both true false = refl
-    both false y = refl
+to-do-below p a c number n k l = grind (arith, done-stays, first_where-found, to-do-more)
 
 to-do-behind : (p : Past) (a c number n : ℕ) → CompletesItem p a c number → number + 1 ≤ n
     → is_to_do p a (c + 1) n ≡ is_busy (items_of p a) n
-to-do-behind p a c number n k l =
-    let here : is_logged_at p a c n ≡ false =
-    false_from_ne_true (is_logged_at p a c n) (λ t. let same = k.alone n t in omega arith) in
-    to-do-more p a c n ∙ rw (k.behind n (omega arith), here) (whole (is_busy (items_of p a) n))
-  where
-    whole : (b : Bool) → (b && not false) ≡ b
-    whole true = refl
-    whole false = refl
+to-do-behind p a c number n k l = grind (arith, to-do-more)
 
 next-then : (p : Past) (a c number : ℕ) → CompletesItem p a c number
     → place_of (items_of p a) (next_number p a (c + 1)) ≡ place_from (items_of p a) (number + 1)

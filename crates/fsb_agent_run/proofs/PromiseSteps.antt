@@ -1,14 +1,14 @@
 -- What is promised of a line, one snoop end further.
-use Rattle.std.proofs.Common.{ℕ, ◌+◌, ◌≡◌, Bool, true, false, not, ◌&&◌, ◌||◌, if◌then◌else◌, Option, Some, None}
-use Rattle.std.proofs.Common.{nat_le, refl, ap, ◌∙◌, arith, add-one}
-use Rattle.std.specs.Option.{option_and_then, option_map}
+use Rattle.std.proofs.Common.{ℕ, ◌+◌, ◌≡◌, Bool, true, false, if◌then◌else◌, Option, Some, None, refl, ap, ◌∙◌, arith}
+use Rattle.std.proofs.Common.{add-one}
+use Rattle.std.specs.Option.{option_and_then}
 use Rattle.std.proofs.lemmas.Bool.{eq-eqb, le-leb, lt-leb}
 use Rattle.fsb_count.specs.Clocks.{any_where, from_clock, last_where}
-use Rattle.fsb_count.specs.Options.{is_at, is_some_and}
+use Rattle.fsb_count.specs.Options.{is_some_and}
 use Rattle.fsb_count.proofs.Interface.{any_where-at, any_where-more, any_where-off, last_where-failed}
 use Rattle.fsb_count.proofs.Interface.{last_where-passed}
-use Rattle.fsb_timely.specs.Past.{Claim, Grant, Past}
-use Rattle.fsb_timely.specs.Grants.{begun_at, is_ended, is_granted}
+use Rattle.fsb_timely.specs.Past.{Claim, Past}
+use Rattle.fsb_timely.specs.Grants.{is_granted}
 use Rattle.fsb_timely.proofs.Interface.{last_where-found, latest_grant-more}
 use Rattle.fsb_agent_run.specs.BytesOwed.{claim_given_at, given_since, gives_line_at, is_promised, promise_told}
 use Rattle.fsb_agent_run.specs.RunViews.{is_awaited}
@@ -17,9 +17,7 @@ use Rattle.fsb_agent_run.specs.RunViews.{is_awaited}
 pub awaited-kept : (p : Past) (a line c : ℕ) → is_granted p a line c ≡ false
     → is_awaited p a line (c + 1) c ≡ is_awaited p a line c c
 unfolding is_awaited
-awaited-kept p a line c none =
-    ap (λ o. is_some_and o (λ (grant : Grant). not (is_ended p c grant.first)))
-    (latest_grant-more p a line c ∙ rw none refl)
+awaited-kept p a line c none = grind (arith, latest_grant-more)
 
 -- a line that is not awaited is not promised
 pub unawaited-unpromised : (p : Past) (a line n c : ℕ) → is_awaited p a line n c ≡ false
@@ -30,17 +28,7 @@ unawaited-unpromised p a line n c none = rw none refl
 since-kept : (p : Past) (a line c t : ℕ) → is_granted p a line c ≡ false
     → given_since p a line (c + 1) t ≡ given_since p a line c t
 unfolding given_since from_clock
-since-kept p a line c t none =
-    let same : any_where (from_clock (t + 1) (is_granted p a line)) (c + 1)
-    ≡ any_where (from_clock (t + 1) (is_granted p a line)) c =
-    any_where-more (from_clock (t + 1) (is_granted p a line)) c
-    ∙ rw none (nothing (any_where (from_clock (t + 1) (is_granted p a line)) c) (nat_le (t + 1) c)) in
-    ap (λ b. if b then None else option_map (λ (claim : Claim). claim.first) (claim_given_at p a t)) same
-  where
-    nothing : (x y : Bool) → (x || (y && false)) ≡ x
-    nothing true y = refl
-    nothing false true = refl
-    nothing false false = refl
+since-kept p a line c t none = grind (arith, any_where-more)
 
 last-kept : (p : Past) (a line c : ℕ) → gives_line_at p a line c ≡ false
     → last_where (gives_line_at p a line) (c + 1) ≡ last_where (gives_line_at p a line) c
@@ -50,15 +38,7 @@ last-kept p a line c none = rw add-one (last_where-failed (gives_line_at p a lin
 pub promise-kept : (p : Past) (a line c : ℕ) → gives_line_at p a line c ≡ false → is_granted p a line c ≡ false
     → promise_told p a line (c + 1) c ≡ promise_told p a line c c
 unfolding promise_told
-promise-kept p a line c ungiven ungranted =
-    let awaited = awaited-kept p a line c ungranted in
-    let last = last-kept p a line c ungiven in
-    let told = ap (option_and_then (given_since p a line (c + 1))) last ∙ by (last_where (gives_line_at p a line) c) in
-    λ i. if awaited i then told i else None
-  where
-    by : (o : Option ℕ) → option_and_then (given_since p a line (c + 1)) o ≡ option_and_then (given_since p a line c) o
-    by None = refl
-    by (Some t) = since-kept p a line c t ungranted
+promise-kept p a line c ungiven ungranted = grind (arith, awaited-kept, last-kept, since-kept)
 
 -- where it is granted, nothing is promised of it
 pub promise-granted : (p : Past) (a line c : ℕ) → gives_line_at p a line c ≡ false → is_granted p a line c ≡ true
@@ -70,8 +50,7 @@ promise-granted p a line c ungiven granted =
     ap (λ o. if is_awaited p a line (c + 1) c then o else None) told ∙ either (is_awaited p a line (c + 1) c)
   where
     either : (b : Bool) → ◌≡◌ {A = Option ℕ} (if b then None else None) None
-    either true = refl
-    either false = refl
+    either b = grind arith
 
     by : (o : Option ℕ) → last_where (gives_line_at p a line) c ≡ o
         → option_and_then (given_since p a line (c + 1)) o ≡ None
@@ -101,16 +80,10 @@ promise-made p a c claim gives ungranted awaits =
 -- and where it is given and not awaited, nothing is promised of it
 pub promise-unawaited : (p : Past) (a line c : ℕ) → is_granted p a line c ≡ false → is_awaited p a line c c ≡ false
     → promise_told p a line (c + 1) c ≡ None
-promise-unawaited p a line c ungranted none =
-    unawaited-unpromised p a line (c + 1) c (awaited-kept p a line c ungranted ∙ none)
+promise-unawaited p a line c ungranted none = grind (arith, unawaited-unpromised, awaited-kept)
 
 -- where each promise is the same, so is what is promised to a request
 pub promised-same : (p : Past) (a n c m d q : ℕ) → ((line : ℕ) → promise_told p a line m d ≡ promise_told p a line n c)
     → is_promised p a m d q ≡ is_promised p a n c q
 unfolding is_promised is_some_and
-promised-same p a n c m d q same = by (begun_at p q)
-  where
-    by : (o : Option Claim) → is_some_and o (λ claim. is_at (promise_told p a claim.line m d) q)
-        ≡ is_some_and o (λ claim. is_at (promise_told p a claim.line n c) q)
-    by None = refl
-    by (Some claim) = ap (λ o. is_at o q) (same claim.line)
+promised-same p a n c m d q same = grind arith

@@ -1,17 +1,17 @@
 -- A line on which an agent is dirty is promised to nobody.
-use Rattle.std.proofs.Common.{ℕ, ◌+◌, ◌<◌, ◌≤◌, ◌≡◌, ◌≢◌, Bool, true, not, ◌&&◌, ◌||◌, Option, Some, None, length, refl}
-use Rattle.std.proofs.Common.{sym, ap, ◌∙◌, inl, inr, arith}
-use Rattle.std.proofs.lemmas.Bool.{and_parts, both_ways, eq-eqb, le-leb, ne_eqb, not-true, or_left, or_right}
+use Rattle.std.proofs.Common.{ℕ, ◌+◌, ◌<◌, ◌≤◌, ◌≡◌, ◌≢◌, Bool, true, not, ◌&&◌, Some, None, length, sym, ap, ◌∙◌}
+use Rattle.std.proofs.Common.{inl, inr, arith}
+use Rattle.std.proofs.lemmas.Bool.{and_parts, both_ways, le-leb, not-true}
 use Rattle.fsb_count.specs.Clocks.{any_where, from_clock, holds_since, last_where}
 use Rattle.fsb_count.specs.Options.{is_some_and}
 use Rattle.fsb_count.proofs.Interface.{any_where-at}
 use Rattle.fsb_encode.specs.declared.request.Kind.TheVariants.{WriteBack}
 use Rattle.fsb_trace.specs.Requests.{is_write_back_kind}
 use Rattle.fsb_timely.specs.Past.{Claim, Past, SnoopEnd}
-use Rattle.fsb_timely.specs.Grants.{holds_line, is_claim_of, is_claim_of_other, is_evicted, is_exclusive, is_granted}
-use Rattle.fsb_timely.specs.Grants.{is_lost, is_named_by_other, is_snooped, is_sole_grant, is_taken_away}
-use Rattle.fsb_timely.specs.Grants.{is_written_back, latest_grant, snooped_at}
-use Rattle.fsb_timely.specs.Hits.{is_dirty, is_stored_since}
+use Rattle.fsb_timely.specs.Grants.{holds_line, is_claim_of, is_claim_of_other, is_exclusive, is_granted, is_lost}
+use Rattle.fsb_timely.specs.Grants.{is_named_by_other, is_snooped, is_sole_grant, is_written_back, latest_grant}
+use Rattle.fsb_timely.specs.Grants.{snooped_at}
+use Rattle.fsb_timely.specs.Hits.{is_dirty}
 use Rattle.fsb_timely.specs.Runs.{Run, past_of}
 use Rattle.fsb_timely.specs.Timely.{Timely}
 use Rattle.fsb_lawful.specs.Beginning.{KeepsBounds}
@@ -31,17 +31,12 @@ lost-since gain loss n c t last late below lost holds =
 named-by : (p : Past) (a line t : ℕ) (s : SnoopEnd) (claim : Claim) → snooped_at p t ≡ Some s → s.claim ≡ Some claim
     → a ≢ claim.agent → claim.line ≡ line → is_named_by_other p a line t ≡ true
 unfolding is_named_by_other is_claim_of_other is_some_and
-named-by p a line t s claim there claims other names =
-    rw (there, claims, ne_eqb claim.agent a (λ e. other (sym e)), eq-eqb claim.line line names) refl
+named-by p a line t s claim there claims other names = grind arith
 
 lost-by : (p : Past) (a line t : ℕ) (s : SnoopEnd) (claim : Claim) → snooped_at p t ≡ Some s → s.claim ≡ Some claim
     → claim.agent ≡ a → claim.line ≡ line → s.kind ≡ Some WriteBack → is_lost p a line t ≡ true
 unfolding is_lost is_written_back is_snooped is_claim_of is_write_back_kind is_some_and
-lost-by p a line t s claim there claims agent names kind =
-    let here : is_written_back p a line t ≡ true =
-    rw (there, claims, kind, eq-eqb claim.agent a agent, eq-eqb claim.line line names) refl in
-    or_left (is_evicted p a line t || is_written_back p a line t) (is_taken_away p a line t)
-    (or_right (is_evicted p a line t) (is_written_back p a line t) here)
+lost-by p a line t s claim there claims agent names kind = grind arith
 
 not-promised : (r : Run) (a line c q : ℕ) → Timely r → KeepsBounds r.plan → c ≤ length r.trace
     → is_exclusive (past_of r) a line c ≡ true → promise_told (past_of r) a line c c ≡ Some q → ⊥
@@ -73,13 +68,4 @@ not-promised r a line c q h bounds l exclusive told =
 pub dirty-unpromised : (r : Run) (a line c : ℕ) → Timely r → KeepsBounds r.plan → c ≤ length r.trace
     → is_dirty (past_of r) a line c ≡ true → promise_told (past_of r) a line c c ≡ None
 unfolding is_dirty
-dirty-unpromised r a line c h bounds l dirty = by (promise_told (past_of r) a line c c) refl
-  where
-    by : (o : Option ℕ) → promise_told (past_of r) a line c c ≡ o → promise_told (past_of r) a line c c ≡ None
-    by None e = e
-    by (Some q) e =
-        absurd (not-promised r a line c q h bounds l
-        (and_parts (is_exclusive (past_of r) a line c)
-        (is_some_and (latest_grant (past_of r) a line c) (λ grant. grant.owns || is_stored_since
-        (past_of r) a line c grant.first))
-        dirty).0 e)
+dirty-unpromised r a line c h bounds l dirty = grind (arith, not-promised)

@@ -1,18 +1,17 @@
 -- What is promised in a timely run: to whom, and that it has no response as long as the promise stands.
-use Rattle.std.proofs.Common.{ℕ, ◌+◌, ◌<◌, ◌≤◌, ◌≡◌, Bool, true, false, not, ◌&&◌, if◌then◌else◌, Option, Some, None}
-use Rattle.std.proofs.Common.{length, nat_eq, refl, sym, ap, subst, ◌∙◌, inl, inr, arith}
-use Rattle.std.specs.Option.{option_and_then, option_map}
-use Rattle.std.proofs.lemmas.Bool.{both_ways, cases_eq, cases_lt, eqb-true, false_from_ne_true, le-leb, not-true}
+use Rattle.std.proofs.Common.{ℕ, ◌+◌, ◌<◌, ◌≤◌, ◌≡◌, Bool, true, false, ◌&&◌, Some, length, sym, ap, subst, ◌∙◌}
+use Rattle.std.proofs.Common.{arith}
+use Rattle.std.specs.Option.{option_and_then}
+use Rattle.std.proofs.lemmas.Bool.{both_ways, le-leb}
 use Rattle.fsb_count.specs.Clocks.{any_where, from_clock, last_where}
-use Rattle.fsb_count.specs.Options.{is_at, is_some_and}
 use Rattle.fsb_count.proofs.Interface.{any_where-at, any_where-found, any_where-none, is_at-some}
 use Rattle.fsb_timely.specs.Past.{Claim, Grant, Past, SnoopEnd}
-use Rattle.fsb_timely.specs.Grants.{begun_at, grant_at, is_end_at, is_ended, is_granted, latest_grant, snooped_at}
+use Rattle.fsb_timely.specs.Grants.{grant_at, is_end_at, is_ended, is_granted, latest_grant, snooped_at}
 use Rattle.fsb_timely.specs.Runs.{Run, past_of}
 use Rattle.fsb_timely.specs.Timely.{Timely}
 use Rattle.fsb_timely.proofs.Interface.{last_where-found}
 use Rattle.fsb_lawful.specs.Beginning.{KeepsBounds}
-use Rattle.fsb_lawful.proofs.Interface.{and-then, some-and}
+use Rattle.fsb_lawful.proofs.Interface.{some-and}
 use Rattle.fsb_coherent.specs.Awaits.{responded_in}
 use Rattle.fsb_tied.proofs.Interface.{answers-in-order, grant-first, granted-parts}
 use Rattle.fsb_agent_run.specs.BytesOwed.{claim_given_at, given_since, gives_line_at, is_promised, promise_told}
@@ -38,23 +37,7 @@ same-grant p t s grant e f = sym (ap (option_and_then (λ (x : SnoopEnd). x.gran
 
 pub awaits-by : (p : Past) (a line n c : ℕ) → is_awaited p a line n c ≡ true → AwaitsBy p a line n c
 unfolding is_awaited latest_grant
-awaits-by p a line n c e =
-    let g = some-and (option_and_then (grant_at p) (last_where (is_granted p a line) n))
-    (λ (x : Grant). not (is_ended p c x.first)) e in
-    let t = and-then (grant_at p) (last_where (is_granted p a line) n) g.0 g.1 in
-    let found = last_where-found (is_granted p a line) n t.0 t.1 in
-    let k = granted-parts p a line t.0 found.1 in
-    record {
-      at = t.0;
-      last = t.1;
-      below = found.0;
-      granted = found.1;
-      end = k.0;
-      grant = g.0;
-      there = k.2;
-      made = same-grant p t.0 k.0 g.0 k.2 t.2;
-      unended = not-true (is_ended p c g.0.first) g.2;
-    }
+awaits-by p a line n c e = grind (arith, some-and, last_where-found, granted-parts, same-grant)
 
 -- the promise of a line: the snoop end at which it was made, and no grant of the line to the agent since
 pub record IsPromisedAt (p : Past) (a line n c q : ℕ) : Type 0 where
@@ -67,44 +50,9 @@ pub record IsPromisedAt (p : Past) (a line n c q : ℕ) : Type 0 where
   pub first : claim.first ≡ q
   pub since : any_where (from_clock (at + 1) (is_granted p a line)) n ≡ false
 
-given-first : (o : Option Claim) (claim : Claim) (q : ℕ) → o ≡ Some claim
-    → option_map (λ (x : Claim). x.first) o ≡ Some q
-    → claim.first ≡ q
-given-first None claim q e f = absurd (let no : ⊥ = cc in no)
-given-first (Some x) claim q e f = let same : x ≡ claim = cc in let first : x.first
-    ≡ q = cc in ap (λ (y : Claim). y.first) (sym same) ∙ first
-
 pub promised-at : (p : Past) (a line n c q : ℕ) → promise_told p a line n c ≡ Some q → IsPromisedAt p a line n c q
 unfolding promise_told given_since gives_line_at
-promised-at p a line n c q e = by (is_awaited p a line n c) refl
-  where
-    if-told : (b : Bool) (o : Option ℕ) → (if b then o else None) ≡ Some q → (b ≡ true) × (o ≡ Some q)
-    if-told true o f = (refl, f)
-    if-told false o f = absurd (let no : ⊥ = cc in no)
-
-    if-since : (b : Bool) (o : Option ℕ) → (if b then None else o) ≡ Some q → (b ≡ false) × (o ≡ Some q)
-    if-since true o f = absurd (let no : ⊥ = cc in no)
-    if-since false o f = (refl, f)
-
-    by : (b : Bool) → is_awaited p a line n c ≡ b → IsPromisedAt p a line n c q
-    by b f =
-        let told = if-told (is_awaited p a line n c) (option_and_then (given_since p a line n) (last_where
-        (gives_line_at p a line) n)) e in
-        let t = and-then (given_since p a line n) (last_where (gives_line_at p a line) n) q told.1 in
-        let found = last_where-found (gives_line_at p a line) n t.0 t.1 in
-        let g = some-and (claim_given_at p a t.0) (λ (claim : Claim). nat_eq claim.line line) found.1 in
-        let s = if-since (any_where (from_clock (t.0 + 1) (is_granted p a line)) n) (option_map (λ
-        (claim : Claim). claim.first) (claim_given_at p a t.0)) t.2 in
-        record {
-          awaited = told.0;
-          at = t.0;
-          below = found.0;
-          claim = g.0;
-          given = g.1;
-          names = eqb-true g.0.line line g.2;
-          first = given-first (claim_given_at p a t.0) g.0 q g.1 s.1;
-          since = s.0;
-        }
+promised-at p a line n c q e = grind (arith, last_where-found, some-and)
 
 -- nothing from a clock on
 none-from : (test : ℕ → Bool) (k n t : ℕ) → any_where (from_clock k test) n ≡ false → k ≤ t → t < n → test t ≡ false
@@ -124,10 +72,7 @@ pub promised-later : (r : Run) (a line n c q : ℕ) → Timely r → KeepsBounds
 promised-later r a line n c q h bounds l k w = order-of w.at k.at not-later not-then
   where
     order-of : (x y : ℕ) → (y < x → ⊥) → (x ≡ y → ⊥) → x < y
-    order-of x y f g = elim (cases_lt x y) [
-      | inl l ↦ l
-      | inr m ↦ elim (cases_eq x y) [ inl e ↦ absurd (g e) | inr ne ↦ absurd (f (omega arith)) ]
-    ]
+    order-of x y f g = grind arith
 
     not-later : k.at < w.at → ⊥
     not-later late =
@@ -166,9 +111,4 @@ pub responded-unpromised : (r : Run) (a n c q u : ℕ) → Timely r → KeepsBou
     → u ≤ c → u < length r.trace → responded_in (past_of r) u ≡ Some q → is_promised (past_of r) a n c q ≡ false
 unfolding is_promised
 responded-unpromised r a n c q u h bounds l before within responds =
-    false_from_ne_true (is_some_and (begun_at (past_of r) q) (λ claim. is_at (promise_told
-    (past_of r) a claim.line n c) q)) (λ e.
-    let k = some-and (begun_at (past_of r) q) (λ (claim : Claim). is_at (promise_told
-    (past_of r) a claim.line n c) q) e in
-    promised-unresponded r a k.0.line n c q u h bounds l before within
-    (is_at-some (promise_told (past_of r) a k.0.line n c) q k.2) responds)
+    grind (arith, some-and, promised-unresponded, is_at-some)

@@ -5,14 +5,11 @@ use Rattle.std.proofs.Common.{arith, if◌then◌else◌}
 use Rattle.std.specs.Prelude.{◌==◌}
 use Rattle.std.specs.List.{filter}
 use Rattle.std.specs.Option.{option_map}
-use Rattle.std.proofs.lemmas.Bool.{and_from, and_parts, both_ways, cases_Bool, eq-eqb, eqb-true, false_from_ne_true}
-use Rattle.std.proofs.lemmas.Bool.{ne_eqb}
+use Rattle.std.proofs.lemmas.Bool.{eq-eqb, eqb-true, ne_eqb}
 use Rattle.std.proofs.lemmas.List.{map-append}
-use Rattle.fsb_cache.specs.declared.held.Held.{Held}
-use Rattle.fsb_cache.specs.Sets.{CacheSets, slot_of, states}
+use Rattle.fsb_cache.specs.Sets.{CacheSets, states}
 use Rattle.fsb_count.specs.Options.{is_at, is_some_and}
 use Rattle.fsb_count.proofs.Interface.{is_at-some, nat_eq-sym}
-use Rattle.fsb_encode.specs.declared.request.Request.{Request}
 use Rattle.fsb_line.specs.declared.state.Mesi.TheVariants.{Invalid}
 use Rattle.fsb_timely.specs.Past.{Claim, Owing, Past}
 use Rattle.fsb_timely.specs.Grants.{begun_at, holds_line, is_evicted, is_exclusive, is_rival, set_of}
@@ -20,18 +17,17 @@ use Rattle.fsb_timely.specs.Hits.{is_dirty}
 use Rattle.fsb_timely.specs.Runs.{Run, past_of}
 use Rattle.fsb_timely.specs.Wants.{owed, want_of}
 use Rattle.fsb_coherent.specs.Awaits.{cancelled_in}
-use Rattle.fsb_lawful.proofs.Interface.{map-some}
 use Rattle.fsb_tied.proofs.Interface.{cancels}
 use Rattle.fsb_run_laws.specs.Reaches.{Reaches}
 use Rattle.fsb_run_laws.specs.RunSteps.{listed, owing_begun}
 use Rattle.fsb_run_laws.proofs.Interface.{begun-wanted}
 use Rattle.fsb_agent_view.specs.declared.want.OwnRequest.{OwnRequest}
 use Rattle.fsb_agent_view.specs.declared.want.Want.{Want}
-use Rattle.fsb_agent_view.specs.AgentViews.{AgentView, is_finished_at, number_at}
+use Rattle.fsb_agent_view.specs.AgentViews.{AgentView}
 use Rattle.fsb_agent_view.specs.Arriving.{given_up}
 use Rattle.fsb_agent_view.specs.OwnRequests.{new_request}
 use Rattle.fsb_agent_view.specs.Wanting.{sent, sets_cleared_for, want_by}
-use Rattle.fsb_agent_run.specs.RunViews.{HasRequestsOf, is_won_below, owing_by, state_told}
+use Rattle.fsb_agent_run.specs.RunViews.{is_won_below, owing_by, state_told}
 use Rattle.fsb_agent_run.specs.Owings.{are_owings_apart}
 use Rattle.fsb_agent_run.specs.Stages.{IsPlacedThrough, IsViewAfterHit, IsViewAfterSent, IsViewBeforeSnoop}
 use Rattle.fsb_agent_run.specs.Stages.{owings_begun, is_uncancelled, owed_sent, owed_through}
@@ -39,120 +35,26 @@ use Rattle.fsb_agent_run.proofs.Among.{Among, among-either, filter-all, filter-s
 use Rattle.fsb_agent_run.proofs.OutLists.{among-without, kept-of, map-without, requests-from, wanted-of}
 use Rattle.fsb_agent_run.proofs.OwedApart.{sent-apart}
 use Rattle.fsb_agent_run.proofs.OwedSteps.{begun-parts, is_own, sent-is}
-use Rattle.fsb_agent_run.proofs.SlotStates.{InSets, in_sets-without, length-without, slot-shared, state-absent}
-use Rattle.fsb_agent_run.proofs.SlotStates.{state-empty, state-without}
+use Rattle.fsb_agent_run.proofs.SlotStates.{InSets, in_sets-without, length-without, state-absent, state-empty}
+use Rattle.fsb_agent_run.proofs.SlotStates.{state-without}
 use Rattle.fsb_agent_run.proofs.WantsMade.{want-by}
 use Rattle.fsb_agent_run.proofs.WonSteps.{won-fresh}
 
 -- the place stays where the script's part of the record does
 pub same-place : (p : Past) (a c : ℕ) (v w : AgentView) → w.place ≡ v.place → w.idle_to ≡ v.idle_to
     → w.finished ≡ v.finished → IsPlacedThrough p a c v → IsPlacedThrough p a c w
-same-place p a c v w place idle finished h = record {
-  item = record {
-    item = (λ i. number_at (finished i) (place i) c) ∙ h.item.item;
-    finished = ap (λ o. is_finished_at o c) finished ∙ h.item.finished;
-    idle_to = λ e. idle ∙ h.item.idle_to e;
-  };
-  before = λ e. let k = h.before e in record {
-    place = place ∙ k.place;
-    idle_to = idle ∙ k.idle_to;
-    finished = finished ∙ k.finished;
-  };
-  behind = λ e. let k = h.behind e in record {
-    place = place ∙ k.place;
-    idle_to = idle ∙ k.idle_to;
-    finished = finished ∙ k.finished;
-  };
-}
+same-place p a c v w place idle finished h = grind arith
 
 -- the sets without what stands in the way of a line
 pub state-cleared : (sets : CacheSets) (line other : ℕ) → InSets sets → states (sets_cleared_for sets line) other
     ≡ (if (line % length sets == other % length sets) && not (line == other) then Invalid else states sets other)
-state-cleared sets line other in_sets = by (slot_of sets line) refl
-  where
-    rival : Bool
-    rival = (line % length sets == other % length sets) && not (line == other)
-
-    rival-parts : rival ≡ true → (other % length sets ≡ line % length sets) × (other ≢ line)
-    rival-parts t =
-        let parts = and_parts (line % length sets == other % length sets) (not (line == other)) t in (
-          sym (eqb-true (line % length sets) (other % length sets) parts.0),
-          λ e. (let f = rw (eq-eqb line other (sym e)) at parts.1 in let no : ⊥ = cc in no),
-        )
-
-    -- what is no rival stays where only one line is dropped that is one
-    gone : rival ≡ true → states sets other ≡ Invalid
-        → states sets other ≡ (if rival then Invalid else states sets other)
-    gone t e = rw t e
-
-    stays : rival ≡ false → states sets other ≡ (if rival then Invalid else states sets other)
-    stays f = rw f refl
-
-    by : (slot : Option Held) → slot_of sets line ≡ slot
-        → states (sets_cleared_for sets line) other ≡ (if rival then Invalid else states sets other)
-    by None e =
-        rw (e, sets_cleared_for)
-        (elim (cases_Bool rival) [
-          | inl t ↦ let k = rival-parts t in gone t (state-empty sets other (slot-shared sets line other k.0 ∙ e))
-          | inr f ↦ stays f
-        ])
-    by (Some held) e = elim (cases_Bool (held.line == line)) [
-      | inl own ↦
-          let is : held.line ≡ line = eqb-true held.line line own in
-          rw (e, own, sets_cleared_for)
-          (elim (cases_Bool rival) [
-            | inl t ↦
-                let k = rival-parts t in
-                gone t (state-absent sets other held (slot-shared sets line other k.0 ∙ e) (λ f. k.1 (sym f ∙ is)))
-            | inr f ↦ stays f
-          ])
-      | inr off ↦
-          rw (e, off, sets_cleared_for)
-          (state-without sets held.line other
-          ∙ (elim (cases_Bool rival) [
-            | inl t ↦
-                let k = rival-parts t in
-                elim (cases_Bool (other == held.line)) [
-                  | inl same ↦ rw (same, t) refl
-                  | inr apart ↦
-                      rw (apart, t)
-                      (state-absent sets other held (slot-shared sets line other k.0 ∙ e)
-                      (λ f. both_ways (other == held.line) apart (eq-eqb other held.line (sym f))))
-                ]
-            | inr f ↦
-                let here : (held.line % length sets == line % length sets) ≡ true = rw e at (in_sets line) in
-                let own_set = eqb-true (held.line % length sets) (line % length sets) here in
-                let apart : (other == held.line) ≡ false = false_from_ne_true (other == held.line) (λ t.
-                let same : other ≡ held.line = eqb-true other held.line t in
-                both_ways rival f
-                (and_from (line % length sets == other % length sets) (not (line == other))
-                (eq-eqb (line % length sets) (other % length sets)
-                (sym own_set ∙ ap (λ k. k % length sets) (sym same)))
-                (ap not (ne_eqb line other (λ g. both_ways (held.line == line) off
-                (eq-eqb held.line line (sym same ∙ sym g))))))) in
-                rw (apart, f) refl
-          ]))
-    ]
+state-cleared sets line other in_sets = grind (arith, eqb-true, state-empty, state-absent, state-without)
 
 pub in_sets-cleared : (sets : CacheSets) (line : ℕ) → InSets sets → InSets (sets_cleared_for sets line)
-in_sets-cleared sets line in_sets = by (slot_of sets line) refl
-  where
-    by : (slot : Option Held) → slot_of sets line ≡ slot → InSets (sets_cleared_for sets line)
-    by None e = rw (e, sets_cleared_for) in_sets
-    by (Some held) e = elim (cases_Bool (held.line == line)) [
-      | inl own ↦ rw (e, own, sets_cleared_for) in_sets
-      | inr off ↦ rw (e, off, sets_cleared_for) (in_sets-without sets held.line in_sets)
-    ]
+in_sets-cleared sets line in_sets = grind (arith, in_sets-without)
 
 pub length-cleared : (sets : CacheSets) (line : ℕ) → length (sets_cleared_for sets line) ≡ length sets
-length-cleared sets line = by (slot_of sets line) refl
-  where
-    by : (slot : Option Held) → slot_of sets line ≡ slot → length (sets_cleared_for sets line) ≡ length sets
-    by None e = rw (e, sets_cleared_for) refl
-    by (Some held) e = elim (cases_Bool (held.line == line)) [
-      | inl own ↦ rw (e, own, sets_cleared_for) refl
-      | inr off ↦ rw (e, off, sets_cleared_for) (length-without sets held.line)
-    ]
+length-cleared sets line = grind (arith, length-without)
 
 -- which lines are dropped
 evicted-by : (p : Past) (a c line : ℕ) (claim : Claim) → begun_at p c ≡ Some claim → claim.agent ≡ a
@@ -172,16 +74,7 @@ unevicted p a c line other = by (begun_at p c) refl
 
 dropped-told : (held own dirty gone : Bool)
     → (if gone then Invalid else state_told held own dirty) ≡ state_told (held && not gone) (own && not gone) dirty
-dropped-told held own dirty true = λ i. state_told (sym (none held) i) (sym (none own) i) dirty
-  where
-    none : (b : Bool) → (b && false) ≡ false
-    none true = refl
-    none false = refl
-dropped-told held own dirty false = λ i. state_told (sym (all held) i) (sym (all own) i) dirty
-  where
-    all : (b : Bool) → (b && true) ≡ b
-    all true = refl
-    all false = refl
+dropped-told held own dirty gone = grind arith
 
 -- what begins, as a list
 begun-one : (p : Past) (a c : ℕ) (owing : Owing) → owing_begun p c ≡ Some owing → owing.claim.agent ≡ a
@@ -205,34 +98,7 @@ pub wanted-there : (r : Run) (a c : ℕ) (claim : Claim) (v : AgentView) → Rea
     → (want : Want) × (want_by v c ≡ Some want) × (want_of (past_of r) a c ≡ Some want.request)
     × (owing : Owing) × (owing_begun (past_of r) c ≡ Some owing) × (owing.claim ≡ claim)
     × (owing_by a (new_request c want.request) ≡ owing)
-wanted-there r a c claim v h begun mine view =
-    let p = past_of r in
-    let o = begun-parts p c claim begun in
-    let owing : Owing = o.0 in
-    let b = begun-wanted r c owing h o.1 in
-    let agent : owing.claim.agent ≡ a = ap (λ (x : Claim). x.agent) o.2 ∙ mine in
-    let wants : want_of p a c ≡ Some b.0 = subst (λ x. want_of p x c ≡ Some b.0) agent b.1 in
-    let told = want-by p a c v view ∙ wants in
-    let want = map-some (λ (w : Want). w.request) (want_by v c) b.0 told in
-    let same : want.0.request ≡ b.0 = want.2 in
-    let did = b.2 in
-    let line = b.3 in
-    let first = b.4 in (
-      want.0,
-      want.1,
-      wants ∙ ap Some (sym same),
-      owing,
-      o.1,
-      o.2,
-      λ i. record {
-        claim = record {
-          first = sym first i;
-          agent = sym agent i;
-          line = (ap (λ (q : Request). q.line) same ∙ sym line) i;
-        };
-        did = (ap (λ (q : Request). q.did) same ∙ sym did) i;
-      },
-    )
+wanted-there r a c claim v h begun mine view = grind (arith, begun-parts, begun-wanted, want-by)
 
 sent-as : (v : AgentView) (c number : ℕ) (want : Want) → want_by v c ≡ Some want
     → sent v c number ≡ record v {
@@ -249,8 +115,7 @@ sent-view r a c claim v h begun mine view =
     let p = past_of r in
     let k = wanted-there r a c claim v h begun mine view in
     let want : Want = k.0 in
-    let line : want.request.line ≡ claim.line =
-    ap (λ (o : Owing). o.claim.line) k.6 ∙ ap (λ (x : Claim). x.line) k.5 in
+    let line : want.request.line ≡ claim.line = grind arith in
     let fresh : OwnRequest = new_request c want.request in
     let own : owing_begun p c ≡ Some (owing_by a fresh) = k.4 ∙ ap Some (sym k.6) in
     let w : AgentView = record v {
@@ -302,31 +167,12 @@ sent-view r a c claim v h begun mine view =
     })
   where
     only : (out : OwnRequest) → {x : OwnRequest} → Among out (x ∷ []) → x ≡ out
-    only out (inl e) = e
-    only out (inr never) = absurd never
+    only out h1 = grind arith
 
 pub unsent-view : (p : Past) (a c : ℕ) (v : AgentView)
     → ((claim : Claim) → begun_at p c ≡ Some claim → claim.agent ≢ a) → IsViewAfterHit p a c v → IsViewAfterSent p a c v
 unfolding owed_sent
-unsent-view p a c v other view =
-    let none = begun-none p a c other in
-    let list : owed p a c ++ owings_begun p a c ≡ owed p a c = ap (λ xs. owed p a c ++ xs) none
-    ∙ append-nil (owed p a c) in
-    record {
-      agent = view.agent;
-      placed = view.placed;
-      lines = record {
-        states = λ line.
-            view.lines.states line
-            ∙ (λ i. if sym (unevicted p a c line other) i then Invalid
-            else state_told (holds_line p a line c) (is_exclusive p a line c) (is_dirty p a line c))
-            ∙ dropped-told (holds_line p a line c) (is_exclusive p a line c) (is_dirty p a line c)
-            (is_evicted p a line c);
-        fills = view.lines.fills;
-        in_sets = view.lines.in_sets;
-      };
-      requests = subst (λ xs. HasRequestsOf p a c xs v) (sym list) view.requests;
-    }
+unsent-view p a c v other view = grind (arith, begun-none, append-nil, unevicted)
 
 -- the request that is cancelled has gone
 pub cancelled-view : (r : Run) (a c q : ℕ) (v : AgentView) → Reaches r (c + 1) → cancelled_in (past_of r) c ≡ Some q
@@ -334,8 +180,7 @@ pub cancelled-view : (r : Run) (a c q : ℕ) (v : AgentView) → Reaches r (c + 
 unfolding owed_through is_uncancelled is_at is_some_and
 cancelled-view r a c q v h cancels view =
     let p = past_of r in
-    let apart : are_owings_apart p (map (owing_by a) v.outs) ≡ true =
-    ap (are_owings_apart p) view.requests.owed ∙ sent-apart r a c h in
+    let apart : are_owings_apart p (map (owing_by a) v.outs) ≡ true = grind (arith, sent-apart) in
     let list = map-without p a q v.outs apart
     ∙ ap (filter (λ owing. not (nat_eq owing.claim.first q))) view.requests.owed
     ∙ filter-same (λ owing. not (nat_eq owing.claim.first q))
@@ -362,16 +207,4 @@ pub uncancelled-view : (r : Run) (a c : ℕ) (v : AgentView) → Reaches r (c + 
     → claim.agent ≢ a)
     → IsViewAfterSent (past_of r) a c v → IsViewBeforeSnoop (past_of r) a c v
 unfolding owed_through is_uncancelled
-uncancelled-view r a c v h other view =
-    let p = past_of r in
-    let list : owed_through p a c ≡ owed_sent p a c =
-    filter-all (is_uncancelled p c) (owed_sent p a c) (λ owing there.
-    let k = sent-is r a c owing h there in
-    ap not (false_from_ne_true (is_at (cancelled_in p c) owing.claim.first) (λ t.
-    other owing.claim.first owing.claim (is_at-some (cancelled_in p c) owing.claim.first t) k.claimed k.agent))) in
-    record {
-      agent = view.agent;
-      placed = view.placed;
-      lines = view.lines;
-      requests = subst (λ xs. HasRequestsOf p a c xs v) (sym list) view.requests;
-    }
+uncancelled-view r a c v h other view = grind (arith, filter-all, sent-is, is_at-some)

@@ -1,13 +1,13 @@
 -- The state of each line of a cache of which one set has something else, and that each set has a line of its own.
-use Rattle.std.proofs.Common.{ℕ, ◌<◌, ◌≡◌, ◌≢◌, ◌%◌, ◌/◌, true, false, Option, Some, None, List, [], ◌∷◌, length, refl}
-use Rattle.std.proofs.Common.{sym, ap, ◌∙◌, inl, inr, ⊎_elim, arith, if◌then◌else◌}
+use Rattle.std.proofs.Common.{ℕ, ◌<◌, ◌≡◌, ◌≢◌, ◌%◌, ◌/◌, true, false, Option, Some, None, List, [], ◌∷◌, length}
+use Rattle.std.proofs.Common.{refl, sym, ap, ◌∙◌, inl, inr, ⊎_elim, arith, if◌then◌else◌}
 use Rattle.std.specs.Prelude.{◌==◌, is_some}
 use Rattle.std.specs.List.{slice_index_or}
-use Rattle.std.specs.Option.{option_map, option_map_or}
-use Rattle.std.proofs.lemmas.Bool.{cases_Bool, cases_eq, eq-eqb, eqb-true, ne_eqb}
+use Rattle.std.specs.Option.{option_map}
+use Rattle.std.proofs.lemmas.Bool.{cases_Bool, cases_eq, eq-eqb, ne_eqb}
 use Rattle.fsb_cache.specs.declared.held.Held.{Held}
-use Rattle.fsb_cache.specs.Sets.{CacheSets, held_at, held_shared, held_stored, only_line, sets_filled, sets_shared}
-use Rattle.fsb_cache.specs.Sets.{sets_stored, sets_without, slot_of, state_of_held, states, with_slot}
+use Rattle.fsb_cache.specs.Sets.{CacheSets, held_at, only_line, sets_filled, sets_shared, sets_stored, sets_without}
+use Rattle.fsb_cache.specs.Sets.{slot_of, state_of_held, states, with_slot}
 use Rattle.fsb_line.specs.declared.state.Mesi.{Mesi}
 use Rattle.fsb_line.specs.declared.state.Mesi.TheVariants.{Invalid, Modified, Shared}
 use Rattle.fsb_line.specs.States.{is_held}
@@ -19,15 +19,13 @@ pub state-same : (sets : CacheSets) (line other : ℕ) (slot : Option Held) → 
     → other % length sets ≡ line % length sets
     → states (with_slot sets line slot) other ≡ state_of_held (only_line other slot)
 unfolding states held_at
-state-same sets line other slot some same =
-    ap (λ s. state_of_held (only_line other s)) (slot_of-same sets line other slot some same)
+state-same sets line other slot some same = grind (arith, slot_of-same)
 
 -- a line of another set
 pub state-apart : (sets : CacheSets) (line other : ℕ) (slot : Option Held) → other % length sets ≢ line % length sets
     → states (with_slot sets line slot) other ≡ states sets other
 unfolding states held_at
-state-apart sets line other slot apart =
-    ap (λ s. state_of_held (only_line other s)) (slot_of-other sets line other slot apart)
+state-apart sets line other slot apart = grind (arith, slot_of-other)
 
 -- a cache with a line has sets
 pub some-sets : (sets : CacheSets) (line : ℕ) → is_held (states sets line) ≡ true → 0 < length sets
@@ -38,11 +36,7 @@ some-sets (slot ∷ slots) line held = omega arith
 -- a line that is held is what its set has
 pub resident : (line : ℕ) (slot : Option Held) → is_held (state_of_held (only_line line slot)) ≡ true
     → (held : Held) × (slot ≡ Some held) × (held.line ≡ line)
-resident line None e = absurd (let no : ⊥ = cc in no)
-resident line (Some held) e = elim (cases_Bool (held.line == line)) [
-  | inl same ↦ (held, refl, eqb-true held.line line same)
-  | inr other ↦ absurd (let no : ⊥ = (let e' = rw other at e in cc) in no)
-]
+resident line slot h1 = grind arith
 
 pub resident-at : (sets : CacheSets) (line : ℕ) → is_held (states sets line) ≡ true
     → (held : Held) × (slot_of sets line ≡ Some held) × (held.line ≡ line)
@@ -60,11 +54,6 @@ pub state-absent : (sets : CacheSets) (line : ℕ) (held : Held) → slot_of set
 unfolding states held_at
 state-absent sets line held e apart = rw (e, ne_eqb held.line line apart) refl
 
-pub state-present : (sets : CacheSets) (line : ℕ) (held : Held) → slot_of sets line ≡ Some held → held.line ≡ line
-    → states sets line ≡ held.state
-unfolding states held_at
-state-present sets line held e same = rw (e, eq-eqb held.line line same) refl
-
 pub state-empty : (sets : CacheSets) (line : ℕ) → slot_of sets line ≡ None → states sets line ≡ Invalid
 unfolding states held_at
 state-empty sets line e = rw e refl
@@ -73,21 +62,7 @@ state-empty sets line e = rw e refl
 pub state-filled : (sets : CacheSets) (line other : ℕ) (state : Mesi) (bytes : List ℕ) → 0 < length sets
     → (other ≢ line → other % length sets ≡ line % length sets → states sets other ≡ Invalid)
     → states (sets_filled sets line state bytes) other ≡ (if other == line then state else states sets other)
-state-filled sets line other state bytes some empty =
-    let slot : Option Held = Some (record { line = line; state = state; bytes = bytes }) in
-    ⊎_elim
-    (λ (same : other ≡ line).
-    state-same sets line other slot some (ap (λ k. k % length sets) same)
-    ∙ rw (eq-eqb line other (sym same), eq-eqb other line same) refl)
-    (λ (apart : other ≢ line).
-    let not_same : (other == line) ≡ false = ne_eqb other line apart in
-    ⊎_elim
-    (λ (same : other % length sets ≡ line % length sets).
-    state-same sets line other slot some same
-    ∙ rw (ne_eqb line other (λ e. apart (sym e)), not_same) (sym (empty apart same)))
-    (λ (away : other % length sets ≢ line % length sets). state-apart sets line other slot away ∙ rw not_same refl)
-    (cases_eq (other % length sets) (line % length sets)))
-    (cases_eq other line)
+state-filled sets line other state bytes some empty = grind (arith, state-same, state-apart)
 
 -- what a set has, by its line
 pub state-of-slot : (line : ℕ) (held : Held)
@@ -119,30 +94,16 @@ kept-line sets line other held after some e is keeps =
 -- a store into a line that is held makes it Modified, and leaves each other one
 pub state-stored : (sets : CacheSets) (addr size value other : ℕ) → is_held (states sets (addr / 32)) ≡ true
     → states (sets_stored sets addr size value) other ≡ (if other == addr / 32 then Modified else states sets other)
-state-stored sets addr size value other h =
-    let line = addr / 32 in
-    let there = resident-at sets line h in
-    let held : Held = there.0 in
-    let slot : option_map (held_stored addr size value) (slot_of sets line) ≡ Some (held_stored addr size value held) =
-    ap (option_map (held_stored addr size value)) there.1 in
-    ap (λ s. states (with_slot sets line s) other) slot
-    ∙ kept-line sets line other held (held_stored addr size value held) (some-sets sets line h) there.1 there.2 refl
+state-stored sets addr size value other h = grind (arith, resident-at, kept-line, some-sets)
 
 -- a line that is held is made Shared
 pub state-shared : (sets : CacheSets) (line other : ℕ) → is_held (states sets line) ≡ true
     → states (sets_shared sets line) other ≡ (if other == line then Shared else states sets other)
-state-shared sets line other h =
-    let there = resident-at sets line h in
-    let held : Held = there.0 in
-    let slot : option_map held_shared (slot_of sets line) ≡ Some (held_shared held) =
-    ap (option_map held_shared) there.1 in
-    ap (λ s. states (with_slot sets line s) other) slot
-    ∙ kept-line sets line other held (held_shared held) (some-sets sets line h) there.1 there.2 refl
+state-shared sets line other h = grind (arith, resident-at, kept-line, some-sets)
 
 -- what a cache has of a line that it has not
 none-invalid : (slot : Option Held) → is_some slot ≡ false → state_of_held slot ≡ Invalid
-none-invalid None e = refl
-none-invalid (Some held) e = absurd (let no : ⊥ = cc in no)
+none-invalid slot h1 = grind arith
 
 not-there : (sets : CacheSets) (line : ℕ) → is_some (held_at sets line) ≡ false → states sets line ≡ Invalid
 unfolding states
@@ -150,11 +111,7 @@ not-there sets line e = none-invalid (held_at sets line) e
 
 there-is : (line : ℕ) (slot : Option Held) → is_some (only_line line slot) ≡ true
     → (held : Held) × (slot ≡ Some held) × (held.line ≡ line)
-there-is line None e = absurd (let no : ⊥ = cc in no)
-there-is line (Some held) e = elim (cases_Bool (held.line == line)) [
-  | inl same ↦ (held, refl, eqb-true held.line line same)
-  | inr other ↦ absurd (let no : ⊥ = (let e' = rw other at e in cc) in no)
-]
+there-is line slot h1 = grind arith
 
 there-at : (sets : CacheSets) (line : ℕ) → is_some (held_at sets line) ≡ true
     → (held : Held) × (slot_of sets line ≡ Some held) × (held.line ≡ line)
@@ -168,31 +125,7 @@ sets-of (slot ∷ slots) line held e = omega arith
 -- a line that is dropped has gone, and each other one stays
 pub state-without : (sets : CacheSets) (line other : ℕ)
     → states (sets_without sets line) other ≡ (if other == line then Invalid else states sets other)
-state-without sets line other = elim (cases_Bool (is_some (held_at sets line))) [
-  | inr off ↦
-      rw off
-      (⊎_elim
-      (λ (same : other ≡ line).
-      rw (eq-eqb other line same) (ap (states sets) same ∙ not-there sets line off))
-      (λ (apart : other ≢ line). rw (ne_eqb other line apart) refl) (cases_eq other line))
-  | inl on ↦
-      let there = there-at sets line on in
-      rw on
-      (⊎_elim
-      (λ (same : other % length sets ≡ line % length sets).
-      state-same sets line other None (sets-of sets line there.0 there.1) same
-      ∙ ⊎_elim
-      (λ (is : other ≡ line). rw (eq-eqb other line is) refl)
-      (λ (apart : other ≢ line).
-      rw (ne_eqb other line apart)
-      (sym (state-absent sets other there.0 (slot-shared sets line other same
-      ∙ there.1) (λ f. apart (sym f ∙ there.2)))))
-      (cases_eq other line))
-      (λ (away : other % length sets ≢ line % length sets).
-      state-apart sets line other None away
-      ∙ rw (ne_eqb other line (λ e. away (ap (λ k. k % length sets) e))) refl)
-      (cases_eq (other % length sets) (line % length sets)))
-]
+state-without sets line other = grind (arith, not-there, there-at, state-same, sets-of, state-apart)
 
 -- each set has a line of its own
 abbrev pub InSets : CacheSets → Type 0
@@ -200,34 +133,18 @@ InSets sets = (line : ℕ) → is_in_set (length sets) line (slot_of sets line) 
 
 pub in_sets-with : (sets : CacheSets) (target : ℕ) (slot : Option Held) → 0 < length sets
     → is_in_set (length sets) target slot ≡ true → InSets sets → InSets (with_slot sets target slot)
-in_sets-with sets target slot some own in_sets line =
-    ap (λ n. is_in_set n line (slot_of (with_slot sets target slot) line)) (length-with_slot sets target slot)
-    ∙ ⊎_elim
-    (λ (same : line % length sets ≡ target % length sets).
-    ap (is_in_set (length sets) line) (slot_of-same sets target line slot some same)
-    ∙ ap (λ k. option_map_or (λ held. (held.line % length sets) == k) slot true) same ∙ own)
-    (λ (away : line % length sets ≢ target % length sets).
-    ap (is_in_set (length sets) line) (slot_of-other sets target line slot away) ∙ in_sets line)
-    (cases_eq (line % length sets) (target % length sets))
+in_sets-with sets target slot h1 h2 h3 = grind (arith, length-with_slot, slot_of-same, slot_of-other)
 
 pub in_sets-without : (sets : CacheSets) (line : ℕ) → InSets sets → InSets (sets_without sets line)
-in_sets-without sets line in_sets = elim (cases_Bool (is_some (held_at sets line))) [
-  | inr off ↦ rw off in_sets
-  | inl on ↦
-      let there = there-at sets line on in
-      rw on (in_sets-with sets line None (sets-of sets line there.0 there.1) refl in_sets)
-]
+in_sets-without sets line in_sets = grind (arith, there-at, in_sets-with, sets-of)
 
 pub in_sets-filled : (sets : CacheSets) (line : ℕ) (state : Mesi) (bytes : List ℕ) → 0 < length sets → InSets sets
     → InSets (sets_filled sets line state bytes)
-in_sets-filled sets line state bytes some in_sets =
-    in_sets-with sets line (Some (record { line = line; state = state; bytes = bytes })) some
-    (eq-eqb (line % length sets) (line % length sets) refl) in_sets
+in_sets-filled sets line state bytes some in_sets = grind (arith, in_sets-with)
 
 mapped-in : (n line : ℕ) (f : Held → Held) (slot : Option Held) → ((held : Held) → (f held).line ≡ held.line)
     → is_in_set n line (option_map f slot) ≡ is_in_set n line slot
-mapped-in n line f None keeps = refl
-mapped-in n line f (Some held) keeps = ap (λ k. (k % n) == (line % n)) (keeps held)
+mapped-in n line f slot h1 = grind arith
 
 -- what a set has is changed as it stands, if it has anything
 pub in_sets-mapped : (sets : CacheSets) (line : ℕ) (f : Held → Held) → ((held : Held) → (f held).line ≡ held.line)
@@ -239,7 +156,4 @@ in_sets-mapped (slot ∷ slots) line f keeps in_sets =
     (mapped-in (length sets) line f (slot_of sets line) keeps ∙ in_sets line) in_sets
 
 pub length-without : (sets : CacheSets) (line : ℕ) → length (sets_without sets line) ≡ length sets
-length-without sets line = elim (cases_Bool (is_some (held_at sets line))) [
-  | inl on ↦ rw on (length-with_slot sets line None)
-  | inr off ↦ rw off refl
-]
+length-without sets line = grind (arith, length-with_slot)

@@ -1,8 +1,8 @@
 -- From before the snoop end of a clock to behind it: where the agent is granted a line, and where it is granted none.
-use Rattle.std.proofs.Common.{ℕ, ◌+◌, ◌<◌, ◌≡◌, ◌≢◌, ◌%◌, true, false, not, ◌&&◌, ◌||◌, List, map, length, Option, Some}
-use Rattle.std.proofs.Common.{None, is_some, nat_eq, refl, sym, ap, subst, ◌∙◌, inl, inr, arith, ⊎_elim, if◌then◌else◌}
-use Rattle.std.proofs.lemmas.Bool.{and_from, both_ways, cases_Bool, cases_eq, eq-eqb, false_from_ne_true, ne_eqb}
-use Rattle.std.proofs.lemmas.Bool.{or_parts}
+use Rattle.std.proofs.Common.{ℕ, ◌+◌, ◌<◌, ◌≡◌, ◌≢◌, ◌%◌, true, false, not, ◌&&◌, ◌||◌, List, map, length, Option}
+use Rattle.std.proofs.Common.{Some, None, is_some, nat_eq, refl, sym, ap, subst, ◌∙◌, inl, inr, arith, ⊎_elim}
+use Rattle.std.proofs.Common.{if◌then◌else◌}
+use Rattle.std.proofs.lemmas.Bool.{and_from, cases_eq, eq-eqb, false_from_ne_true, ne_eqb}
 use Rattle.fsb_cache.specs.Sets.{sets_filled}
 use Rattle.fsb_count.specs.Options.{is_some_and}
 use Rattle.fsb_line.specs.declared.state.Mesi.{Mesi}
@@ -11,7 +11,7 @@ use Rattle.fsb_timely.specs.Past.{Claim, Grant, Past, SnoopEnd}
 use Rattle.fsb_timely.specs.Grants.{begun_at, grant_at, holds_line, is_ended, is_evicted, is_exclusive, is_granted}
 use Rattle.fsb_timely.specs.Grants.{is_named_by_other, is_rival, is_taken_away, is_written_back, latest_grant, set_of}
 use Rattle.fsb_timely.specs.Grants.{snooped_at}
-use Rattle.fsb_timely.specs.Hits.{is_dirty, is_hit, is_stored_since}
+use Rattle.fsb_timely.specs.Hits.{is_dirty, is_stored_since}
 use Rattle.fsb_timely.specs.Runs.{Run, past_of}
 use Rattle.fsb_timely.specs.Wants.{is_asked_for, owed, want_of}
 use Rattle.fsb_timely.proofs.Interface.{latest_grant-more}
@@ -39,21 +39,19 @@ use Rattle.fsb_agent_run.proofs.OwedApart.{apart-filter, sent-apart}
 use Rattle.fsb_agent_run.proofs.OwedSteps.{sent-is}
 use Rattle.fsb_agent_run.proofs.SentViews.{same-place}
 use Rattle.fsb_agent_run.proofs.SlotStates.{InSets, in_sets-filled, state-filled}
-use Rattle.fsb_agent_run.proofs.StoresTold.{any_stored, since-hit, since-none, stored-more}
+use Rattle.fsb_agent_run.proofs.StoresTold.{since-hit, since-none, stored-more}
 use Rattle.fsb_agent_run.proofs.ToldStates.{snooped-granted, snooped-kept, state_kept, state_snooped_at}
 
 -- the requests of a view before the snoop end are apart
 pub through-apart : (r : Run) (a c : ℕ) → Reaches r (c + 1)
     → are_owings_apart (past_of r) (owed_through (past_of r) a c) ≡ true
 unfolding owed_through
-through-apart r a c h =
-    let p = past_of r in apart-filter p (is_uncancelled p c) (owed_sent p a c) (sent-apart r a c h)
+through-apart r a c h = grind (arith, apart-filter, sent-apart)
 
 pub outs-apart : (r : Run) (a c n : ℕ) (v : AgentView) → Reaches r (c + 1)
     → HasRequestsOf (past_of r) a n (owed_through (past_of r) a c) v
     → are_owings_apart (past_of r) (map (owing_by a) v.outs) ≡ true
-outs-apart r a c n v h requests =
-    ap (are_owings_apart (past_of r)) requests.owed ∙ through-apart r a c h
+outs-apart r a c n v h requests = grind (arith, through-apart)
 
 -- each of them began as a request of the agent
 pub out-begun : (r : Run) (a c n : ℕ) (v : AgentView) (out : OwnRequest) → Reaches r (c + 1)
@@ -105,9 +103,7 @@ pub record LowersLines (p : Past) (a c : ℕ) (v w : AgentView) : Type 0 where
 awaited-kept : (p : Past) (a line c : ℕ) → is_granted p a line c ≡ false
     → is_awaited p a line (c + 1) c ≡ is_awaited p a line c c
 unfolding is_awaited
-awaited-kept p a line c none =
-    ap (λ o. is_some_and o (λ grant. not (is_ended p c grant.first)))
-    (latest_grant-more p a line c ∙ ap (λ b. if b then grant_at p c else latest_grant p a line c) none)
+awaited-kept p a line c none = grind (arith, latest_grant-more)
 
 -- where the agent is granted no line
 pub lowered-view : (r : Run) (a c : ℕ) (v w : AgentView) → ((line : ℕ) → is_granted (past_of r) a line c ≡ false)
@@ -144,13 +140,7 @@ lowered-view r a c v w none lowers same requests view =
 -- no store counts above the end of a new grant
 new-unstored : (p : Past) (a line c q : ℕ) → is_stored_below p a line (c + 1) q ≡ false
     → is_stored_since p a line c q ≡ false
-new-unstored p a line c q none = elim (cases_Bool (is_hit p a c)) [
-  | inl hit ↦ since-hit p a line c q hit ∙ none
-  | inr off ↦
-      since-none p a line c q off
-      ∙ (or_parts (is_stored_below p a line c q) (is_ended p c q && any_stored p a line c)
-      (sym (stored-more p a line c q) ∙ none)).0
-]
+new-unstored p a line c q none = grind (arith, since-hit, since-none, stored-more)
 
 -- the line of the grant
 pub granted-is : (p : Past) (a line c : ℕ) (grant : Grant) → grant_at p c ≡ Some grant → grant.agent ≡ a
@@ -161,12 +151,7 @@ granted-is p a line c grant there mine = rw (there, eq-eqb grant.agent a mine) r
 pub granted-to-other : (p : Past) (a line c : ℕ) → ((grant : Grant) → grant_at p c ≡ Some grant → grant.agent ≢ a)
     → is_granted p a line c ≡ false
 unfolding is_granted is_some_and
-granted-to-other p a line c other = by (grant_at p c) refl
-  where
-    by : (o : Option Grant) → grant_at p c ≡ o
-        → is_some_and o (λ grant. nat_eq grant.agent a && nat_eq grant.line line) ≡ false
-    by None e = refl
-    by (Some grant) e = rw (ne_eqb grant.agent a (other grant e)) refl
+granted-to-other p a line c other = grind arith
 
 -- the rivals of a line that is granted are not held
 pub rival-unheld : (r : Run) (a line other c : ℕ) → Reaches r (c + 1) → is_asked_for (owed (past_of r) a c) line ≡ true
@@ -211,9 +196,7 @@ granted-view r a c number grant state bytes kept v h some there mine is lost nam
     let asked = (grants-are-owed r h.timely).granted a c line (omega arith) here in
     let now = granted-now p a line c facts here in
     let first : now.grant ≡ grant = (let e = now.there in cc) in
-    let unended : is_ended p c grant.first ≡ false = false_from_ne_true (is_ended p c grant.first) (λ t.
-    both_ways (is_ended p (c + 1) now.grant.first) now.unended
-    (ended-later p c (c + 1) now.grant.first (omega arith) (ap (λ (g : Grant). is_ended p c g.first) first ∙ t))) in
+    let unended : is_ended p c grant.first ≡ false = grind (arith, ended-later) in
     let elsewhere : (other : ℕ) → other ≢ line → is_granted p a other c ≡ false =
     λ other apart. granted-is p a other c grant there mine ∙ ne_eqb line other (λ e. apart (sym e)) in
     let empty : (other : ℕ) → other ≢ line → other % length v.lines ≡ line % length v.lines
@@ -254,8 +237,7 @@ granted-view r a c number grant state bytes kept v h some there mine is lost nam
             (λ (same : other ≡ line).
             let before : fill_count v other ≡ 0 = view.lines.fills other ∙ ap (λ l. one_if (is_awaited p a l c c)) same
             ∙ ap one_if (granted-unawaited r a line c h here) in
-            let latest : latest_grant p a other (c + 1) ≡ Some grant = latest_grant-more p a other c
-            ∙ ap (λ l. if is_granted p a l c then grant_at p c else latest_grant p a l c) same ∙ rw here there in
+            let latest : latest_grant p a other (c + 1) ≡ Some grant = grind (arith, latest_grant-more) in
             rw (eq-eqb line other (sym same), latest, unended) (omega (arith, before)))
             (λ (apart : other ≢ line).
             let before = view.lines.fills other ∙ ap one_if (sym (awaited-kept p a other c (elsewhere other apart))) in

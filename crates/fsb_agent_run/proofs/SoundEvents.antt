@@ -1,9 +1,9 @@
 -- An agent may see the events of each clock, one after the other; so it stays sound.
 use Rattle.std.proofs.Common.{ℕ, ◌+◌, ◌<◌, ◌≡◌, Bool, true, false, if◌then◌else◌, List, [], ◌∷◌, ◌++◌, fold, Option}
-use Rattle.std.proofs.Common.{Some, None, nat_eq, refl, sym, ap, subst, ◌∙◌, append-nil, inl, inr, arith}
+use Rattle.std.proofs.Common.{Some, None, nat_eq, refl, sym, ap, subst, ◌∙◌, append-nil, inr, arith}
 use Rattle.std.specs.List.{flat_map}
 use Rattle.std.specs.Option.{option_map_or}
-use Rattle.std.proofs.lemmas.Bool.{and_from, and_parts, eqb-true}
+use Rattle.std.proofs.lemmas.Bool.{eqb-true}
 use Rattle.fsb_count.specs.Options.{is_at}
 use Rattle.fsb_encode.specs.declared.request.Request.{Request}
 use Rattle.fsb_trace.specs.Outcome.{is_deferral}
@@ -11,10 +11,10 @@ use Rattle.fsb_trace.specs.declared.outcome.Outcome.{Outcome}
 use Rattle.fsb_trace.specs.declared.outcome.Outcome.TheVariants.{Granted, Handed, Retried, Deferred, Written, Replied}
 use Rattle.fsb_trace.specs.declared.outcome.Outcome.TheVariants.{Failed, Upgraded}
 use Rattle.fsb_timely.specs.Past.{Claim, Grant, Past, SnoopEnd}
-use Rattle.fsb_timely.specs.Grants.{begun_at, ended_requests, snooped_at}
+use Rattle.fsb_timely.specs.Grants.{ended_requests, snooped_at}
 use Rattle.fsb_timely.specs.Runs.{Run, past_of}
 use Rattle.fsb_timely.specs.Wants.{want_of}
-use Rattle.fsb_coherent.specs.Awaits.{cancelled_in, responded_in, snoop_end_below}
+use Rattle.fsb_coherent.specs.Awaits.{responded_in, snoop_end_below}
 use Rattle.fsb_coherent.specs.Fitting.{fits_kind}
 use Rattle.fsb_tied.proofs.Interface.{one-at-end}
 use Rattle.fsb_run_laws.specs.Reaches.{Reaches}
@@ -27,8 +27,8 @@ use Rattle.fsb_agent_view.proofs.Interface.{sound_given_up, sound_handed}
 use Rattle.fsb_agent.proofs.Interface.{sound_arrived, sound_committed, sound_ended, sound_performed, sound_sent}
 use Rattle.fsb_agent_run.specs.AgentClocks.{cancelled_events, committed_events, end_events_of, ended_events}
 use Rattle.fsb_agent_run.specs.AgentClocks.{events_of_agent, given_up_events, giver_of, handed_events, is_seen_shared}
-use Rattle.fsb_agent_run.specs.AgentClocks.{number_asked, own_end_events, replied_events, reply_end_events, sent_events}
-use Rattle.fsb_agent_run.specs.AgentClocks.{snoop_events_of}
+use Rattle.fsb_agent_run.specs.AgentClocks.{number_asked, own_end_events, replied_events, reply_end_events}
+use Rattle.fsb_agent_run.specs.AgentClocks.{sent_events, snoop_events_of}
 use Rattle.fsb_agent_run.specs.BytesOwed.{HasBytesOwed}
 use Rattle.fsb_agent_run.specs.Ending.{EndsFor}
 use Rattle.fsb_agent_run.specs.EventsSeen.{may_see, may_see_all}
@@ -44,7 +44,6 @@ use Rattle.fsb_agent_run.proofs.GiversNamed.{given-named}
 use Rattle.fsb_agent_run.proofs.HitViews.{performed-view}
 use Rattle.fsb_agent_run.proofs.MayCalls.{other-may}
 use Rattle.fsb_agent_run.proofs.OwedStages.{claimed-out, replied-out}
-use Rattle.fsb_agent_run.proofs.OwedSteps.{reaches-less}
 use Rattle.fsb_agent_run.proofs.OwnSnoops.{IsSettledAs, getting-granted, getting-handed, getting-makes, settled-as}
 
 -- a sound agent that sees an event which it may see stays sound
@@ -52,8 +51,7 @@ sound-seen : (v : AgentView) (event : AgentEvent) → IsSound v → may_see v ev
 unfolding may_see
 sound-seen v (Performed clock) s may = sound_performed v clock s
 sound-seen v (Sent clock number) s may = sound_sent v clock number s may
-sound-seen v (Committed number mine request shared outcome) s may =
-    sound_committed v number mine request shared outcome s may
+sound-seen v (Committed number mine request shared outcome) s may = grind (arith, sound_committed)
 sound-seen v (HandedOn number) s may = sound_handed v number s
 sound-seen v (Arrived clock number bytes) s may = sound_arrived v clock number bytes s may
 sound-seen v (UpgradeEnded clock number) s may = sound_ended v clock number s may
@@ -63,18 +61,13 @@ pub sound-all : (v : AgentView) (events : List AgentEvent) → IsSound v → may
     → IsSound (fold agent_after v events)
 unfolding may_see_all
 sound-all v [] s may = s
-sound-all v (event ∷ events) s may =
-    let parts = and_parts (may_see v event) (may_see_all (agent_after v event) events) may in
-    sound-all (agent_after v event) events (sound-seen v event s parts.0) parts.1
+sound-all v (event ∷ events) s may = grind (arith, sound-seen, sound-all (agent_after v event) events)
 
 see-both : (v : AgentView) (xs ys : List AgentEvent) → may_see_all v xs ≡ true
     → may_see_all (fold agent_after v xs) ys ≡ true → may_see_all v (xs ++ ys) ≡ true
 unfolding may_see_all
 see-both v [] ys first then_all = then_all
-see-both v (event ∷ xs) ys first then_all =
-    let parts = and_parts (may_see v event) (may_see_all (agent_after v event) xs) first in
-    and_from (may_see v event) (may_see_all (agent_after v event) (xs ++ ys)) parts.0
-    (see-both (agent_after v event) xs ys parts.1 then_all)
+see-both v (event ∷ xs) ys first then_all = grind (arith, see-both (agent_after v event) xs ys)
 
 see-none : (v : AgentView) → may_see_all v [] ≡ true
 unfolding may_see_all
@@ -100,46 +93,19 @@ handed-seen r a c v h owed = by (responded_in (past_of r) c) refl
     by : (o : Option ℕ) → responded_in (past_of r) c ≡ o
         → may_see_all v (option_map_or (λ q. if is_at (giver_of (past_of r) c q) a then HandedOn q ∷ [] else []) o [])
         ≡ true
-    by None e = see-none v
-    by (Some q) e = one q e (is_at (giver_of (past_of r) c q) a) refl
+    by o h1 = grind (arith, see-none, one)
 
 -- the request that begins
 sent-seen : (r : Run) (a c : ℕ) (v : AgentView) → Reaches r (c + 1) → IsViewAfterHit (past_of r) a c v
     → may_see_all v (sent_events (past_of r) a c) ≡ true
 unfolding sent_events may_see
-sent-seen r a c v h view = by (begun_at (past_of r) c) refl
-  where
-    one : (claim : Claim) → begun_at (past_of r) c ≡ Some claim → (mine : Bool) → nat_eq claim.agent a ≡ mine
-        → may_see_all v (if mine then Sent c c ∷ [] else []) ≡ true
-    one claim e true m = see-one v (Sent c c) (send-may r a c claim v h e (eqb-true claim.agent a m) view)
-    one claim e false m = see-none v
-
-    by : (o : Option Claim) → begun_at (past_of r) c ≡ o
-        → may_see_all v (option_map_or (λ claim. if nat_eq claim.agent a then Sent c c ∷ [] else []) o []) ≡ true
-    by None e = see-none v
-    by (Some claim) e = one claim e (nat_eq claim.agent a) refl
+sent-seen r a c v h view = grind (arith, see-one, send-may, see-none)
 
 -- the request that is cancelled
 cancelled-may : (r : Run) (a c : ℕ) (v : AgentView) → Reaches r (c + 1) → IsSound v → IsViewAfterSent (past_of r) a c v
     → may_see_all v (cancelled_events (past_of r) a c) ≡ true
 unfolding cancelled_events given_up_events may_see
-cancelled-may r a c v h sound view = by (cancelled_in (past_of r) c) refl
-  where
-    one : (q : ℕ) (claim : Claim) → cancelled_in (past_of r) c ≡ Some q → begun_at (past_of r) q ≡ Some claim
-        → (mine : Bool) → nat_eq claim.agent a ≡ mine → may_see_all v (if mine then GivenUp q ∷ [] else []) ≡ true
-    one q claim e f true m =
-        see-one v (GivenUp q) (cancelled-seen r a c q claim v h e f (eqb-true claim.agent a m) sound view)
-    one q claim e f false m = see-none v
-
-    begun : (q : ℕ) → cancelled_in (past_of r) c ≡ Some q → (o : Option Claim) → begun_at (past_of r) q ≡ o
-        → may_see_all v (option_map_or (λ claim. if nat_eq claim.agent a then GivenUp q ∷ [] else []) o []) ≡ true
-    begun q e None f = see-none v
-    begun q e (Some claim) f = one q claim e f (nat_eq claim.agent a) refl
-
-    by : (o : Option ℕ) → cancelled_in (past_of r) c ≡ o
-        → may_see_all v (option_map_or (given_up_events (past_of r) a) o []) ≡ true
-    by None e = see-none v
-    by (Some q) e = begun q e (begun_at (past_of r) q) refl
+cancelled-may r a c v h sound view = grind (arith, see-one, cancelled-seen, see-none)
 
 -- the snoop end
 snoop-may : (r : Run) (a c : ℕ) (v : AgentView) → Reaches r (c + 1) → IsSound v → IsViewBeforeSnoop (past_of r) a c v
@@ -162,8 +128,7 @@ snoop-may r a c v h sound view owed = by (snooped_at (past_of r) c) refl
     claimed : (s : SnoopEnd) (claim : Claim) → snooped_at (past_of r) c ≡ Some s → s.claim ≡ Some claim
         → (o : Option Request) → may_see_all v (option_map_or (λ request.
         Committed s.first (nat_eq claim.agent a) request (is_seen_shared s) s.outcome ∷ []) o []) ≡ true
-    claimed s claim there claims None = see-none v
-    claimed s claim there claims (Some request) = own s claim request there claims (nat_eq claim.agent a) refl
+    claimed s claim h1 h2 o = grind (arith, see-none, own)
 
     reply : (s : SnoopEnd) (grant : Grant) (number : ℕ) (request : Request) → snooped_at (past_of r) c ≡ Some s
         → s.claim ≡ None → s.grant ≡ Some grant → number_asked (past_of r) grant.agent c grant.line ≡ Some number
@@ -182,9 +147,7 @@ snoop-may r a c v h sound view owed = by (snooped_at (past_of r) c) refl
         → s.claim ≡ None → s.grant ≡ Some grant → number_asked (past_of r) grant.agent c grant.line ≡ Some number
         → (o : Option Request) → may_see_all v (option_map_or (λ request.
         Committed number (nat_eq grant.agent a) request (is_seen_shared s) s.outcome ∷ []) o []) ≡ true
-    wanted s grant number there none makes asked None = see-none v
-    wanted s grant number there none makes asked (Some request) =
-        reply s grant number request there none makes asked (nat_eq grant.agent a) refl
+    wanted s grant number h1 h2 h3 h4 o = grind (arith, see-none, reply)
 
     numbered : (s : SnoopEnd) (grant : Grant) → snooped_at (past_of r) c ≡ Some s → s.claim ≡ None
         → s.grant ≡ Some grant → (o : Option ℕ) → number_asked (past_of r) grant.agent c grant.line ≡ o
@@ -195,9 +158,7 @@ snoop-may r a c v h sound view owed = by (snooped_at (past_of r) c) refl
 
     granted : (s : SnoopEnd) → snooped_at (past_of r) c ≡ Some s → s.claim ≡ None → (o : Option Grant) → s.grant ≡ o
         → may_see_all v (option_map_or (replied_events (past_of r) a c s) o []) ≡ true
-    granted s there none None makes = see-none v
-    granted s there none (Some grant) makes =
-        numbered s grant there none makes (number_asked (past_of r) grant.agent c grant.line) refl
+    granted s h1 h2 o h3 = grind (arith, see-none, numbered)
 
     of-claim : (s : SnoopEnd) → snooped_at (past_of r) c ≡ Some s → (o : Option Claim) → s.claim ≡ o
         → may_see_all v (snoop_events_of (past_of r) a c s) ≡ true
@@ -207,8 +168,7 @@ snoop-may r a c v h sound view owed = by (snooped_at (past_of r) c) refl
 
     by : (o : Option SnoopEnd) → snooped_at (past_of r) c ≡ o
         → may_see_all v (option_map_or (snoop_events_of (past_of r) a c) o []) ≡ true
-    by None e = see-none v
-    by (Some s) e = of-claim s e s.claim refl
+    by o h1 = grind (arith, see-none, of-claim)
 
 -- the end of the agent's own request
 own-end-may : (r : Run) (a c q : ℕ) (bytes : ℕ → List ℕ) (s : SnoopEnd) (claim : Claim) (v : AgentView)
@@ -222,9 +182,7 @@ own-end-may r a c q bytes s claim v h one snooped claims mine sound view = by s.
     below = below-says (past_of r) (c + 1) q s snooped
 
     settled : IsSettledAs r below.0 s claim
-    settled =
-        let low = below.1 in
-        settled-as r below.0 s claim (reaches-less r (below.0 + 1) (c + 1) (omega arith) h) below.2 claims
+    settled = grind (arith, settled-as)
 
     ending : is_deferral s.outcome ≡ false → EndsFor (past_of r) a c s.first s
     ending kept = record {
@@ -258,8 +216,7 @@ own-end-may r a c q bytes s claim v h one snooped claims mine sound view = by s.
         let makes = getting-makes r below.0 s claim settled Handed e getting in
         see-one v (Arrived c s.first (bytes s.first))
         (arrives-seen r a c s.first s makes.0 v h (ending (ap is_deferral e)) makes.1 sound view)
-    by Retried e =
-        see-one v (GivenUp s.first) (given-up-seen r a c s.first s v h (ending (ap is_deferral e)) (inl e) sound view)
+    by Retried e = grind (arith, see-one, given-up-seen, ending)
     by Written e =
         see-one v (GivenUp s.first) (given-up-seen r a c s.first s v h (ending (ap is_deferral e)) (inr e) sound view)
     by Upgraded e =
@@ -278,9 +235,7 @@ ends-may r a c bytes v h sound view = by (ended_requests (past_of r) c) refl
     own : (q : ℕ) (s : SnoopEnd) (claim : Claim) → ended_requests (past_of r) c ≡ q ∷ []
         → snoop_end_below (past_of r) (c + 1) q ≡ Some s → s.claim ≡ Some claim → (mine : Bool)
         → nat_eq claim.agent a ≡ mine → may_see_all v (if mine then own_end_events c s bytes else []) ≡ true
-    own q s claim one snooped claims true m =
-        own-end-may r a c q bytes s claim v h one snooped claims (eqb-true claim.agent a m) sound view
-    own q s claim one snooped claims false m = see-none v
+    own q s claim h1 h2 h3 mine h4 = grind (arith, own-end-may, see-none)
 
     reply : (q : ℕ) (s : SnoopEnd) (grant : Grant) → ended_requests (past_of r) c ≡ q ∷ []
         → snoop_end_below (past_of r) (c + 1) q ≡ Some s → s.claim ≡ None → s.grant ≡ Some grant → (mine : Bool)
@@ -299,30 +254,22 @@ ends-may r a c bytes v h sound view = by (ended_requests (past_of r) c) refl
     granted : (q : ℕ) (s : SnoopEnd) → ended_requests (past_of r) c ≡ q ∷ []
         → snoop_end_below (past_of r) (c + 1) q ≡ Some s → s.claim ≡ None → (o : Option Grant) → s.grant ≡ o
         → may_see_all v (option_map_or (reply_end_events (past_of r) a c bytes) o []) ≡ true
-    granted q s one snooped none None makes = see-none v
-    granted q s one snooped none (Some grant) makes =
-        reply q s grant one snooped none makes (nat_eq grant.agent a) refl
-        (number_asked (past_of r) a c grant.line) refl
+    granted q s h1 h2 h3 o h4 = grind (arith, see-none, reply)
 
     known : (q : ℕ) (s : SnoopEnd) → ended_requests (past_of r) c ≡ q ∷ []
         → snoop_end_below (past_of r) (c + 1) q ≡ Some s → (o : Option Claim) → s.claim ≡ o
         → may_see_all v (ended_events (past_of r) a c bytes s) ≡ true
-    known q s one snooped (Some claim) claims =
-        rw (claims, ended_events) (own q s claim one snooped claims (nat_eq claim.agent a) refl)
-    known q s one snooped None none = rw (none, ended_events) (granted q s one snooped none s.grant refl)
+    known q s h1 h2 o h3 = grind (arith, own, granted)
 
     single : (q : ℕ) → ended_requests (past_of r) c ≡ q ∷ [] → (o : Option SnoopEnd)
         → snoop_end_below (past_of r) (c + 1) q ≡ o
         → may_see_all v (option_map_or (ended_events (past_of r) a c bytes) o []) ≡ true
-    single q one None e = see-none v
-    single q one (Some s) e = known q s one e s.claim refl
+    single q h1 o h2 = grind (arith, see-none, known)
 
     by : (qs : List ℕ) → ended_requests (past_of r) c ≡ qs
         → may_see_all v (flat_map (end_events_of (past_of r) a c bytes) qs) ≡ true
     by [] e = see-none v
-    by (q ∷ []) e =
-        subst (λ events. may_see_all v events ≡ true) (sym (append-nil (end_events_of (past_of r) a c bytes q)))
-        (single q e (snoop_end_below (past_of r) (c + 1) q) refl)
+    by (q ∷ []) e = grind (arith, append-nil, single)
     by (q ∷ u ∷ qs) e = let long = h.long in absurd (one-at-end r c q u qs h.timely (omega arith) e)
 
 performs : (v : AgentView) (c : ℕ) → may_see_all v (Performed c ∷ []) ≡ true
@@ -369,5 +316,4 @@ clock-seen r a c bytes v h some few sound view owed =
 pub sound-clock : (r : Run) (a c : ℕ) (bytes : ℕ → List ℕ) (v : AgentView) → Reaches r (c + 1) → 0 < r.plan.cache
     → a < 4 → IsSound v → IsViewOf (past_of r) a c v → HasBytesOwed (past_of r) a c c c v
     → IsSound (fold agent_after v (events_of_agent (past_of r) a c bytes))
-sound-clock r a c bytes v h some few sound view owed =
-    sound-all v (events_of_agent (past_of r) a c bytes) sound (clock-seen r a c bytes v h some few sound view owed)
+sound-clock r a c bytes v h some few sound view owed = grind (arith, sound-all, clock-seen)

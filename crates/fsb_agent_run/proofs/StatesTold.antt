@@ -1,12 +1,12 @@
 -- What a view tells of a line: whether the agent holds it, has it alone, is dirty on it, and what it answers.
-use Rattle.std.proofs.Common.{ℕ, ◌+◌, ◌≡◌, Bool, true, false, not, ◌&&◌, ◌||◌, Some, nat_eq, refl, sym, ap, ◌∙◌}
-use Rattle.std.proofs.Common.{if◌then◌else◌}
+use Rattle.std.proofs.Common.{ℕ, ◌+◌, ◌≡◌, Bool, true, not, ◌&&◌, Some, nat_eq, sym, ap, ◌∙◌, if◌then◌else◌, arith}
 use Rattle.std.specs.Option.{option_and_then}
 use Rattle.fsb_count.specs.Options.{is_some_and}
 use Rattle.fsb_line.specs.declared.state.Answer.TheVariants as answers
 use Rattle.fsb_line.specs.States.{answer_of, is_held, is_modified, is_sole}
 use Rattle.fsb_timely.specs.Past.{Grant, Past}
-use Rattle.fsb_timely.specs.Grants.{grant_at, has_arrived, holds_line, is_ended, is_exclusive, is_granted, latest_grant}
+use Rattle.fsb_timely.specs.Grants.{grant_at, has_arrived, holds_line, is_ended, is_exclusive, is_granted}
+use Rattle.fsb_timely.specs.Grants.{latest_grant}
 use Rattle.fsb_timely.specs.Scripts.{Need}
 use Rattle.fsb_timely.specs.Hits.{is_dirty, is_met, is_served}
 use Rattle.fsb_timely.specs.Completions.{is_there}
@@ -17,35 +17,22 @@ use Rattle.fsb_agent_run.specs.RunViews.{HasLinesOf, is_awaited, state_told}
 use Rattle.fsb_agent_run.proofs.FillCounts.{come-count}
 
 pub held-told : (held alone dirty : Bool) → is_held (state_told held alone dirty) ≡ held
-held-told false alone dirty = refl
-held-told true false dirty = refl
-held-told true true false = refl
-held-told true true true = refl
+held-told held alone dirty = grind arith
 
 sole-told : (held alone dirty : Bool) → is_sole (state_told held alone dirty) ≡ (held && alone)
-sole-told false alone dirty = refl
-sole-told true false dirty = refl
-sole-told true true false = refl
-sole-told true true true = refl
+sole-told held alone dirty = grind arith
 
 pub modified-told : (held alone dirty : Bool) → is_modified (state_told held alone dirty) ≡ (held && (alone && dirty))
-modified-told false alone dirty = refl
-modified-told true false dirty = refl
-modified-told true true false = refl
-modified-told true true true = refl
+modified-told held alone dirty = grind arith
 
 answer-told : (held alone dirty : Bool)
     → answer_of (state_told held alone dirty)
     ≡ (if held && (alone && dirty) then answers.Modified else (if held then answers.Hit else answers.Clean))
-answer-told false alone dirty = refl
-answer-told true false dirty = refl
-answer-told true true false = refl
-answer-told true true true = refl
+answer-told held alone dirty = grind arith
 
 -- who has a line for itself holds it
 again : (x y z : Bool) → (x && (x && y && z)) ≡ (x && y && z)
-again false y z = refl
-again true y z = refl
+again x y z = grind arith
 
 pub alone-holds : (p : Past) (a line n : ℕ)
     → (holds_line p a line n && is_exclusive p a line n) ≡ is_exclusive p a line n
@@ -53,9 +40,7 @@ unfolding is_exclusive
 alone-holds p a line n = again (holds_line p a line n) _ _
 
 dirty-again : (x y z : Bool) → (x && y) ≡ y → (x && (y && (y && z))) ≡ (y && z)
-dirty-again x false z e = e
-dirty-again false true z e = absurd (let no : ⊥ = cc in no)
-dirty-again true true z e = refl
+dirty-again x y z h1 = grind arith
 
 pub dirty-holds : (p : Past) (a line c : ℕ)
     → (holds_line p a line c && (is_exclusive p a line c && is_dirty p a line c)) ≡ is_dirty p a line c
@@ -74,15 +59,11 @@ sole-by p a n c dirty v line h = ap is_sole (h.states line) ∙ sole-told _ _ (d
 pub met-by : (p : Past) (a n c : ℕ) (dirty : ℕ → Bool) (v : AgentView) (need : Need) → HasLinesOf p a n c dirty v
     → is_met_by v need ≡ is_met p a n need
 unfolding is_met
-met-by p a n c dirty v need h =
-    let held = held-by p a n c dirty v need.line h in
-    let sole = sole-by p a n c dirty v need.line h in
-    λ i. held i && (not need.alone || sole i)
+met-by p a n c dirty v need h = grind arith
 
 -- of a line that is held the bytes have come where the end of its latest grant has
 not-twice : (b : Bool) → not (not b) ≡ b
-not-twice true = refl
-not-twice false = refl
+not-twice b = grind arith
 
 pub come-by : (p : Past) (a n c : ℕ) (dirty : ℕ → Bool) (v : AgentView) (line : ℕ) → HasLinesOf p a n c dirty v
     → holds_line p a line n ≡ true → has_come v line ≡ has_arrived p a line n c
@@ -99,20 +80,10 @@ come-by p a n c dirty v line h held =
     ∙ not-twice (is_ended p c grant.0.first)
     ∙ sym (ap (λ o. is_some_and o (λ g. is_ended p c g.first)) latest)
 
--- and it serves, where no bytes are on their way
-served-when : (x y come arrived : Bool) → (x ≡ true → come ≡ arrived) → ((x && y) && come) ≡ ((x && y) && arrived)
-served-when false y come arrived h = refl
-served-when true false come arrived h = refl
-served-when true true come arrived h = h refl
-
 served-at : (p : Past) (a n c : ℕ) (dirty : ℕ → Bool) (v : AgentView) (need : Need) → HasLinesOf p a n c dirty v
     → is_served_by v need ≡ (is_met p a n need && has_arrived p a need.line n c)
 unfolding is_met
-served-at p a n c dirty v need h =
-    let met = met-by p a n c dirty v need h in
-    (λ i. met i && has_come v need.line)
-    ∙ served-when (holds_line p a need.line n) _ (has_come v need.line) (has_arrived p a need.line n c)
-    (come-by p a n c dirty v need.line h)
+served-at p a n c dirty v need h = grind (arith, come-by)
 
 pub served-by : (p : Past) (a c : ℕ) (dirty : ℕ → Bool) (v : AgentView) (need : Need) → HasLinesOf p a c c dirty v
     → is_served_by v need ≡ is_served p a c need
@@ -128,7 +99,4 @@ there-by p a c dirty v need h = served-at p a (c + 1) c dirty v need h
 pub answer-by : (p : Past) (a c line : ℕ) (v : AgentView) → HasLinesOf p a c c (λ line. is_dirty p a line c) v
     → answer_by v line
     ≡ (if is_dirty p a line c then answers.Modified else (if holds_line p a line c then answers.Hit else answers.Clean))
-answer-by p a c line v h =
-    let dirty = dirty-holds p a line c in
-    ap answer_of (h.states line) ∙ answer-told (holds_line p a line c) (is_exclusive p a line c) (is_dirty p a line c)
-    ∙ (λ i. if dirty i then answers.Modified else (if holds_line p a line c then answers.Hit else answers.Clean))
+answer-by p a c line v h = grind (arith, dirty-holds, answer-told)

@@ -1,6 +1,6 @@
 -- What the stores of a clock make of the states of an agent's lines: those of a hit, and those of an arrival.
-use Rattle.std.proofs.Common.{ℕ, ◌+◌, ◌≡◌, Bool, true, false, ◌&&◌, ◌||◌, List, [], ◌∷◌, Option, Some, None, nat_eq}
-use Rattle.std.proofs.Common.{nat_lt, refl, sym, ap, ◌∙◌}
+use Rattle.std.proofs.Common.{ℕ, ◌+◌, ◌≡◌, Bool, true, false, ◌&&◌, ◌||◌, List, [], ◌∷◌, Option, nat_eq, nat_lt, refl}
+use Rattle.std.proofs.Common.{sym, ap, ◌∙◌, arith}
 use Rattle.std.specs.List.{list_any}
 use Rattle.std.proofs.lemmas.Bool.{eqb-true}
 use Rattle.fsb_access.specs.declared.log.Done.{Done}
@@ -29,47 +29,19 @@ state_with stored Modified = Modified
 
 with-more : (held own dirty stored : Bool)
     → state_told held own (own && (dirty || stored)) ≡ state_with stored (state_told held own (own && dirty))
-with-more false own dirty stored = refl
-with-more true false dirty stored = refl
-with-more true true true stored = refl
-with-more true true false true = refl
-with-more true true false false = refl
-
--- tests of the entries of a log
-split : (x y z : Bool) → (x && (y || z)) ≡ ((x && y) || (x && z))
-split true y z = refl
-split false y z = refl
-
-shuffled : (x y u v : Bool) → ((x || y) || (u || v)) ≡ ((x || u) || (y || v))
-shuffled true y u v = refl
-shuffled false true true v = refl
-shuffled false true false v = refl
-shuffled false false u v = refl
+with-more held own dirty stored = grind arith
 
 any-split : (f g h : Done → Bool) (log : List Done)
     → list_any (λ done. f done && (g done || h done)) log
     ≡ (list_any (λ done. f done && g done) log || list_any (λ done. f done && h done) log)
 any-split f g h [] = refl
-any-split f g h (done ∷ log) =
-    ap (λ b. b || list_any (λ d. f d && (g d || h d)) log) (split (f done) (g done) (h done))
-    ∙ ap (λ b. ((f done && g done) || (f done && h done)) || b) (any-split f g h log)
-    ∙ shuffled (f done && g done) (f done && h done) _ _
+any-split f g h (done ∷ log) = grind (arith, any-split f g h log)
 
 at-clock : (x e f m : Bool) → (m ≡ true → e ≡ f) → ((x && e) && m) ≡ (f && (x && m))
-at-clock false e true m h = refl
-at-clock false e false m h = refl
-at-clock true true true true h = refl
-at-clock true true true false h = refl
-at-clock true false true true h = absurd (let same = h refl in let no : ⊥ = cc in no)
-at-clock true false true false h = refl
-at-clock true true false true h = absurd (let same = h refl in let no : ⊥ = cc in no)
-at-clock true true false false h = refl
-at-clock true false false true h = refl
-at-clock true false false false h = refl
+at-clock x e f m h1 = grind arith
 
 distributed : (e x y : Bool) → ((e && x) || (e && y)) ≡ (e && (x || y))
-distributed true x y = refl
-distributed false x y = refl
+distributed e x y = grind arith
 
 -- those of a clock above an end are its stores, where that end is below it
 stored-there : (p : Past) (a line c q : ℕ) (log : List Done)
@@ -105,46 +77,24 @@ stored-more p a line c q =
     ∙ ap (λ b. list_any (λ done. f done && nat_lt done.clock c) p.log || b) (stored-there p a line c q p.log)
 
 counted : (x m hit : Bool) → hit ≡ true → (x || (m && hit)) ≡ (x || m)
-counted x m hit e = rw e (all x m)
-  where
-    all : (x m : Bool) → (x || (m && true)) ≡ (x || m)
-    all true m = refl
-    all false true = refl
-    all false false = refl
-
-uncounted : (x m hit : Bool) → hit ≡ false → (x || (m && hit)) ≡ x
-uncounted x m hit e = rw e (none x m)
-  where
-    none : (x m : Bool) → (x || (m && false)) ≡ x
-    none true m = refl
-    none false true = refl
-    none false false = refl
+counted x m hit e = grind arith
 
 -- with a hit the stores of the clock count, and without one they do not
 pub since-hit : (p : Past) (a line c q : ℕ) → is_hit p a c ≡ true
     → is_stored_since p a line c q ≡ is_stored_below p a line (c + 1) q
 unfolding is_stored_since is_stored_below is_counted
-since-hit p a line c q hit =
-    any-alike _ _ p.log (λ done. ap (λ b. (is_store_on a line done && is_ended p done.clock q) && b)
-    (counted (nat_lt done.clock c) (nat_eq done.clock c) (is_hit p a c) hit ∙ sym (nat_lt-more done.clock c)))
+since-hit p a line c q hit = grind arith
 
 pub since-none : (p : Past) (a line c q : ℕ) → is_hit p a c ≡ false
     → is_stored_since p a line c q ≡ is_stored_below p a line c q
 unfolding is_stored_since is_stored_below is_counted
-since-none p a line c q none =
-    any-alike _ _ p.log (λ done. ap (λ b. (is_store_on a line done && is_ended p done.clock q) && b)
-    (uncounted (nat_lt done.clock c) (nat_eq done.clock c) (is_hit p a c) none))
+since-none p a line c q none = grind arith
 
 with-latest : (o : Option Grant) (f g : Grant → Bool) (b : Bool)
     → is_some_and o (λ x. x.owns || (f x || (g x && b)))
     ≡ (is_some_and o (λ x. x.owns || f x) || (is_some_and o g && b))
 unfolding is_some_and
-with-latest None f g b = refl
-with-latest (Some x) f g b = by x.owns (f x) (g x) b
-  where
-    by : (u v w b : Bool) → (u || (v || (w && b))) ≡ ((u || v) || (w && b))
-    by true v w b = refl
-    by false v w b = refl
+with-latest o f g b = grind arith
 
 -- the state of a line with the stores of the clock's hit
 pub hit-state : (p : Past) (a line c : ℕ) → is_hit p a c ≡ true
@@ -188,9 +138,4 @@ pub end-state_hit : (p : Past) (a line c : ℕ) → is_hit p a c ≡ true
     → state_told (holds_line p a line (c + 1)) (is_exclusive p a line (c + 1)) (is_dirty_below p a line (c + 1))
     ≡ state_snooped_at p a line c
 unfolding is_dirty_below
-end-state_hit p a line c hit =
-    let held = holds_line p a line (c + 1) in
-    let own = is_exclusive p a line (c + 1) in
-    let latest = latest_grant p a line (c + 1) in
-    λ i. state_told held own (own && is_some_and latest
-    (λ grant. grant.owns || sym (since-hit p a line c grant.first hit) i))
+end-state_hit p a line c hit = grind (arith, since-hit)

@@ -1,15 +1,14 @@
 -- The line that a view has to write back is the one that the run says.
-use Rattle.std.proofs.Common.{ℕ, ◌%◌, ◌≡◌, true, false, not, ◌&&◌, Option, Some, None, length, nat_eq, refl, sym, ap}
-use Rattle.std.proofs.Common.{◌∙◌, inl, inr}
+use Rattle.std.proofs.Common.{ℕ, ◌%◌, ◌≡◌, true, false, not, ◌&&◌, Option, Some, None, length, refl, sym, ap, ◌∙◌}
+use Rattle.std.proofs.Common.{arith}
 use Rattle.std.specs.Prelude.{◌==◌}
 use Rattle.std.specs.List.{slice_index_or}
-use Rattle.std.proofs.lemmas.Bool.{and_from, and_parts, both_ways, cases_Bool, eq-eqb, eqb-true, false_from_ne_true}
-use Rattle.std.proofs.lemmas.Bool.{not-true}
+use Rattle.std.proofs.lemmas.Bool.{both_ways, eqb-true, false_from_ne_true}
 use Rattle.fsb_cache.specs.declared.held.Held.{Held}
 use Rattle.fsb_cache.specs.Sets.{held_at, only_line, slot_of, state_of_held, states}
 use Rattle.fsb_line.specs.States.{is_modified}
 use Rattle.fsb_timely.specs.Past.{Past}
-use Rattle.fsb_timely.specs.Grants.{holds_line, is_exclusive, is_rival, set_of}
+use Rattle.fsb_timely.specs.Grants.{is_rival, set_of}
 use Rattle.fsb_timely.specs.Hits.{is_dirty}
 use Rattle.fsb_timely.specs.Wants.{is_same_set, victim_of}
 use Rattle.fsb_tied.proofs.Interface.{a-victim, no-victim, rival-other, rival-set}
@@ -21,19 +20,12 @@ use Rattle.fsb_agent_run.proofs.StatesTold.{dirty-holds, modified-told}
 -- a line is Modified where the agent is dirty on it
 modified-by : (p : Past) (a c : ℕ) (v : AgentView) (line : ℕ) → HasLinesOf p a c c (λ line. is_dirty p a line c) v
     → is_modified (line_state_by v line) ≡ is_dirty p a line c
-modified-by p a c v line h =
-    ap is_modified (h.states line)
-    ∙ modified-told (holds_line p a line c) (is_exclusive p a line c) (is_dirty p a line c)
-    ∙ dirty-holds p a line c
+modified-by p a c v line h = grind (arith, modified-told, dirty-holds)
 
 -- a Modified line is what its set has
 resident : (line : ℕ) (slot : Option Held) → is_modified (state_of_held (only_line line slot)) ≡ true
     → (held : Held) × (slot ≡ Some held) × (held.line ≡ line) × (is_modified held.state ≡ true)
-resident line None e = absurd (let no : ⊥ = cc in no)
-resident line (Some held) e = elim (cases_Bool (held.line == line)) [
-  | inl same ↦ (held, refl, eqb-true held.line line same, (let e' = rw same at e in e'))
-  | inr other ↦ absurd (let no : ⊥ = (let e' = rw other at e in cc) in no)
-]
+resident line slot h1 = grind arith
 
 -- what is another line and Modified
 dirty-other : (line : ℕ) (held : Held) → (held.line == line) ≡ false → is_modified held.state ≡ true
@@ -64,22 +56,7 @@ unnamed : (p : Past) (a c : ℕ) (v : AgentView) (line : ℕ) (held : Held) → 
     → (not (held.line == line) && is_modified held.state) ≡ true
     → (is_rival p line held.line ≡ true) × (is_dirty p a held.line c ≡ true)
 unfolding states held_at is_rival set_of
-unnamed p a c v line held is h slot e =
-    let parts = and_parts (not (held.line == line)) (is_modified held.state) e in
-    let here : held.line % length v.lines ≡ line % length v.lines = eqb-true _ _ (rw slot at (h.in_sets line)) in
-    let same_slot : slot_of v.lines held.line ≡ Some held = ap (λ k. slice_index_or v.lines k None) here ∙ slot in
-    let state : line_state_by v held.line ≡ held.state = rw (same_slot, eq-eqb held.line held.line refl) refl in
-    let dirty : is_dirty p a held.line c ≡ true = sym (modified-by p a c v held.line h) ∙ ap is_modified state
-    ∙ parts.1 in
-    let set : line % p.plan.cache ≡ held.line % p.plan.cache =
-    ap (λ n. line % n) (sym is.cache) ∙ sym here ∙ ap (λ n. held.line % n) is.cache in
-    let apart : nat_eq line held.line ≡ false = false_from_ne_true (nat_eq line held.line) (λ t.
-    both_ways (held.line == line) (not-true (held.line == line) parts.0)
-    (eq-eqb held.line line (sym (eqb-true line held.line t)))) in (
-      and_from (nat_eq (line % p.plan.cache) (held.line % p.plan.cache)) (not (nat_eq line held.line))
-          (eq-eqb (line % p.plan.cache) (held.line % p.plan.cache) set) (ap not apart),
-      dirty,
-    )
+unnamed p a c v line held is h slot e = grind arith
 
 pub victim-by : (p : Past) (a c : ℕ) (v : AgentView) (line : ℕ) → IsAgentOf p a v
     → HasLinesOf p a c c (λ line. is_dirty p a line c) v → victim_by v line ≡ victim_of p a c line

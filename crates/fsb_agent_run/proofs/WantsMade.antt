@@ -1,13 +1,12 @@
 -- What a view wants is what the run says.
-use Rattle.std.proofs.Common.{ℕ, ◌+◌, ◌%◌, ◌≡◌, Bool, true, false, not, ◌&&◌, ◌||◌, List, [], ◌∷◌, map, length, Option}
-use Rattle.std.proofs.Common.{Some, None, is_some, nat_eq, nat_le, refl, sym, ap, ◌∙◌, if◌then◌else◌}
+use Rattle.std.proofs.Common.{ℕ, ◌+◌, ◌%◌, ◌≡◌, Bool, true, false, not, ◌&&◌, ◌||◌, List, [], ◌∷◌, map, length}
+use Rattle.std.proofs.Common.{Option, Some, None, is_some, nat_eq, nat_le, refl, sym, ap, ◌∙◌, arith}
 use Rattle.std.specs.Prelude.{◌==◌}
 use Rattle.std.specs.List.{find, list_any}
 use Rattle.std.specs.Option.{option_map, option_map_or}
 use Rattle.std.proofs.lemmas.Bool.{and_parts, not-true}
 use Rattle.std.proofs.lemmas.List.{length-map}
 use Rattle.fsb_count.specs.Clocks.{first_where}
-use Rattle.fsb_encode.specs.declared.request.Kind.TheVariants.{Invalidate, Read, Upgrade}
 use Rattle.fsb_encode.specs.declared.request.Request.{Request}
 use Rattle.fsb_timely.specs.Past.{Owing, Past}
 use Rattle.fsb_timely.specs.Grants.{set_of}
@@ -19,11 +18,11 @@ use Rattle.fsb_agent_view.specs.declared.want.OwnRequest.{OwnRequest}
 use Rattle.fsb_agent_view.specs.declared.want.Want.{Want}
 use Rattle.fsb_agent_view.specs.AgentViews.{AgentView, is_idle_by}
 use Rattle.fsb_agent_view.specs.Wanting.{free_id_by, is_id_used_by, is_missing_by, is_silent_by, is_taken_by, kind_by}
-use Rattle.fsb_agent_view.specs.Wanting.{missing_by, victim_by, want_by, want_for_by}
+use Rattle.fsb_agent_view.specs.Wanting.{missing_by, want_by, want_for_by}
 use Rattle.fsb_agent_run.specs.RunViews.{HasLinesOf, HasRequestsOf, IsAgentOf, owing_by}
 use Rattle.fsb_agent_run.specs.Stages.{IsViewAfterHit}
 use Rattle.fsb_agent_run.proofs.Places.{idle-by, window-by}
-use Rattle.fsb_agent_run.proofs.StatesTold.{held-by, met-by}
+use Rattle.fsb_agent_run.proofs.StatesTold.{met-by}
 use Rattle.fsb_agent_run.proofs.VictimsNamed.{victim-by}
 
 -- what is said of some request of the view is said of some request that the agent owes
@@ -79,10 +78,7 @@ free-id p a c v is h =
 kind-of : (p : Past) (a c : ℕ) (dirty : ℕ → Bool) (v : AgentView) (need : Need) → IsAgentOf p a v
     → HasLinesOf p a c c dirty v → kind_by v need ≡ kind_needed p a c need
 unfolding kind_needed may_upgrade
-kind-of p a c dirty v need is lines =
-    let held = held-by p a c c dirty v need.line lines in
-    let profile = is.profile in
-    λ i. if not need.alone then Read else (if (nat_eq (profile i) 2) && held i then Upgrade else Invalidate)
+kind-of p a c dirty v need is lines = grind arith
 
 -- what is wanted for a need, by its victim
 abbrev want_with : Option ℕ → AgentView → Need → Want
@@ -92,28 +88,11 @@ want_with victim v need =
       | None ↦ record { request = request_of_kind (kind_by v need) need (free_id_by v); locked = need.locked }
     ]
 
-request-for : (victim : Option ℕ) (v : AgentView) (need : Need)
-    → (want_with victim v need).request
-    ≡ elim victim [
-      | Some victim ↦ write_back_of victim (free_id_by v)
-      | None ↦ request_of_kind (kind_by v need) need (free_id_by v)
-    ]
-request-for None v need = refl
-request-for (Some victim) v need = refl
-
 want-for : (p : Past) (a c : ℕ) (v : AgentView) (need : Need) → IsAgentOf p a v
     → HasLinesOf p a c c (λ line. is_dirty p a line c) v → HasRequestsOf p a c (owed p a c) v
     → (want_for_by v need).request ≡ want_for p a c (owed p a c) need
 unfolding want_for
-want-for p a c v need is lines h =
-    let victim = victim-by p a c v need.line is lines in
-    let kind = kind-of p a c (λ line. is_dirty p a line c) v need is lines in
-    let did = free-id p a c v is h in
-    request-for (victim_by v need.line) v need
-    ∙ (λ i. elim (victim i) [
-      | Some victim ↦ write_back_of victim (did i)
-      | None ↦ request_of_kind (kind i) need (did i)
-    ])
+want-for p a c v need is lines h = grind (arith, victim-by, kind-of, free-id)
 
 -- what is wanted, where there is no silence
 abbrev unless : Bool → Option Request → Option Request
@@ -128,20 +107,13 @@ still : (p : Past) (a : ℕ) (idle idling few : Bool) (next : Option ℕ) (f : N
     → (is_some next && idle) ≡ idling
     → unless (idle || few) (want_in p a f g next) ≡ unless (idling || few) (want_in p a f g next)
 unfolding needs_from
-still p a idle idling few (Some n) f g e = ap (λ b. unless (b || few) (want_in p a f g (Some n))) e
-still p a idle idling few None f g e = nothing (idle || few) ∙ sym (nothing (idling || few))
-  where
-    nothing : (b : Bool) → unless b (want_in p a f g None) ≡ None
-    nothing true = refl
-    nothing false = refl
+still p a idle idling few next f g h1 = grind arith
 
 -- the request of what is wanted
 request-if : (silent : Bool) (next : Option Need) (want : Need → Want)
     → option_map (λ (want : Want). want.request) (elim silent [ true ↦ None | false ↦ option_map want next ])
     ≡ elim silent [ true ↦ None | false ↦ option_map (λ need. (want need).request) next ]
-request-if true next want = refl
-request-if false None want = refl
-request-if false (Some need) want = refl
+request-if silent next want = grind arith
 
 -- where there is a hit the agent does not idle
 hit-busy : (p : Past) (a c : ℕ) → is_hit p a c ≡ true → is_idling p a c ≡ false

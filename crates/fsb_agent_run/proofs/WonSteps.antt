@@ -1,8 +1,7 @@
 -- Which upgrades were won below a clock, one clock further.
-use Rattle.std.proofs.Common.{ℕ, ◌+◌, ◌<◌, ◌≤◌, ◌≡◌, ◌≢◌, Bool, false, ◌&&◌, Option, Some, None, is_some, length, refl}
-use Rattle.std.proofs.Common.{sym, ap, subst, ◌∙◌, inl, inr, arith}
-use Rattle.std.specs.Option.{option_and_then}
-use Rattle.std.proofs.lemmas.Bool.{cases_lt, eqb-true, false_from_ne_true}
+use Rattle.std.proofs.Common.{ℕ, ◌+◌, ◌<◌, ◌≤◌, ◌≡◌, ◌≢◌, Bool, false, ◌&&◌, Option, Some, None, is_some, length}
+use Rattle.std.proofs.Common.{refl, subst, inl, inr, arith}
+use Rattle.std.proofs.lemmas.Bool.{cases_lt}
 use Rattle.fsb_count.specs.Clocks.{first_where}
 use Rattle.fsb_count.specs.Options.{is_some_and}
 use Rattle.fsb_count.proofs.Interface.{any_where-none, first_where-at, first_where-found, first_where-none}
@@ -38,18 +37,12 @@ first-still test n off = by (first_where test n) refl
 pub won-still : (p : Past) (n q : ℕ) → is_some_and (snooped_at p n) (is_snoop_of q) ≡ false
     → is_won_below p (n + 1) q ≡ is_won_below p n q
 unfolding is_won_below snoop_end_below
-won-still p n q off =
-    ap (λ o. is_some_and (option_and_then (snooped_at p) o) (λ s. is_upgraded s.outcome && is_some s.grant))
-    (first-still (λ t. is_some_and (snooped_at p t) (is_snoop_of q)) n off)
+won-still p n q off = grind (arith, first-still)
 
 pub other-snoop : (p : Past) (n q : ℕ) (s : SnoopEnd) → snooped_at p n ≡ Some s → s.first ≢ q
     → is_some_and (snooped_at p n) (is_snoop_of q) ≡ false
 unfolding is_snoop_of
-other-snoop p n q s there apart = false_from_ne_true (is_some_and (snooped_at p n) (is_snoop_of q)) (λ t.
-    let k = some-there (snooped_at p n) (is_snoop_of q) t in
-    let e = k.1 in
-    let same : k.0 ≡ s = cc in
-    apart (sym (ap (λ (x : SnoopEnd). x.first) same) ∙ eqb-true k.0.first q k.2))
+other-snoop p n q s there apart = grind (arith, some-there)
 
 pub no-snoop : (p : Past) (n q : ℕ) → snooped_at p n ≡ None → is_some_and (snooped_at p n) (is_snoop_of q) ≡ false
 unfolding is_some_and
@@ -59,14 +52,12 @@ no-snoop p n q none = rw none refl
 pub won-now : (r : Run) (n : ℕ) (s : SnoopEnd) → Reaches r (n + 1) → snooped_at (past_of r) n ≡ Some s
     → is_won_below (past_of r) (n + 1) s.first ≡ (is_upgraded s.outcome && is_some s.grant)
 unfolding is_won_below is_some_and
-won-now r n s h there =
-    let below = snoop-below r n n s h (omega arith) there in rw below refl
+won-now r n s h there = grind (arith, snoop-below)
 
 none-passes : (p : Past) (n q : ℕ)
     → ((k : ℕ) → k < n → is_some_and (snooped_at p k) (is_snoop_of q) ≡ false) → is_won_below p n q ≡ false
 unfolding is_won_below snoop_end_below is_some_and
-none-passes p n q none =
-    let first = first_where-off (λ t. is_some_and (snooped_at p t) (is_snoop_of q)) n none in rw first refl
+none-passes p n q none = grind (arith, first_where-off)
 
 -- below its snoop end nothing is won
 pub won-before : (r : Run) (n : ℕ) (s : SnoopEnd) → Reaches r (n + 1) → snooped_at (past_of r) n ≡ Some s

@@ -1,12 +1,12 @@
 -- A bench has four agents at each stage of its next clock.
-use Rattle.std.proofs.Common.{ℕ, ◌<◌, ◌≡◌, Bool, Option, Some, None, List, length, refl, ◌∙◌, arith}
+use Rattle.std.proofs.Common.{ℕ, ◌<◌, ◌≡◌, Bool, Option, List, length, ◌∙◌, arith}
 use Rattle.std.specs.Option.{option_map_or}
 use Rattle.std.proofs.lemmas.Option.{slice_get_within}
 use Rattle.fsb_agent_view.specs.AgentViews.{AgentView}
 use Rattle.fsb_bench_view.specs.declared.decided.Ending.{Ending}
 use Rattle.fsb_bench_view.specs.BenchSteps.{step_answered, step_cancelled, step_decided, step_ended, step_ending}
 use Rattle.fsb_bench_view.specs.BenchSteps.{step_performed, step_started}
-use Rattle.fsb_bench_view.specs.BusEvents.{bus_ended, ended_event}
+use Rattle.fsb_bench_view.specs.BusEvents.{bus_ended}
 use Rattle.fsb_bench_view.specs.BusViews.{BenchView, BusView, next_clock_of}
 use Rattle.fsb_bench_run.specs.BenchOf.{IsBenchOf}
 use Rattle.fsb_bench_run.proofs.AgentsNow.{length-told}
@@ -17,9 +17,6 @@ use Rattle.fsb_bench_run.proofs.StartsMay.{performed-four}
 -- the numbers of four agents
 few-of : (agents : List AgentView) → length agents ≡ 4 → AgentsAre (λ a w. a < 4) agents
 few-of agents four a w at = let within = slice_get_within agents a w at in omega (arith, within, four)
-
-pub performed-few : (v : BenchView) → IsBenchOf v → AgentsAre (λ a w. a < 4) (step_performed v).agents
-performed-few v b = few-of (step_performed v).agents (performed-four v b)
 
 pub cancelled-few : (v : BenchView) (hold : Bool) → IsBenchOf v
     → AgentsAre (λ a w. a < 4) (step_cancelled v hold).agents
@@ -33,8 +30,7 @@ answered-few v hold b = few-of (step_answered v hold).agents (answered-four v ho
 
 ended-many : (bus : BusView) (clock : ℕ) (o : Option Ending)
     → length (option_map_or (bus_ended bus clock) o bus).agents ≡ length bus.agents
-ended-many bus clock None = refl
-ended-many bus clock (Some ending) = length-told (ended_event clock bus.moved ending) 0 bus.agents
+ended-many bus clock o = grind (arith, length-told)
 
 pub ended-four : (v : BenchView) (hold : Bool) → IsBenchOf v → length (step_ended v hold).agents ≡ 4
 ended-four v hold b =

@@ -1,6 +1,6 @@
 -- The agents of a bench after a clock are those of the longer run: what ends for them there leads on.
-use Rattle.std.proofs.Common.{ℕ, ◌+◌, ◌<◌, ◌≡◌, ◌⊎◌, Bool, true, false, if◌then◌else◌, Option, Some, None, List, []}
-use Rattle.std.proofs.Common.{◌∷◌, fold, length, nat_eq, refl, sym, ap, subst, ◌∙◌, inl, inr, arith}
+use Rattle.std.proofs.Common.{ℕ, ◌+◌, ◌<◌, ◌≡◌, ◌⊎◌, Bool, true, false, if◌then◌else◌, Option, List, [], ◌∷◌, fold}
+use Rattle.std.proofs.Common.{length, nat_eq, refl, sym, ap, subst, ◌∙◌, inl, inr, arith}
 use Rattle.std.specs.Option.{option_map_or}
 use Rattle.std.proofs.lemmas.Bool.{both_ways, eq-eqb, eqb-true}
 use Rattle.fsb_agent_run.specs.BytesOwed.{HasBytesOwed}
@@ -148,10 +148,7 @@ own-led s n served settled bytes w h some k y = by k.end.outcome refl
 heard-own : (w : AgentView) (event : Option AgentEvent) (mine : Bool)
     → fold agent_after w (option_map_or (λ (x : AgentEvent). if mine then x ∷ [] else []) event [])
     ≡ (if mine then option_map_or (agent_after w) event w else w)
-heard-own w None true = refl
-heard-own w None false = refl
-heard-own w (Some event) true = refl
-heard-own w (Some event) false = refl
+heard-own w event mine = grind arith
 
 ended-led : (s : Run) (n a : ℕ) (served : Served) (settled : Option Outcome) (bytes : List ℕ) (w : AgentView)
     → Reaches s (n + 1) → 0 < s.plan.cache → (k : IsEndHeard s n served settled) → IsBeforeEnd s n a w

@@ -1,19 +1,18 @@
 -- What the agents of a bench owe at the stages of its next clock is what they owe there in the longer run.
-use Rattle.std.proofs.Common.{ℕ, ◌+◌, ◌<◌, ◌≡◌, ◌&&◌, ◌||◌, Bool, true, false, Option, Some, None, fold, nat_eq, refl}
-use Rattle.std.proofs.Common.{sym, ap, subst, ◌∙◌, inl, inr, arith}
+use Rattle.std.proofs.Common.{ℕ, ◌+◌, ◌<◌, ◌≡◌, ◌||◌, Bool, true, false, Option, Some, None, fold, nat_eq, refl, sym}
+use Rattle.std.proofs.Common.{ap, subst, ◌∙◌, inl, inr, arith}
 use Rattle.std.specs.Option.{option_map_or}
 use Rattle.std.proofs.lemmas.Bool.{both_ways, eq-eqb, eqb-true}
 use Rattle.fsb_agent_run.specs.AgentClocks.{number_asked}
 use Rattle.fsb_agent_run.specs.BytesOwed.{HasBytesOwed}
 use Rattle.fsb_agent_run.specs.Stages.{IsViewBeforeSnoop}
-use Rattle.fsb_agent_run.proofs.Interface.{claimed-out, kept-at-response, other-claimed-owed, owed-grown, own-owed-then}
-use Rattle.fsb_agent_run.proofs.Interface.{replied-out, unsettled-owed-after}
+use Rattle.fsb_agent_run.proofs.Interface.{claimed-out, kept-at-response, other-claimed-owed, owed-grown}
+use Rattle.fsb_agent_run.proofs.Interface.{own-owed-then, replied-out, unsettled-owed-after}
 use Rattle.fsb_agent_view.specs.AgentEvents.{HandedOn, Performed, agent_after}
-use Rattle.fsb_agent_view.specs.AgentViews.{AgentView, line_state_by}
-use Rattle.fsb_agent_view.specs.Snooping.{buffers_giving, committed, is_handed, kind_asks}
+use Rattle.fsb_agent_view.specs.AgentViews.{AgentView}
+use Rattle.fsb_agent_view.specs.Snooping.{committed}
 use Rattle.fsb_encode.specs.declared.request.Request.{Request}
 use Rattle.fsb_hazard.specs.declared.choice.Choice.{Choice}
-use Rattle.fsb_line.specs.States.{asks_line, is_modified}
 use Rattle.fsb_queue.specs.declared.entry.Entry.{Entry}
 use Rattle.fsb_run_laws.specs.Reaches.{Reaches}
 use Rattle.fsb_run_laws.proofs.Interface.{replied-on}
@@ -148,15 +147,7 @@ claimed-owed s n a x w h few k c view owed false m =
 -- a reply to another agent leaves the buffers
 replied-buffers : (w : AgentView) (number : ℕ) (request : Request) (shared : Bool) (o : Outcome) → o ≡ Replied
     → (committed w number false request shared o).buffers ≡ w.buffers
-replied-buffers w number request shared o e = rw e (by (is_modified (line_state_by w request.line)))
-  where
-    by : (b : Bool)
-        → (elim (b && is_handed Replied && asks_line (kind_asks request.kind)) [
-          | true ↦ buffers_giving w request.line number
-          | false ↦ w.buffers
-        ]) ≡ w.buffers
-    by true = refl
-    by false = refl
+replied-buffers w number request shared o e = grind arith
 
 -- the snoop end of a reply
 replied-owed : (s : Run) (n a : ℕ) (x : SnoopSettled) (w : AgentView) → Reaches s (n + 1)

@@ -1,13 +1,12 @@
 -- The agents of a bench after what is told to them.
-use Rattle.std.proofs.Common.{ℕ, zero, suc, ◌+◌, ◌≡◌, Option, Some, None, List, [], ◌∷◌, fold, slice_get, refl, sym, ap}
-use Rattle.std.proofs.Common.{subst, ◌∙◌, arith}
+use Rattle.std.proofs.Common.{ℕ, zero, suc, ◌+◌, ◌≡◌, Option, Some, None, List, [], ◌∷◌, fold, slice_get, refl, ap}
+use Rattle.std.proofs.Common.{◌∙◌, arith}
 use Rattle.std.specs.Option.{option_map}
 use Rattle.fsb_agent_view.specs.AgentEvents.{AgentEvent, HandedOn, Performed, agent_after}
 use Rattle.fsb_agent_view.specs.AgentViews.{AgentView}
 use Rattle.fsb_agent_view.specs.Arriving.{handed_on}
 use Rattle.fsb_agent_view.specs.Completing.{performed}
 use Rattle.fsb_agent_run.specs.Stages.{IsViewOf}
-use Rattle.fsb_agent_run.proofs.Interface.{handed-view}
 use Rattle.fsb_timely.specs.Past.{Past}
 use Rattle.fsb_bench_view.specs.declared.decided.BytesFrom.{BytesFrom}
 use Rattle.fsb_bench_view.specs.declared.decided.BytesFrom.TheVariants.{Memory, Agents}
@@ -22,16 +21,12 @@ pub told-at : (events : ℕ → List AgentEvent) (n : ℕ) (agents : List AgentV
     (slice_get agents k)
 told-at events n [] zero = refl
 told-at events n [] (suc k) = refl
-told-at events n (v ∷ vs) zero = let same : n ≡ n + 0 = omega arith in
-    ap (λ m. Some (fold agent_after v (events m))) same
-told-at events n (v ∷ vs) (suc k) =
-    let same : n + 1 + k ≡ n + suc k = omega arith in
-    told-at events (n + 1) vs k ∙ ap (λ m. option_map (λ v. fold agent_after v (events m)) (slice_get vs k)) same
+told-at events n (v ∷ vs) zero = grind arith
+told-at events n (v ∷ vs) (suc k) = grind (arith, told-at events (n + 1) vs k)
 
 pub some-of : {X Y : Type 0} (f : X → Y) (o : Option X) (y : Y) → option_map f o ≡ Some y
     → (x : X) × (o ≡ Some x) × (y ≡ f x)
-some-of f None y e = absurd (let no : ⊥ = cc in no)
-some-of f (Some x) y e = (x, refl, (let same : y ≡ f x = cc in same))
+some-of f o y h1 = grind arith
 
 -- the agent of this number before what is fetched
 pub record IsFetchedFrom (agents : List AgentView) (a : ℕ) (w : AgentView) : Type 0 where
@@ -45,15 +40,7 @@ fetched-by : (bus : BusView) (o : Option BytesFrom) (a : ℕ) (w : AgentView)
     → IsFetchedFrom bus.agents a w
 fetched-by bus None a w e = record { before = w; at = e; number = refl; view = λ p c h. h }
 fetched-by bus (Some (Memory line)) a w e = record { before = w; at = e; number = refl; view = λ p c h. h }
-fetched-by bus (Some (Agents number)) a w e =
-    let told = sym (told-at (for_all (HandedOn number)) 0 bus.agents a) ∙ e in
-    let k = some-of (λ v. handed_on v number) (slice_get bus.agents a) w told in
-    record {
-      before = k.0;
-      at = k.1;
-      number = ap (λ (v : AgentView). v.number) k.2;
-      view = λ p c h. subst (λ v. IsViewOf p a c v) (sym k.2) (handed-view p a c number k.0 h);
-    }
+fetched-by bus (Some (Agents number)) a w e = grind (arith, told-at)
 
 pub fetched-from : (v : BenchView) (a : ℕ) (w : AgentView) → slice_get (step_fetched v).agents a ≡ Some w
     → IsFetchedFrom v.bus.agents a w
@@ -62,9 +49,7 @@ fetched-from v a w e = fetched-by v.bus (bytes_source v.bus (step_drive v)) a w 
 -- and before its hit
 pub performed-from : (v : BenchView) (a : ℕ) (w : AgentView) → slice_get (step_performed v).agents a ≡ Some w
     → (u : AgentView) × (slice_get (step_fetched v).agents a ≡ Some u) × (w ≡ performed u (next_clock_of v))
-performed-from v a w e =
-    some-of (λ v'. performed v' (next_clock_of v)) (slice_get (step_fetched v).agents a) w
-    (sym (told-at (for_all (Performed (next_clock_of v))) 0 (step_fetched v).agents a) ∙ e)
+performed-from v a w e = grind (arith, told-at)
 
 fetched-there : (bus : BusView) (o : Option BytesFrom) (a : ℕ) (u : AgentView) → slice_get bus.agents a ≡ Some u
     → (w : AgentView) × (slice_get (bus_fetched bus o).agents a ≡ Some w)

@@ -1,6 +1,5 @@
 -- What arrivals complete at a bench's clock does not rest on the entries that are logged there.
-use Rattle.std.proofs.Common.{ℕ, ◌≡◌, ◌&&◌, ◌||◌, ◌++◌, Bool, true, false, not, nat_eq, List, [], ◌∷◌, refl, sym, ap}
-use Rattle.std.proofs.Common.{◌∙◌, arith}
+use Rattle.std.proofs.Common.{ℕ, ◌≡◌, ◌&&◌, ◌||◌, ◌++◌, Bool, not, nat_eq, List, [], ◌∷◌, refl, sym, ap, ◌∙◌, arith}
 use Rattle.std.specs.List.{list_all, list_any}
 use Rattle.std.specs.Option.{option_map_or}
 use Rattle.fsb_access.specs.declared.log.Done.{Done}
@@ -13,8 +12,8 @@ use Rattle.fsb_timely.specs.Past.{Past}
 use Rattle.fsb_timely.specs.Runs.{past_of}
 use Rattle.fsb_timely.specs.Scripts.{Need, needs_of}
 use Rattle.fsb_timely.specs.Timely.{Timely}
-use Rattle.fsb_timely.proofs.Interface.{is_hit-alike, is_idling-alike, moments-grow, next_item-alike, next_number-alike}
-use Rattle.fsb_timely.proofs.Interface.{past-goes_on}
+use Rattle.fsb_timely.proofs.Interface.{is_hit-alike, is_idling-alike, moments-grow, next_item-alike}
+use Rattle.fsb_timely.proofs.Interface.{next_number-alike, past-goes_on}
 use Rattle.fsb_bench_view.specs.BusViews.{BenchView, next_clock_of}
 use Rattle.fsb_bench_run.proofs.CompletionsNow.{arrivals_at}
 use Rattle.fsb_bench_run.proofs.LogsApart.{brought-same, moment-same, there-same}
@@ -30,18 +29,10 @@ record DifferNow (n : ℕ) (p q : Past) : Type 0 where
 
 brought-now : (n : ℕ) (p q : Past) (a : ℕ) (need : Need) → DifferNow n p q
     → is_brought p a n need ≡ is_brought q a n need
-brought-now n p q a need k =
-    let plan = k.plan in
-    let moments = k.moments in
-    brought-same p.plan p.moments p.log q.log a n need
-    ∙ (λ i. is_brought (record { plan = plan i; moments = moments i; log = q.log }) a n need)
+brought-now n p q a need k = grind (arith, brought-same)
 
 there-now : (n : ℕ) (p q : Past) (a : ℕ) (need : Need) → DifferNow n p q → is_there p a n need ≡ is_there q a n need
-there-now n p q a need k =
-    let plan = k.plan in
-    let moments = k.moments in
-    there-same p.plan p.moments p.log q.log a n need
-    ∙ (λ i. is_there (record { plan = plan i; moments = moments i; log = q.log }) a n need)
+there-now n p q a need k = grind (arith, there-same)
 
 arrival-now : (n : ℕ) (p q : Past) (a : ℕ) → DifferNow n p q → is_arrival p a n ≡ is_arrival q a n
 unfolding is_arrival completes_by
@@ -71,28 +62,17 @@ accesses-now n p q a k =
 completed-now : (n : ℕ) (p q : Past) (a : ℕ) → DifferNow n p q
     → completed_if p n (is_arrival p a n) a ≡ completed_if q n (is_arrival q a n) a
 unfolding completed_if
-completed-now n p q a k =
-    let arrives = arrival-now n p q a k in
-    let accesses = accesses-now n p q a k in
-    λ i. elim (arrives i) [ true ↦ accesses i | false ↦ [] ]
+completed-now n p q a k = grind (arith, arrival-now, accesses-now)
 
 arrivals-now : (n : ℕ) (p q : Past) → DifferNow n p q → arrivals_at p n ≡ arrivals_at q n
 unfolding of_all_agents
-arrivals-now n p q k =
-    let e0 = completed-now n p q 0 k in
-    let e1 = completed-now n p q 1 k in
-    let e2 = completed-now n p q 2 k in
-    let e3 = completed-now n p q 3 k in
-    λ i. e0 i ++ e1 i ++ e2 i ++ e3 i
+arrivals-now n p q k = grind (arith, completed-now)
 
 -- the moment of the clock is the same
 moment-now : (v : BenchView) (hold : Bool) (choice : Choice) (old new : List Done)
     → moment_at_growth v.run (run_with v hold choice old) ≡ moment_at_growth v.run (run_with v hold choice new)
 unfolding moment_at_growth past_at_growth
-moment-now v hold choice old new =
-    let s = run_with v hold choice old in
-    moment-same v.run.plan (past_of v.run).moments (v.run.log ++ old) (v.run.log ++ new) s.choices s.trace
-    (next_clock_of v)
+moment-now v hold choice old new = grind (arith, moment-same)
 
 -- the run before the clock has a hold for each clock, and a choice for each request
 pub whole-before : (v : BenchView) → Timely v.run → IsWhole v.run

@@ -1,5 +1,5 @@
 -- What arrivals complete at a bench's clock: nothing where nothing ends, and of the agent whose request ends alone.
-use Rattle.std.proofs.Common.{ℕ, zero, suc, ◌+◌, ◌<◌, ◌≡◌, ◌≢◌, List, [], ◌++◌, append-nil, refl, ◌∙◌, arith}
+use Rattle.std.proofs.Common.{ℕ, ◌+◌, ◌<◌, ◌≡◌, ◌≢◌, List, [], append-nil, ◌∙◌, arith}
 use Rattle.fsb_agent_run.specs.Ending.{NothingEndsFor}
 use Rattle.fsb_agent_run.proofs.Interface.{no-arrival, nothing-granted}
 use Rattle.fsb_run_laws.specs.Reaches.{Reaches}
@@ -11,35 +11,13 @@ use Rattle.fsb_bench_run.proofs.CompletionsNow.{arrivals_at}
 pub quiet-completes : (s : Run) (n a : ℕ) → Reaches s (n + 1) → NothingEndsFor (past_of s) a n
     → completed_if (past_of s) n (is_arrival (past_of s) a n) a ≡ []
 unfolding completed_if
-quiet-completes s n a h quiet =
-    let none = no-arrival s a n h (nothing-granted s a n h quiet) in rw none refl
+quiet-completes s n a h quiet = grind (arith, no-arrival, nothing-granted)
 
 -- the lists of all agents, of which one alone is not empty
 pub one-list : (list : ℕ → List Completed) (a : ℕ) → a < 4 → ((b : ℕ) → b ≢ a → list b ≡ [])
     → of_all_agents list ≡ list a
 unfolding of_all_agents
-one-list list zero few other =
-    let e1 = other 1 (λ e. omega (arith, e)) in
-    let e2 = other 2 (λ e. omega (arith, e)) in
-    let e3 = other 3 (λ e. omega (arith, e)) in
-    (λ i. list 0 ++ e1 i ++ e2 i ++ e3 i)
-    ∙ append-nil ((list 0 ++ []) ++ []) ∙ append-nil (list 0 ++ []) ∙ append-nil (list 0)
-one-list list (suc zero) few other =
-    let e0 = other 0 (λ e. omega (arith, e)) in
-    let e2 = other 2 (λ e. omega (arith, e)) in
-    let e3 = other 3 (λ e. omega (arith, e)) in
-    (λ i. e0 i ++ list 1 ++ e2 i ++ e3 i) ∙ append-nil (list 1 ++ []) ∙ append-nil (list 1)
-one-list list (suc (suc zero)) few other =
-    let e0 = other 0 (λ e. omega (arith, e)) in
-    let e1 = other 1 (λ e. omega (arith, e)) in
-    let e3 = other 3 (λ e. omega (arith, e)) in
-    (λ i. e0 i ++ e1 i ++ list 2 ++ e3 i) ∙ append-nil (list 2)
-one-list list (suc (suc (suc zero))) few other =
-    let e0 = other 0 (λ e. omega (arith, e)) in
-    let e1 = other 1 (λ e. omega (arith, e)) in
-    let e2 = other 2 (λ e. omega (arith, e)) in
-    λ i. e0 i ++ e1 i ++ e2 i ++ list 3
-one-list list (suc (suc (suc (suc a)))) few other = absurd (omega arith)
+one-list list a h1 h2 = grind (arith, append-nil)
 
 -- where nothing ends for any agent, arrivals complete nothing
 pub arrivals-none : (s : Run) (n : ℕ) → Reaches s (n + 1) → ((a : ℕ) → NothingEndsFor (past_of s) a n)

@@ -1,6 +1,5 @@
 -- The entries of the end of a bench's clock are what the run completes by arrivals there.
-use Rattle.std.proofs.Common.{ℕ, ◌+◌, ◌≡◌, Bool, Option, Some, None, List, [], length, map, refl, sym, ap, ◌∙◌, arith}
-use Rattle.std.proofs.Common.{inl, inr}
+use Rattle.std.proofs.Common.{ℕ, ◌+◌, ◌≡◌, Bool, Option, List, [], length, map, sym, ap, ◌∙◌, arith, inl, inr}
 use Rattle.std.specs.Option.{option_map_or}
 use Rattle.fsb_access.specs.declared.log.Done.{Done}
 use Rattle.fsb_hazard.specs.declared.choice.Choice.{Choice}
@@ -15,7 +14,7 @@ use Rattle.fsb_bench_view.specs.declared.snoop.SnoopSettled.{SnoopSettled}
 use Rattle.fsb_bench_view.specs.BenchSteps.{step_answered, step_cancelled, step_decided, step_drive, step_ending}
 use Rattle.fsb_bench_view.specs.BenchSteps.{step_performed, step_snooped, step_started}
 use Rattle.fsb_bench_view.specs.BusEvents.{answered_by, bus_answered, bus_cancelled, bus_snooped, bus_started}
-use Rattle.fsb_bench_view.specs.BusEvents.{cancelled_event, end_entries, entries_ended, snooped_event, starting_event}
+use Rattle.fsb_bench_view.specs.BusEvents.{end_entries, entries_ended}
 use Rattle.fsb_bench_view.specs.BusViews.{BenchView, BusView, next_clock_of}
 use Rattle.fsb_bench_run.specs.BenchOf.{IsBenchOf}
 use Rattle.fsb_bench_run.proofs.AgentsNow.{length-told}
@@ -32,23 +31,19 @@ use Rattle.fsb_bench_run.proofs.StepWith.{IsStepWith}
 -- the agents before the end are four
 pub started-many : (bus : BusView) (clock : ℕ) (o : Option Starting)
     → length (option_map_or (bus_started bus clock) o bus).agents ≡ length bus.agents
-started-many bus clock None = refl
-started-many bus clock (Some x) = length-told (starting_event clock x.who) 0 bus.agents
+started-many bus clock o = grind (arith, length-told)
 
 pub cancelled-many : (bus : BusView) (o : Option Entry)
     → length (option_map_or (bus_cancelled bus) o bus).agents ≡ length bus.agents
-cancelled-many bus None = refl
-cancelled-many bus (Some e) = length-told (cancelled_event e.clock e.who) 0 bus.agents
+cancelled-many bus o = grind (arith, length-told)
 
 snooped-many : (bus : BusView) (o : Option SnoopSettled)
     → length (option_map_or (bus_snooped bus) o bus).agents ≡ length bus.agents
-snooped-many bus None = refl
-snooped-many bus (Some x) = length-told (snooped_event x) 0 bus.agents
+snooped-many bus o = grind (arith, length-told)
 
 answered-many : (bus : BusView) (clock : ℕ) (o : Option Entry)
     → length (option_map_or (bus_answered bus clock) o bus).agents ≡ length bus.agents
-answered-many bus clock None = refl
-answered-many bus clock (Some e) = refl
+answered-many bus clock o = grind arith
 
 pub answered-four : (v : BenchView) (hold : Bool) → IsBenchOf v → length (step_answered v hold).agents ≡ 4
 answered-four v hold b =

@@ -1,6 +1,6 @@
 -- What is asked for at the clock: the wants of the agents after their hits, and the reply that is due.
-use Rattle.std.proofs.Common.{ℕ, zero, suc, ◌+◌, ◌<◌, ◌≡◌, ◌&&◌, Bool, true, false, not, nat_lt, Option, Some, None}
-use Rattle.std.proofs.Common.{List, [], ◌∷◌, length, slice_get, if◌then◌else◌, refl, sym, ap, subst, ◌∙◌, arith}
+use Rattle.std.proofs.Common.{ℕ, suc, ◌+◌, ◌<◌, ◌≡◌, Bool, false, Option, Some, None, List, [], ◌∷◌, slice_get}
+use Rattle.std.proofs.Common.{if◌then◌else◌, refl, sym, ap, subst, ◌∙◌, arith}
 use Rattle.std.specs.Option.{option_and_then, option_map, option_map_or}
 use Rattle.std.proofs.lemmas.Bool.{eq-eqb, lt-leb}
 use Rattle.fsb_access.specs.declared.log.Done.{Done}
@@ -50,11 +50,7 @@ agent-there v a b few =
 want-found : (agents : List AgentView) (clock a : ℕ) (w : AgentView) → a < 4 → slice_get agents a ≡ Some w
     → option_map_or (λ (want : Option Want). want) (slice_get (want_at agents clock 0 ∷ (want_at agents clock 1
     ∷ (want_at agents clock 2 ∷ (want_at agents clock 3 ∷ [])))) a) None ≡ want_by w clock
-want-found agents clock zero w few at = ap (option_and_then (λ v. want_by v clock)) at
-want-found agents clock (suc zero) w few at = ap (option_and_then (λ v. want_by v clock)) at
-want-found agents clock (suc (suc zero)) w few at = ap (option_and_then (λ v. want_by v clock)) at
-want-found agents clock (suc (suc (suc zero))) w few at = ap (option_and_then (λ v. want_by v clock)) at
-want-found agents clock (suc (suc (suc (suc a)))) w few at = absurd (omega arith)
+want-found agents clock a w h1 h2 = grind arith
 
 pub wants-told : (v : BenchView) (hold : Bool) (choice : Choice) (entries : List Done) (a : ℕ)
     → IsStepWith v hold choice entries → a < 4
@@ -63,9 +59,7 @@ pub wants-told : (v : BenchView) (hold : Bool) (choice : Choice) (entries : List
 wants-told v hold choice entries a b few =
     let there = agent-there v a b.bench few in
     let view = b.hits.after a there.0 there.1 in
-    ap (option_map (λ (want : Want). want.request))
-    (want-found (step_performed v).agents (next_clock_of v) a there.0 few there.1)
-    ∙ want-by (past_of (run_with v hold choice entries)) a (next_clock_of v) there.0 view
+    grind (arith, want-found, want-by)
 
 pub locked-told : (v : BenchView) (hold : Bool) (choice : Choice) (entries : List Done) (a : ℕ) (want : Want)
     → IsStepWith v hold choice entries → a < 4
@@ -85,13 +79,7 @@ spaced-off latest last clock e at = rw e (lt-leb (last.clock + 3) clock (omega a
 none-starts : (bus : BusView) (winner : Option Who) (clock : ℕ) (held : Bool) (f : Who → Option Starting)
     → is_spaced_by bus.latest clock ≡ false
     → (if may_start bus clock held then option_and_then f winner else None) ≡ None
-none-starts bus winner clock held f e = by held
-  where
-    by : (held : Bool)
-        → (if (not held && (is_spaced_by bus.latest clock && nat_lt (length bus.queue) 8))
-        then option_and_then f winner else None) ≡ None
-    by true = refl
-    by false = rw e refl
+none-starts bus winner clock held f e = grind arith
 
 second-pair : (latest : Option Latest) (o : Option Starting) (last : Latest) (clock : ℕ) → latest ≡ Some last → o ≡ None
     → last.clock + 1 ≡ clock → pair_driven latest clock o ≡ (pairs_of last.request).1
@@ -129,8 +117,7 @@ shows-now v hold choice entries b =
   where
     latest-there : (o : Option Latest) (d : ℕ) → option_map (λ (last : Latest). last.clock) o ≡ Some d
         → (last : Latest) × (o ≡ Some last) × (last.clock ≡ d)
-    latest-there None d e = absurd (let no : ⊥ = cc in no)
-    latest-there (Some last) d e = (last, refl, (let same : last.clock ≡ d = cc in same))
+    latest-there o d h1 = grind arith
 
 pub due-told : (v : BenchView) (hold : Bool) (choice : Choice) (entries : List Done) → IsStepWith v hold choice entries
     → IsThatOf (run_with v hold choice entries).trace (step_decided v hold).asked.due

@@ -1,15 +1,15 @@
 -- The request lines of the clock are as they must.
 use Rattle.std.proofs.Common.{ℕ, zero, suc, ◌+◌, ◌-◌, ◌<◌, ◌≤◌, ◌≡◌, ◌&&◌, ◌==◌, Bool, true, false, not, is_some}
-use Rattle.std.proofs.Common.{nat_le, Option, Some, None, List, length, refl, sym, ap, ◌∙◌, arith}
-use Rattle.std.specs.Option.{option_and_then, option_map}
-use Rattle.std.proofs.lemmas.Bool.{and_from, and_parts, eqb-false, eqb-true, false_from_ne_true, le-leb, leb-true}
+use Rattle.std.proofs.Common.{Option, Some, None, List, length, refl, sym, ap, ◌∙◌, arith}
+use Rattle.std.specs.Option.{option_map}
+use Rattle.std.proofs.lemmas.Bool.{and_from, eqb-false, eqb-true, false_from_ne_true}
 use Rattle.fsb_access.specs.declared.log.Done.{Done}
 use Rattle.fsb_agent_view.specs.declared.want.Want.{Want}
 use Rattle.fsb_bridge.specs.declared.deferral.Deferral.{Deferral}
 use Rattle.fsb_bridge.specs.DeferralList.{IsThatOf}
 use Rattle.fsb_count.specs.Clocks.{each_where, last_where}
 use Rattle.fsb_count.specs.Options.{is_some_and}
-use Rattle.fsb_count.proofs.Interface.{each_where-all, nat_eq-sym}
+use Rattle.fsb_count.proofs.Interface.{each_where-all}
 use Rattle.fsb_bridge_run.specs.RunDeferrals.{ShowsBegun}
 use Rattle.fsb_encode.specs.declared.request.Request.{Request}
 use Rattle.fsb_lawful.specs.Beginning.{KeepsBounds}
@@ -18,13 +18,13 @@ use Rattle.fsb_hazard.specs.declared.choice.Choice.{Choice}
 use Rattle.fsb_signal.specs.declared.lines.TheConstants.Lines.{ADS, BPRI, BREQ0, BREQ1, BREQ2, BREQ3}
 use Rattle.fsb_signal.specs.Samples.{line_at}
 use Rattle.fsb_timely.specs.Growth.{GrowsTo}
-use Rattle.fsb_timely.specs.Runs.{Run, past_of, past_to, run_to}
+use Rattle.fsb_timely.specs.Runs.{Run, past_of, past_to}
 use Rattle.fsb_timely.specs.Timely.{holds_at}
 use Rattle.fsb_timely.specs.Starts.{asks_for_bus, asks_for_priority, began_before, drives_request_lines, due_number}
 use Rattle.fsb_timely.specs.Starts.{reply_before, reply_to, would_begin}
 use Rattle.fsb_timely.specs.Wants.{want_of}
 use Rattle.fsb_trace.specs.At.{Trace, line_back, request_at}
-use Rattle.fsb_trace.specs.Requests.{is_reply, is_reply_kind, live_request_of}
+use Rattle.fsb_trace.specs.Requests.{is_reply, is_reply_kind}
 use Rattle.fsb_trace.specs.Winner.{begins_at, bus_request_of, is_agent, is_same_agent, winner_at}
 use Rattle.fsb_trace.specs.declared.who.Who.{Who}
 use Rattle.fsb_trace.specs.declared.who.Who.TheVariants.{Symmetric, Priority}
@@ -43,37 +43,27 @@ use Rattle.fsb_bench_run.proofs.LockNow.{same-beq}
 use Rattle.fsb_bench_run.proofs.PairWords.{last-at}
 use Rattle.fsb_bench_run.proofs.RunWith.{run_with}
 use Rattle.fsb_bench_run.proofs.StepFields.{performed-begun}
-use Rattle.fsb_bench_run.proofs.StartingNow.{mapped-some}
 use Rattle.fsb_bench_run.proofs.ThisClock.{holds-now}
 use Rattle.fsb_bench_run.proofs.StepWith.{IsStepWith}
 
 same-agents : (a b : Who) → is_same_agent b a ≡ is_same_who a b
 unfolding is_same_agent
-same-agents (Symmetric a) (Symmetric b) = nat_eq-sym b a
-same-agents (Symmetric a) Priority = refl
-same-agents Priority (Symmetric b) = refl
-same-agents Priority Priority = refl
+same-agents a b = grind arith
 
 before-parts : (s : Run) (n : ℕ) (who : Who) → began_before s n who ≡ true
     → (1 ≤ n) × (line_at ADS s.trace (n - 1) ≡ true)
 unfolding began_before begins_at
-before-parts s n who e =
-    let p = and_parts (nat_le 1 n) (line_at ADS s.trace (n - 1) && is_agent (winner_at s.trace (n - 1)) who) e in
-    let q = and_parts (line_at ADS s.trace (n - 1)) (is_agent (winner_at s.trace (n - 1)) who) p.1 in
-    (leb-true 1 n p.0, q.0)
+before-parts s n who e = grind arith
 
 before-off : (s : Run) (n : ℕ) (who : Who) → ((1 ≤ n) → line_at ADS s.trace (n - 1) ≡ true → ⊥)
     → began_before s n who ≡ false
-before-off s n who off =
-    false_from_ne_true (began_before s n who) (λ t. let p = before-parts s n who t in off p.0 p.1)
+before-off s n who off = grind (arith, before-parts)
 
 before-on : (s : Run) (n q : ℕ) (last who : Who) → q + 1 ≡ n → line_at ADS s.trace q ≡ true
     → winner_at s.trace q ≡ Some last
     → began_before s n who ≡ is_same_who last who
 unfolding began_before begins_at is_agent is_some_and
-before-on s n q last who e ads won =
-    let one : n - 1 ≡ q = omega arith in
-    rw (le-leb 1 n (omega arith), one, ads, won, begins_at, is_agent, is_some_and) (same-agents last who)
+before-on s n q last who e ads won = grind (arith, same-agents)
 
 began-latest : (r s : Run) (o : Option Latest) (who : Who) → GrowsTo r s → IsLatestOf o r
     → began_by o (length r.trace) who ≡ began_before s (length r.trace) who
@@ -107,8 +97,7 @@ began-latest r s (Some l) who grows k = by (l.clock + 1 == length r.trace) refl
         apart (omega arith))))
 
 some-mapped : (o : Option Want) → is_some o ≡ is_some (option_map (λ (want : Want). want.request) o)
-some-mapped None = refl
-some-mapped (Some w) = refl
+some-mapped o = grind arith
 
 -- an agent asks for the bus as it must
 pub asking-now : (v : BenchView) (hold : Bool) (choice : Choice) (entries : List Done) (a : ℕ)
@@ -156,19 +145,11 @@ asks-now v hold choice entries a b few =
 reply-of : (r : Run) (q : ℕ) (who : Who) (request : Request) → r.plan.ahead ≤ 4 → IsBegunAt r q who request
     → is_reply_kind request.kind ≡ is_same_who who Priority
 unfolding would_begin reply_to is_reply_kind past_to past_of
-reply-of r q (Symmetric a) request few b = (want-own (past_to (past_of r) q) a q request few b.wanted).0
-reply-of r q Priority request few b =
-    let k = mapped-some reply_to
-    (option_and_then (live_request_of (run_to r q).trace)
-    (due_number (run_to r q) (past_to (past_of r) q) q)) request b.wanted in
-    ap (λ (request : Request). is_reply_kind request.kind) (sym k.2)
+reply-of r q who request h1 h2 = grind (arith, want-own)
 
 back-before : (s : Run) (n : ℕ) → reply_before s n ≡ true → (1 ≤ n) × (line_at ADS s.trace (n - 1) ≡ true)
 unfolding reply_before line_back
-back-before s n e =
-    let p = and_parts (nat_le 1 n && line_at ADS s.trace (n - 1)) (is_reply (request_at s.trace (n - 1))) e in
-    let q = and_parts (nat_le 1 n) (line_at ADS s.trace (n - 1)) p.0 in
-    (leb-true 1 n q.0, q.1)
+back-before s n e = grind arith
 
 reply-off : (s : Run) (n : ℕ) → ((1 ≤ n) → line_at ADS s.trace (n - 1) ≡ true → ⊥) → reply_before s n ≡ false
 reply-off s n off = false_from_ne_true (reply_before s n) (λ t. let p = back-before s n t in off p.0 p.1)
@@ -177,9 +158,7 @@ reply-on : (s : Run) (n q : ℕ) (request : Request) → q + 1 ≡ n → line_at
     → request_at s.trace q ≡ Some request
     → reply_before s n ≡ is_reply_kind request.kind
 unfolding reply_before line_back is_reply is_some_and
-reply-on s n q request e ads shown =
-    let one : n - 1 ≡ q = omega arith in
-    rw (le-leb 1 n (omega arith), one, ads, shown, is_reply, is_some_and) refl
+reply-on s n q request e ads shown = grind arith
 
 reply-latest : (r s : Run) (o : Option Latest) → KeepsBounds r.plan → GrowsTo r s → ShowsBegun r s → IsLatestOf o r
     → began_by o (length r.trace) Priority ≡ reply_before s (length r.trace)
@@ -217,8 +196,7 @@ reply-latest r s (Some l) bounds grows shows k = by (l.clock + 1 == length r.tra
 
 pub due-some : (w : Trace) (o : Option Deferral) (request : Option ℕ) → IsThatOf w o request
     → is_some o ≡ is_some request
-due-some w None request e = ap (λ o. is_some o) (sym e)
-due-some w (Some deferral) request e = ap (λ o. is_some o) (sym e.1)
+due-some w o request h1 = grind arith
 
 -- the bridge asks for the bus as it must
 pub asks-priority-now : (v : BenchView) (hold : Bool) (choice : Choice) (entries : List Done)

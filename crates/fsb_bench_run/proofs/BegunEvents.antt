@@ -25,7 +25,7 @@ use Rattle.fsb_run_laws.specs.Reaches.{Reaches}
 use Rattle.fsb_signal.specs.declared.lines.TheConstants.Lines.{ADS, AERR}
 use Rattle.fsb_signal.specs.Samples.{line_at}
 use Rattle.fsb_timely.specs.Grants.{begun_at}
-use Rattle.fsb_timely.specs.Moments.{cancelled_at, claim_at}
+use Rattle.fsb_timely.specs.Moments.{cancelled_at, claim_at, agent_at}
 use Rattle.fsb_timely.specs.Past.{Claim, Past}
 use Rattle.fsb_timely.specs.Runs.{Run, past_of}
 use Rattle.fsb_timely.proofs.Interface.{begun-told, cancelled-told}
@@ -34,7 +34,6 @@ use Rattle.fsb_trace.specs.Winner.{winner_at}
 use Rattle.fsb_trace.specs.declared.who.Who.{Who}
 use Rattle.fsb_trace.specs.declared.who.Who.TheVariants.{Symmetric, Priority}
 use Rattle.fsb_trace.proofs.Interface.{line_at-agree}
-use Rattle.fsb_timely.specs.Moments.{agent_at}
 use Rattle.fsb_bench_view.specs.declared.beginning.Starting.{Starting}
 use Rattle.fsb_bench_view.specs.BenchSteps.{step_cancelled, step_decided, step_performed, step_started}
 use Rattle.fsb_bench_view.specs.BusDecisions.{is_cancelled_by}
@@ -42,7 +41,7 @@ use Rattle.fsb_bench_view.specs.BusEvents.{bus_cancelled, bus_started, cancelled
 use Rattle.fsb_bench_view.specs.BusViews.{BenchView, BusView, next_clock_of}
 use Rattle.fsb_bench_view.specs.ToldAgents.{agents_told}
 use Rattle.fsb_bench_run.specs.BenchOf.{IsBegunAt}
-use Rattle.fsb_bench_run.proofs.AgentsTold.{some-of, told-at}
+use Rattle.fsb_bench_run.proofs.AgentsTold.{told-at}
 use Rattle.fsb_bench_run.proofs.BegunStays.{begun-stays}
 use Rattle.fsb_bench_run.proofs.DrivenLines.{aerr-driven, line-with}
 use Rattle.fsb_bench_run.proofs.RunWith.{run_with}
@@ -60,12 +59,7 @@ AgentsAre holds agents = (a : ℕ) (w : AgentView) → slice_get agents a ≡ So
 pub told-each : (before after : ℕ → AgentView → Type 0) (events : ℕ → List AgentEvent) (agents : List AgentView)
     → ((a : ℕ) (w : AgentView) → before a w → after a (fold agent_after w (events a)))
     → AgentsAre before agents → AgentsAre after (agents_told events 0 agents)
-told-each before after events agents leads k a w at =
-    let t = some-of (λ v. fold agent_after v (events (0 + a))) (slice_get agents a) w
-    (sym (told-at events 0 agents a) ∙ at) in
-    let none_more : 0 + a ≡ a = omega arith in
-    subst (λ x. after a x) (sym (t.2 ∙ ap (λ m. fold agent_after t.0 (events m)) none_more))
-    (leads a t.0 (k a t.0 t.1))
+told-each before after events agents h1 h2 = grind (arith, told-at)
 
 -- the request of a symmetric agent is its claim, and the bridge's is none
 pub begun-claim : (s : Run) (q a : ℕ) (request : Request) → q < length s.trace → IsBegunAt s q (Symmetric a) request
@@ -84,8 +78,7 @@ no-claim w q e = rw (claim_at, agent_at, e) refl
 
 pub begun-unclaimed : (s : Run) (q : ℕ) (request : Request) → q < length s.trace → IsBegunAt s q Priority request
     → begun_at (past_of s) q ≡ None
-begun-unclaimed s q request l k =
-    begun-told s q l ∙ ap (λ b. if b then claim_at s.trace q else None) k.begins ∙ no-claim s.trace q k.winner
+begun-unclaimed s q request l k = grind (arith, begun-told, no-claim)
 
 pub begun-nothing : (s : Run) (q : ℕ) → q < length s.trace → line_at ADS s.trace q ≡ false
     → begun_at (past_of s) q ≡ None
@@ -141,11 +134,7 @@ cancels w c q e error ads =
 
 cancels-none : (w : Trace) (c : ℕ) → line_at AERR w c ≡ false → cancelled_at w c ≡ None
 unfolding cancelled_at
-cancels-none w c error = rw (error, cancelled_at) (by (nat_le 3 c) (line_at ADS w (c - 3)))
-  where
-    by : (b d : Bool) → ◌≡◌ {A = Option ℕ} (elim (b && false && d) [ true ↦ Some (c - 3) | false ↦ None ]) None
-    by true d = refl
-    by false d = refl
+cancels-none w c error = grind arith
 
 -- the entry that a bench cancels is the request that is cancelled in its run
 pub cancelled-now : (v : BenchView) (hold : Bool) (choice : Choice) (entries : List Done)

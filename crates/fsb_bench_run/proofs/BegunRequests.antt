@@ -1,6 +1,5 @@
 -- The request that began at a clock of a run is decoded there, as soon as its second clock is there; and it stays.
-use Rattle.std.proofs.Common.{ℕ, suc, ◌+◌, ◌<◌, ◌≡◌, true, Some, length, sym, ap, ◌∙◌, arith, subst}
-use Rattle.std.specs.Option.{option_and_then}
+use Rattle.std.proofs.Common.{ℕ, suc, ◌+◌, ◌<◌, ◌≡◌, true, Some, length, sym, ◌∙◌, arith}
 use Rattle.fsb_encode.specs.declared.request.Request.{Request}
 use Rattle.fsb_encode.specs.Request.{is_lawful_request}
 use Rattle.fsb_signal.specs.declared.lines.TheConstants.Lines.{ADS}
@@ -8,8 +7,8 @@ use Rattle.fsb_trace.specs.At.{request_at}
 use Rattle.fsb_trace.specs.declared.who.Who.{Who}
 use Rattle.fsb_trace.proofs.Interface.{line_at-agree, request_at-agree, winner_at-agree}
 use Rattle.fsb_timely.specs.Growth.{GrowsTo}
-use Rattle.fsb_timely.specs.Runs.{Run, past_of, past_to, run_to}
-use Rattle.fsb_timely.specs.Starts.{request_begun, would_begin}
+use Rattle.fsb_timely.specs.Runs.{Run, run_to}
+use Rattle.fsb_timely.specs.Starts.{request_begun}
 use Rattle.fsb_timely.specs.Timely.{Timely}
 use Rattle.fsb_timely.proofs.Interface.{run_to-agrees}
 use Rattle.fsb_lawful.specs.Beginning.{KeepsBounds}
@@ -21,10 +20,7 @@ use Rattle.fsb_bench_run.specs.BenchOf.{IsBegunAt}
 pub begun-is : (r : Run) (q : ℕ) (who : Who) (request : Request) → q < length r.trace → IsBegunAt r q who request
     → begun_of r q ≡ Some request
 unfolding request_begun
-begun-is r q who request l k =
-    let v = (run_to r q).trace in
-    let win = winner_at-agree (q + 1) r.trace v q (run_to-agrees r q l) (omega arith) in
-    ap (option_and_then (would_begin (run_to r q) (past_to (past_of r) q) q)) (sym win ∙ k.winner) ∙ k.wanted
+begun-is r q who request l k = grind (arith, winner_at-agree, run_to-agrees)
 
 -- it is lawful
 pub begun-lawful : (r : Run) (q : ℕ) (who : Who) (request : Request) → KeepsBounds r.plan → q < length r.trace
@@ -37,16 +33,9 @@ pub begun-request : (r : Run) (q : ℕ) (who : Who) (request : Request) → Time
 begun-request r q who request timely bounds l k =
     let v = (run_to r q).trace in
     let here = sym (line_at-agree ADS (q + 1) r.trace v q (run_to-agrees r q (omega arith)) (omega arith)) ∙ k.begins in
-    let d = begun-decoded r q timely l here in
-    let same : Some d.0 ≡ Some request = sym d.1 ∙ begun-is r q who request (omega arith) k in
-    let lawful = begun-lawful r q who request bounds (omega arith) k in
-    let one : d.0 ≡ request = cc in
-    let decoded = d.2 (subst (λ x. is_lawful_request x ≡ true) (sym one) lawful) in
-    request_at-agree (suc q + 1) r.trace (run_to r (suc q)).trace q (run_to-agrees r (suc q) l) (omega arith)
-    ∙ decoded ∙ ap Some one
+    grind (arith, begun-decoded, begun-is, begun-lawful, request_at-agree, run_to-agrees)
 
 -- it stays as the run grows
 pub request-grown : (r s : Run) (q : ℕ) → GrowsTo r s → suc q < length r.trace
     → request_at s.trace q ≡ request_at r.trace q
-request-grown r s q grows l =
-    sym (request_at-agree (length r.trace) r.trace s.trace q (agree-grown r s grows) (omega arith))
+request-grown r s q grows l = grind (arith, request_at-agree, agree-grown)

@@ -1,5 +1,5 @@
 -- The bridge after a bench's clock is that of its longer run.
-use Rattle.std.proofs.Common.{ℕ, ◌≡◌, Bool, true, Option, Some, None, length, is_some, refl, sym, ap, subst, ◌∙◌, arith}
+use Rattle.std.proofs.Common.{ℕ, ◌≡◌, Bool, true, Option, length, is_some, sym, ap, subst, ◌∙◌, arith}
 use Rattle.std.specs.Option.{option_map_or}
 use Rattle.fsb_bridge.specs.Deferrals.{Bridged}
 use Rattle.fsb_bridge_run.specs.DeferralSteps.{after_cancellation, after_clock, after_reply, after_response}
@@ -33,29 +33,24 @@ use Rattle.fsb_bench_run.proofs.WaitingSnooped.{waiting-snooped}
 -- the window stays
 started-window : (bus : BusView) (clock : ℕ) (o : Option Starting)
     → (option_map_or (bus_started bus clock) o bus).bridge.window ≡ bus.bridge.window
-started-window bus clock None = refl
-started-window bus clock (Some x) = refl
+started-window bus clock o = grind arith
 
 cancelled-window : (bus : BusView) (o : Option Entry)
     → (option_map_or (bus_cancelled bus) o bus).bridge.window ≡ bus.bridge.window
-cancelled-window bus None = refl
-cancelled-window bus (Some x) = refl
+cancelled-window bus o = grind arith
 
 snooped-window : (bus : BusView) (o : Option SnoopSettled)
     → (option_map_or (bus_snooped bus) o bus).bridge.window ≡ bus.bridge.window
-snooped-window bus None = refl
-snooped-window bus (Some x) = refl
+snooped-window bus o = grind arith
 
 answered-window : (bus : BusView) (clock : ℕ) (o : Option Entry)
     → (option_map_or (bus_answered bus clock) o bus).bridge.window ≡ bus.bridge.window
-answered-window bus clock None = refl
-answered-window bus clock (Some x) = refl
+answered-window bus clock o = grind arith
 
 -- an end changes nothing of the bridge
 ended-bridge : (bus : BusView) (clock : ℕ) (o : Option Ending)
     → (option_map_or (bus_ended bus clock) o bus).bridge ≡ bus.bridge
-ended-bridge bus clock None = refl
-ended-bridge bus clock (Some x) = refl
+ended-bridge bus clock o = grind arith
 
 bridge-ended : (v : BenchView) (hold : Bool) → (step_ended v hold).bridge ≡ (step_answered v hold).bridge
 bridge-ended v hold = ended-bridge (step_answered v hold) (next_clock_of v) (step_ending v hold)

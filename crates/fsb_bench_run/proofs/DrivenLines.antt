@@ -1,16 +1,14 @@
 -- The lines of the sample that a bench makes.
-use Rattle.std.proofs.Common.{ℕ, ◌+◌, ◌*◌, ◌/◌, ◌%◌, ◌^◌, ◌<◌, ◌≤◌, ◌≡◌, Bool, true, false, not, Option, Some, None}
-use Rattle.std.proofs.Common.{List, [], ◌∷◌, ◌++◌, length, is_some, if◌then◌else◌, eqb, refl, sym, ap, ◌∙◌, arith}
-use Rattle.std.proofs.Common.{subst}
+use Rattle.std.proofs.Common.{ℕ, ◌+◌, ◌*◌, ◌/◌, ◌%◌, ◌^◌, ◌<◌, ◌≤◌, ◌≡◌, Bool, false, not, Option, Some, None, List}
+use Rattle.std.proofs.Common.{[], ◌∷◌, ◌++◌, length, is_some, if◌then◌else◌, eqb, sym, ap, ◌∙◌, arith, subst}
 use Rattle.std.specs.Int.RustNames.{bit_and}
-use Rattle.std.proofs.lemmas.Bool.{eqb-false, eqb-true}
 use Rattle.fsb_encode.specs.declared.request.Pair.{Pair}
 use Rattle.fsb_laws.proofs.Interface.{line_at-new, one_more}
 use Rattle.fsb_signal.specs.Samples.{has_line, line_at, response_of}
 use Rattle.fsb_signal.specs.declared.lines.Lines.{Lines}
 use Rattle.fsb_signal.specs.declared.lines.TheConstants.Lines.{ADS, AERR, AP0, AP1, BNR, BPRI, BREQ0, BREQ1, BREQ2}
-use Rattle.fsb_signal.specs.declared.lines.TheConstants.Lines.{BREQ3, DBSY, DEFER, DRDY, HIT, HITM, LOCK, RP, RS0, RS1}
-use Rattle.fsb_signal.specs.declared.lines.TheConstants.Lines.{RS2, TRDY}
+use Rattle.fsb_signal.specs.declared.lines.TheConstants.Lines.{BREQ3, DBSY, DEFER, DRDY, HIT, HITM, LOCK, RP, RS0}
+use Rattle.fsb_signal.specs.declared.lines.TheConstants.Lines.{RS1, RS2, TRDY}
 use Rattle.fsb_access.specs.declared.log.Done.{Done}
 use Rattle.fsb_hazard.specs.declared.choice.Choice.{Choice}
 use Rattle.fsb_timely.specs.Snoops.{is_keep}
@@ -40,23 +38,12 @@ defer_driven (Some s) = not (is_keep s.turn)
 abbrev pub parity_driven : ℕ → Pair → Bool → ℕ → Bool
 parity_driven profile pair ads k = bit_in (parity_bits profile pair ads) k
 
-snooped-bits : (o : Option SnoopSettled) (stall : Bool)
-    → (elim o [ Some s ↦ s.hit ∷ (s.hitm ∷ (not (is_keep s.turn) ∷ [])) | None ↦ stall ∷ (stall ∷ (false ∷ [])) ])
-    ≡ hit_driven o stall ∷ (hitm_driven o stall ∷ (defer_driven o ∷ []))
-snooped-bits None stall = refl
-snooped-bits (Some s) stall = refl
-
 three : (b : Bool) (x y z : Bool) (k : ℕ)
     → (if b then x ∷ (y ∷ (z ∷ [])) else false ∷ (false ∷ (false ∷ [])))
     ≡ bit_in (if b then x ∷ (y ∷ (z ∷ [])) else false ∷ (false ∷ (false ∷ []))) 0
     ∷ (bit_in (if b then x ∷ (y ∷ (z ∷ [])) else false ∷ (false ∷ (false ∷ []))) 1
     ∷ (bit_in (if b then x ∷ (y ∷ (z ∷ [])) else false ∷ (false ∷ (false ∷ []))) 2 ∷ []))
-three true x y z k = refl
-three false x y z k = refl
-
-parity-bits : (profile : ℕ) (pair : Pair) (ads : Bool) → parity_bits profile pair ads
-    ≡ parity_driven profile pair ads 0 ∷ (parity_driven profile pair ads 1 ∷ (parity_driven profile pair ads 2 ∷ []))
-parity-bits profile pair ads = three (eqb profile 2) _ _ _ 0
+three b x y z k = grind arith
 
 -- the bits, those of the snoop and of the parity one by one
 abbrev driven : BusView → ℕ → ℕ → Decided → Pair → List Bool
@@ -70,14 +57,7 @@ driven bus clock profile decided pair =
 
 all-driven : (bus : BusView) (clock profile : ℕ) (decided : Decided) (pair : Pair)
     → bits_driven bus clock profile decided pair ≡ driven bus clock profile decided pair
-all-driven bus clock profile decided pair =
-    ap (λ xs. request_bits bus clock decided
-    ++ (xs ++ (drive_bits decided.drive ++ parity_bits profile pair (is_some decided.starting))))
-    (snooped-bits decided.snooped decided.drive.stall)
-    ∙ ap (λ xs. request_bits bus clock decided ++ ((hit_driven decided.snooped decided.drive.stall
-    ∷ (hitm_driven decided.snooped decided.drive.stall ∷ (defer_driven decided.snooped ∷ []))) ++
-    (drive_bits decided.drive ++ xs)))
-    (parity-bits profile pair (is_some decided.starting))
+all-driven bus clock profile decided pair = grind arith
 
 -- a line of the sample by the place of its bit
 abbrev pub pair_of_clock : BusView → ℕ → Decided → Pair
@@ -179,16 +159,7 @@ rp-driven bus clock profile decided = bit-driven bus clock profile decided (pair
 -- the three bits of a code make the code
 eight : (n : ℕ) (b0 b1 b2 : Bool) → n < 8 → eqb (n % 2) 1 ≡ b0 → eqb (n / 2 % 2) 1 ≡ b1 → eqb (n / 4 % 2) 1 ≡ b2
     → 4 * (if b2 then 1 else 0) + 2 * (if b1 then 1 else 0) + (if b0 then 1 else 0) ≡ n
-eight n b0 b1 b2 l e0 e1 e2 =
-    let low = one-bit (n % 2) b0 (omega arith) e0 in
-    let mid = one-bit (n / 2 % 2) b1 (omega arith) e1 in
-    let high = one-bit (n / 4 % 2) b2 (omega arith) e2 in
-    rw (low, mid, high) (omega arith)
-  where
-    one-bit : (k : ℕ) (b : Bool) → k < 2 → eqb k 1 ≡ b → (if b then 1 else 0) ≡ k
-    one-bit k true m e = sym (eqb-true k 1 e)
-    one-bit k false m e =
-        let not_one = eqb-false k 1 e in omega arith
+eight n b0 b1 b2 l e0 e1 e2 = grind arith
 
 pub code-driven : (bus : BusView) (clock profile : ℕ) (decided : Decided) → decided.drive.rs < 8
     → response_of (sample_by bus clock profile decided) ≡ decided.drive.rs

@@ -1,8 +1,7 @@
 -- Where the priority agent wins the bus two clocks after nothing began, a reply is still due.
 use Rattle.std.proofs.Common.{ℕ, suc, ◌+◌, ◌-◌, ◌<◌, ◌≤◌, ◌≡◌, ◌&&◌, ◌||◌, Bool, true, false, not, List, Option, Some}
 use Rattle.std.proofs.Common.{None, is_some, length, nat_le, nat_lt, slice_index, refl, sym, ap, ◌∙◌, arith, inl, inr}
-use Rattle.std.proofs.lemmas.Bool.{and_from, and_parts, cases_lt, false_from_ne_true, le-leb, leb-true, lt-ltb}
-use Rattle.std.proofs.lemmas.Bool.{not-true, or_right}
+use Rattle.std.proofs.lemmas.Bool.{and_from, and_parts, cases_lt, false_from_ne_true, le-leb, lt-ltb, or_right}
 use Rattle.fsb_count.specs.Options.{is_before, is_some_and}
 use Rattle.fsb_count.proofs.Interface.{any_where-at, any_where-off, first_where-found, first_where-none}
 use Rattle.fsb_lawful.proofs.Interface as lawful
@@ -18,11 +17,11 @@ use Rattle.fsb_timely.specs.Starts.{due_number}
 use Rattle.fsb_timely.specs.Transfers.{settled_of}
 use Rattle.fsb_timely.proofs.Interface.{run_to-agrees, snoop-tied}
 use Rattle.fsb_trace.specs.Agree.{AgreeTo}
-use Rattle.fsb_trace.specs.At.{Trace, request_at}
+use Rattle.fsb_trace.specs.At.{Trace}
 use Rattle.fsb_trace.specs.Deferral.{answers, due_at, is_answered, is_due, later_of}
 use Rattle.fsb_trace.specs.Flight.{has_ended, is_dropped, is_in_flight, is_reply_to}
 use Rattle.fsb_trace.specs.Outcome.{is_deferral, is_settled_deferred, response_clock_of}
-use Rattle.fsb_trace.specs.Requests.{have_same_id, is_cancelled, is_live, is_reply, live_count, live_request_of}
+use Rattle.fsb_trace.specs.Requests.{have_same_id, is_cancelled, is_live, is_reply, live_count}
 use Rattle.fsb_trace.specs.Snoop.{snoop_end_of}
 use Rattle.fsb_trace.specs.Winner.{request_line_of, winner_at}
 use Rattle.fsb_trace.specs.declared.who.Who.TheVariants.{Priority}
@@ -46,11 +45,7 @@ agree-far r s d grows l =
 
 reply-ads : (w : Trace) (i q : ℕ) → is_reply_to w i q ≡ true → line_at ADS w q ≡ true
 unfolding is_reply_to
-reply-ads w i q e =
-    (and_parts (line_at ADS w q) (is_reply (request_at w q))
-    (and_parts (line_at ADS w q && is_reply (request_at w q)) (have_same_id (request_at w q) (live_request_of w i))
-    (and_parts
-    (line_at ADS w q && is_reply (request_at w q) && have_same_id (request_at w q) (live_request_of w i)) _ e).0).0).0
+reply-ads w i q e = grind arith
 
 -- a reply that began earlier is one there, too
 same-reply : (n : ℕ) (u w : Trace) (i s t q : ℕ) → AgreeTo n u w → snoop_end_of u i ≡ Some s
@@ -109,8 +104,7 @@ unanswered d c u w i s t agree size later e f below low quiet not_yet =
 response-parts : (o : Option ℕ) (later c : ℕ) → is_some_and o (λ t. nat_le (t + 1 + later) c) ≡ true
     → (t : ℕ) × (o ≡ Some t) × (t + 1 + later ≤ c)
 unfolding is_some_and
-response-parts None later c e = absurd (let no : ⊥ = cc in no)
-response-parts (Some t) later c e = (t, refl, leb-true (t + 1 + later) c e)
+response-parts o later c h1 = grind arith
 
 still-late : (o : Option ℕ) (t later other c : ℕ) → o ≡ Some t → later ≡ other → t + 1 + later ≤ c
     → is_some_and o (λ t. nat_le (t + 1 + other) c) ≡ true
@@ -122,11 +116,7 @@ due-parts : (w : Trace) (turns : List ℕ) (c i : ℕ) → is_due w turns c i �
     × (is_some_and (response_clock_of w i) (λ t. nat_le (t + 1 + later_of (slice_index turns i)) c) ≡ true)
     × (is_answered w c i ≡ false)
 unfolding is_due
-due-parts w turns c i e =
-    let late = is_some_and (response_clock_of w i) (λ t. nat_le (t + 1 + later_of (slice_index turns i)) c) in
-    let two = and_parts (is_settled_deferred w turns i && late) (not (is_answered w c i)) e in
-    let one = and_parts (is_settled_deferred w turns i) late two.0 in
-    (one.0, one.1, not-true (is_answered w c i) two.1)
+due-parts w turns c i e = grind arith
 
 due-from : (w : Trace) (turns : List ℕ) (c i : ℕ) → is_settled_deferred w turns i ≡ true
     → is_some_and (response_clock_of w i) (λ t. nat_le (t + 1 + later_of (slice_index turns i)) c) ≡ true

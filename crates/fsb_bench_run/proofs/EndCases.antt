@@ -1,6 +1,6 @@
 -- The end that a bench hears at its clock, if there is one, is that of its run.
 use Rattle.std.proofs.Common.{ℕ, ◌+◌, ◌<◌, ◌≡◌, ◌⊎◌, Bool, true, false, Option, Some, None, List, [], ◌∷◌, ◌++◌}
-use Rattle.std.proofs.Common.{is_none, is_some, length, refl, sym, ap, subst, ◌∙◌, arith, inl, inr}
+use Rattle.std.proofs.Common.{is_none, length, refl, sym, ap, subst, ◌∙◌, arith, inl, inr}
 use Rattle.std.specs.List.{find, slice_get}
 use Rattle.std.specs.Option.{option_and_then, option_map, option_map_or}
 use Rattle.std.proofs.lemmas.Bool.{both_ways}
@@ -25,14 +25,12 @@ use Rattle.fsb_timely.specs.Runs.{Run, past_of, requests_below}
 use Rattle.fsb_timely.proofs.Interface.{snoop-tied}
 use Rattle.fsb_trace.specs.Outcome.{is_deferral, settled_outcome_of}
 use Rattle.fsb_trace.specs.declared.outcome.Outcome.{Outcome}
-use Rattle.fsb_bench_view.specs.declared.beginning.Starting.{Starting}
 use Rattle.fsb_bench_view.specs.declared.decided.Ending.{Ending}
 use Rattle.fsb_bench_view.specs.declared.snoop.Served.{Served}
 use Rattle.fsb_bench_view.specs.declared.snoop.SnoopSettled.{SnoopSettled}
 use Rattle.fsb_bench_view.specs.BenchSteps.{step_answered, step_cancelled, step_decided, step_drive, step_ending}
-use Rattle.fsb_bench_view.specs.BenchSteps.{step_performed, step_phased, step_snooped, step_started}
-use Rattle.fsb_bench_view.specs.BusEvents.{answered_by, bus_answered, bus_cancelled, bus_snooped, bus_started}
-use Rattle.fsb_bench_view.specs.BusEvents.{ending_by}
+use Rattle.fsb_bench_view.specs.BenchSteps.{step_phased, step_snooped}
+use Rattle.fsb_bench_view.specs.BusEvents.{answered_by, bus_answered, bus_snooped, ending_by}
 use Rattle.fsb_bench_view.specs.BusViews.{BenchView, BusView, next_clock_of}
 use Rattle.fsb_bench_view.specs.BytesFetched.{head_outcome}
 use Rattle.fsb_bench_run.specs.BenchOf.{HasServed, IsServed, settled_entries}
@@ -42,45 +40,20 @@ use Rattle.fsb_bench_run.proofs.RunWith.{run_with}
 use Rattle.fsb_bench_run.proofs.SameBus.{same-performed}
 use Rattle.fsb_bench_run.proofs.StepWith.{IsStepWith}
 
--- the queue before an end is that before the clock
-started-queue : (bus : BusView) (clock : ℕ) (o : Option Starting)
-    → (option_map_or (bus_started bus clock) o bus).queue ≡ bus.queue
-started-queue bus clock None = refl
-started-queue bus clock (Some x) = refl
-
-cancelled-queue : (bus : BusView) (o : Option Entry) → (option_map_or (bus_cancelled bus) o bus).queue ≡ bus.queue
-cancelled-queue bus None = refl
-cancelled-queue bus (Some x) = refl
-
 snooped-queue : (bus : BusView) (o : Option SnoopSettled) → (option_map_or (bus_snooped bus) o bus).queue ≡ bus.queue
-snooped-queue bus None = refl
-snooped-queue bus (Some x) = refl
+snooped-queue bus o = grind arith
 
 answered-queue : (bus : BusView) (clock : ℕ) (o : Option Entry)
     → (option_map_or (bus_answered bus clock) o bus).queue ≡ bus.queue
-answered-queue bus clock None = refl
-answered-queue bus clock (Some x) = refl
+answered-queue bus clock o = grind arith
 
 pub queue-snooped : (v : BenchView) (hold : Bool) → (step_snooped v hold).queue ≡ v.bus.queue
-queue-snooped v hold =
-    snooped-queue (step_cancelled v hold) (step_decided v hold).snooped
-    ∙ cancelled-queue (step_started v hold) (step_decided v hold).cancelled
-    ∙ started-queue (step_performed v) (next_clock_of v) (step_decided v hold).starting ∙ (same-performed v).queue
+queue-snooped v hold = grind (arith, snooped-queue, same-performed)
 
 pub queue-answered : (v : BenchView) (hold : Bool) → (step_answered v hold).queue ≡ v.bus.queue
 queue-answered v hold =
     answered-queue (step_snooped v hold) (next_clock_of v) (answered_by (step_snooped v hold) (step_drive v))
     ∙ queue-snooped v hold
-
--- what is served before an end: what was, and that of the snoop end
-started-served : (bus : BusView) (clock : ℕ) (o : Option Starting)
-    → (option_map_or (bus_started bus clock) o bus).served ≡ bus.served
-started-served bus clock None = refl
-started-served bus clock (Some x) = refl
-
-cancelled-served : (bus : BusView) (o : Option Entry) → (option_map_or (bus_cancelled bus) o bus).served ≡ bus.served
-cancelled-served bus None = refl
-cancelled-served bus (Some x) = refl
 
 snooped-served : (bus : BusView) (x : Served) (o : Option SnoopSettled) → slice_get bus.served 0 ≡ Some x
     → slice_get (option_map_or (bus_snooped bus) o bus).served 0 ≡ Some x
@@ -91,19 +64,11 @@ snooped-served bus x (Some y) e = by bus.served e
     by [] f = absurd (let no : ⊥ = cc in no)
     by (z ∷ zs) f = f
 
-answered-served : (bus : BusView) (clock : ℕ) (o : Option Entry)
-    → (option_map_or (bus_answered bus clock) o bus).served ≡ bus.served
-answered-served bus clock None = refl
-answered-served bus clock (Some x) = refl
-
 pub served-cancelled : (v : BenchView) (hold : Bool) → (step_cancelled v hold).served ≡ v.bus.served
-served-cancelled v hold =
-    cancelled-served (step_started v hold) (step_decided v hold).cancelled
-    ∙ started-served (step_performed v) (next_clock_of v) (step_decided v hold).starting ∙ (same-performed v).served
+served-cancelled v hold = grind (arith, same-performed)
 
 pub served-unanswered : (v : BenchView) (hold : Bool) → (step_answered v hold).served ≡ (step_snooped v hold).served
-served-unanswered v hold =
-    answered-served (step_snooped v hold) (next_clock_of v) (answered_by (step_snooped v hold) (step_drive v))
+served-unanswered v hold = grind arith
 
 served-answered : (v : BenchView) (hold : Bool) (x : Served) → slice_get v.bus.served 0 ≡ Some x
     → slice_get (step_answered v hold).served 0 ≡ Some x
@@ -123,11 +88,7 @@ ending-none bus phased none = rw none refl
 pub head-settled : (queue : List Entry) (e : Entry) (o : Outcome) → slice_get queue 0 ≡ Some e → e.outcome ≡ Some o
     → (slice_get (settled_entries queue) 0 ≡ Some e) × (0 < length (settled_entries queue))
 head-settled [] e o at settled = absurd (let no : ⊥ = cc in no)
-head-settled (y ∷ queue) e o at settled =
-    let same : y ≡ e = cc in
-    let some : is_some y.outcome ≡ true = ap (λ (z : Entry). is_some z.outcome) same ∙ ap is_some settled in
-    let list : settled_entries (y ∷ queue) ≡ y ∷ settled_entries queue = rw some refl in
-    (ap (λ xs. slice_get xs 0) list ∙ ap Some same, rw list (omega arith))
+head-settled (y ∷ queue) e o at settled = grind arith
 
 -- a request ends at the clock
 pub record EndsHere (v : BenchView) (hold : Bool) (choice : Choice) (entries : List Done) : Type 0 where
@@ -208,8 +169,7 @@ end-cases v hold choice entries k h =
           let found = find-place (has_end_at s.trace n) queue c.place e c.at c.passes c.before in
           let head = head-ends r s queue c.place e k.grows h.timely f c.at c.passes in
           let d = ending-of r s queue c.place e k.grows h.timely f c.at c.passes in
-          let told : e.outcome ≡ settled_outcome_of r.trace (turns_in (past_of r).moments) d.number =
-          f.flight.settled c.place e c.at ∙ ap (settled_outcome_of r.trace (turns_in (past_of r).moments)) d.rank in
+          let told : e.outcome ≡ settled_outcome_of r.trace (turns_in (past_of r).moments) d.number = grind arith in
           let heard = λ (served : Served) (is : IsServed r e served).
           end-heard r s e served k.grows h k.bench.bounds d told (k.bench.entries.begun c.place e c.at) is in
           let tied = snoop-tied r d.number d.snoop d.settled in

@@ -1,8 +1,6 @@
 -- The end of a request that a bench tells its agents is that of its run.
-use Rattle.std.proofs.Common.{ℕ, ◌+◌, ◌≡◌, ◌≢◌, Bool, true, false, Option, Some, None, List, length, nat_eq, refl, sym}
-use Rattle.std.proofs.Common.{ap, subst, ◌∙◌, arith, if◌then◌else◌}
-use Rattle.std.specs.List.{find}
-use Rattle.std.specs.Option.{option_and_then, option_map}
+use Rattle.std.proofs.Common.{ℕ, ◌+◌, ◌≡◌, ◌≢◌, true, false, Option, Some, None, List, length, refl, sym, ap, subst}
+use Rattle.std.proofs.Common.{◌∙◌, arith}
 use Rattle.std.proofs.lemmas.Bool.{both_ways, ne_eqb}
 use Rattle.fsb_agent_run.specs.AgentClocks.{number_asked}
 use Rattle.fsb_agent_run.specs.Ending.{number_claimed, number_left, number_replied}
@@ -36,7 +34,6 @@ use Rattle.fsb_bench_run.specs.BenchOf.{IsBegunAt, IsServed}
 use Rattle.fsb_bench_run.proofs.BegunEvents.{begun-claim}
 use Rattle.fsb_bench_run.proofs.BegunRequests.{begun-request}
 use Rattle.fsb_bench_run.proofs.BegunStays.{before-growth}
-use Rattle.fsb_bench_run.proofs.DeferredBegun.{would-own}
 use Rattle.fsb_bench_run.proofs.EndPlaces.{IsEnding}
 use Rattle.fsb_bench_run.proofs.SnoopHeard.{answered-of, claim-told, reply-serves}
 use Rattle.fsb_bench_run.proofs.SnoopResult.{begun-reply-kind}
@@ -62,11 +59,7 @@ claimed-other p a n s claim claims other = rw (claims, ne_eqb claim.agent a othe
 claimed-deferred : (p : Past) (a n : ℕ) (s : SnoopEnd) (claim : Claim) → s.claim ≡ Some claim
     → is_deferral s.outcome ≡ true → number_left p a n s ≡ None
 unfolding number_left number_claimed
-claimed-deferred p a n s claim claims put_off = rw (claims, put_off, number_left) (by (nat_eq claim.agent a))
-  where
-    by : (b : Bool) → ◌≡◌ {A = Option ℕ} (if b then None else None) None
-    by true = refl
-    by false = refl
+claimed-deferred p a n s claim claims put_off = grind arith
 
 replied-other : (p : Past) (a n : ℕ) (s : SnoopEnd) (grant : Grant) → s.claim ≡ None → s.grant ≡ Some grant
     → grant.agent ≢ a → number_left p a n s ≡ None
@@ -82,8 +75,7 @@ pub asked-same : (p q : Past) (a c line : ℕ)
     → Rattle.fsb_timely.specs.Wants.owed p a c ≡ Rattle.fsb_timely.specs.Wants.owed q a c
     → number_asked p a c line ≡ number_asked q a c line
 unfolding number_asked
-asked-same p q a c line e = λ i. option_map (λ owing. owing.claim.first)
-    (find (λ owing. nat_eq owing.claim.line line) (e i))
+asked-same p q a c line e = grind arith
 
 one-of : (a b : ℕ) → Some a ≡ Some b → a ≡ b
 one-of a b e = cc
@@ -142,8 +134,7 @@ end-by r s e served (Symmetric agent) grows h bounds d told begun is =
     let plain = ap (λ o. is_reply o) (live-request r.trace d.number q d.old ∙ shown) ∙ want.no_reply in
     let itself : served_number r.trace turns (live_number_of r.trace q) ≡ Some d.number =
     ap (served_number r.trace turns) d.rank ∙ itself-served r.trace turns d.number plain in
-    let first : served.first ≡ q = one-of served.first q
-    (sym is.first ∙ ap (option_and_then (live_clock_of r.trace)) itself ∙ d.old) in
+    let first : served.first ≡ q = grind arith in
     let won = subst (λ x. IsBegunAt r x (Symmetric served.agent) served.request) first is.begun in
     let mine : b.0.agent ≡ served.agent = b.2 ∙ one-agent agent served.agent (sym begun.winner ∙ won.winner) in
     record {
@@ -183,8 +174,7 @@ end-by r s e served Priority grows h bounds d told begun is =
     asks j.2 in
     let grant : Grant = g.grant in
     let a : ℕ = grant.agent in
-    let mine : grant.agent ≡ served.agent =
-    g.agent ∙ would-own r served.first served.agent served.request bounds is.begun in
+    let mine : grant.agent ≡ served.agent = grind arith in
     let alike = going-alike n (past_of r) p (past-goes_on r s grows.next (before-growth r s grows)) in
     let asked = sym (asked-same (past_of r) p a d.snoop grant.line
     (owed-same n (past_of r) p a d.snoop alike (omega arith)))
@@ -197,12 +187,8 @@ end-by r s e served Priority grows h bounds d told begun is =
     let new_served = ending-served s n q k.end grant h k.ends k.snooped g.unclaimed g.grants in
     let new_asked = served-number s n grant h new.0 in
     let rank = (live-at s.trace d.number q d.first).number in
-    let same : Some new.0.end.first ≡ Some served.first =
-    sym new_served
-    ∙ ap (λ i. option_and_then (live_clock_of s.trace) (served_number s.trace (turns_in p.moments) i)) rank
-    ∙ old_served ∙ sym old_asked ∙ asked in
-    let left : number_asked p served.agent n grant.line ≡ Some served.first =
-    subst (λ b. number_asked p b n grant.line ≡ Some served.first) mine (new_asked ∙ same) in
+    let same : Some new.0.end.first ≡ Some served.first = grind arith in
+    let left : number_asked p served.agent n grant.line ≡ Some served.first = grind arith in
     record {
       end = k.end;
       outcome = told ∙ k.tied.outcome;

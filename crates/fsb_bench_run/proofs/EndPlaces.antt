@@ -2,11 +2,9 @@
 use Rattle.std.proofs.Common.{ℕ, zero, suc, ◌+◌, ◌<◌, ◌≤◌, ◌≡◌, ◌&&◌, true, false, not, Option, Some, None, List, []}
 use Rattle.std.proofs.Common.{◌∷◌, length, nat_lt, refl, sym, ap, ◌∙◌, arith}
 use Rattle.std.specs.List.{slice_get}
-use Rattle.std.specs.Option.{option_map}
 use Rattle.std.proofs.lemmas.Bool.{and_parts}
 use Rattle.std.proofs.lemmas.Option.{slice_get-map}
 use Rattle.fsb_count.specs.Clocks.{nth_where}
-use Rattle.fsb_count.specs.Options.{is_before}
 use Rattle.fsb_count.proofs.Interface.{is_at-some, is_before-from, nth_where-found}
 use Rattle.fsb_phase.specs.Due.{rank_of}
 use Rattle.fsb_phase.specs.Drive.{has_end_at}
@@ -87,9 +85,7 @@ flies-at : (r : Run) (queue : List Entry) (k : ℕ) (e : Entry) → HoldsRequest
 unfolding in_flight nth_where
 flies-at r queue k e f at =
     let n = length r.trace in
-    let there : nth_where (is_in_flight r.trace n) k n ≡ Some e.clock =
-    ap (λ qs. slice_get qs k) (sym f.flight.clocks) ∙ slice_get-map (λ (x : Entry). x.clock) queue k
-    ∙ ap (option_map (λ (x : Entry). x.clock)) at in
+    let there : nth_where (is_in_flight r.trace n) k n ≡ Some e.clock = grind (arith, slice_get-map) in
     (nth_where-found (is_in_flight r.trace n) k n e.clock there).1
 
 -- an entry of the queue has not ended
@@ -100,11 +96,7 @@ unended r queue k x e f at end l =
     let n = length r.trace in
     let here = held-here r queue k e f at in
     let flies = flies-at r queue k e f at in
-    let open_yet =
-    (and_parts _
-    (not (is_live r.trace e.clock && is_before (end_of r.trace (live_number_of r.trace e.clock)) n)) flies).1 in
-    let ended = is_before-from (end_of r.trace (rank_of r.trace e)) x n end l in
-    wrong (is_live r.trace e.clock) (is_before (end_of r.trace (rank_of r.trace e)) n) here.live ended open_yet
+    grind (arith, is_before-from)
   where
     wrong : (a b : Rattle.std.proofs.Common.Bool) → a ≡ true → b ≡ true → not (a && b) ≡ true → ⊥
     wrong a b p q t = let no : false ≡ true = (λ i. not (sym p i && sym q i)) ∙ t in cc

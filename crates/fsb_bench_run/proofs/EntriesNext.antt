@@ -1,6 +1,5 @@
 -- Each entry of the queue after a bench's clock is of the request that began at its clock.
-use Rattle.std.proofs.Common.{◌≡◌, Bool, true, false, if◌then◌else◌, map, Some, slice_get, refl, sym, ap, subst, ◌∙◌}
-use Rattle.std.proofs.Common.{inl, inr}
+use Rattle.std.proofs.Common.{◌≡◌, Bool, map, slice_get, refl, sym, ap, subst, ◌∙◌, inl, inr, arith}
 use Rattle.std.proofs.lemmas.Option.{slice_get-map}
 use Rattle.fsb_flight.specs.GoesOn.{goes_on, settles, stays_in_flight}
 use Rattle.fsb_flight.specs.Steps.{begun_list}
@@ -32,18 +31,11 @@ record IsSameRequest (e z : Entry) : Type 0 where
 -- an entry that is settled stays that of its request
 settled-same : (h : Trace) (x : Sample) (o : Outcome) (e : Entry) → IsSameRequest (settles h x o e) e
 unfolding settles
-settled-same h x o e = by _
-  where
-    by : (b : Bool) → IsSameRequest (if b then record e { outcome = Some o } else e) e
-    by true = record { clock = refl; who = refl; request = refl }
-    by false = record { clock = refl; who = refl; request = refl }
+settled-same h x o e = grind arith
 
 begun-same : (s : Run) (e z : Entry) → IsSameRequest e z → IsBegunAt s z.clock z.who z.request
     → IsBegunAt s e.clock e.who e.request
-begun-same s e z same b =
-    let one = subst (λ q. IsBegunAt s q z.who z.request) (sym same.clock) b in
-    let two = subst (λ w. IsBegunAt s e.clock w z.request) (sym same.who) one in
-    subst (λ x. IsBegunAt s e.clock e.who x) (sym same.request) two
+begun-same s e z same b = grind arith
 
 pub entries-next : (v : BenchView) (hold : Bool) (choice : Choice) → IsBenchOf v
     → HasBegun (step_queue v hold choice) (step_run v hold choice)

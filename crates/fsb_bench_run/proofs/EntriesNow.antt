@@ -1,18 +1,16 @@
 -- The entries of a clock, as what is completed there.
-use Rattle.std.proofs.Common.{ℕ, ◌<◌, ◌≡◌, ◌&&◌, Bool, true, false, Option, Some, None, List, [], ◌∷◌, ◌++◌, length}
-use Rattle.std.proofs.Common.{map, nat_eq, nat_le, nat_lt, refl, ap, ◌∙◌, arith, subst}
+use Rattle.std.proofs.Common.{ℕ, ◌≡◌, Bool, true, false, Option, List, [], ◌∷◌, ◌++◌, map, nat_eq, refl, ◌∙◌, arith}
+use Rattle.std.proofs.Common.{subst}
 use Rattle.std.specs.List.{filter, list_all, slice_get}
 use Rattle.std.specs.Option.{option_map_or}
-use Rattle.std.proofs.lemmas.Bool.{and_from, and_parts, ltb-true, ne_eqb, eq-eqb}
+use Rattle.std.proofs.lemmas.Bool.{and_from}
 use Rattle.std.proofs.lemmas.Option.{slice_get_past}
 use Rattle.std.proofs.lemmas.List.Elements.{filter-append}
 use Rattle.fsb_access.specs.declared.access.Access.{Access}
-use Rattle.fsb_access.specs.declared.access.Access.TheVariants.{Load, Store}
 use Rattle.fsb_access.specs.declared.access.Operand.{Operand}
-use Rattle.fsb_access.specs.declared.access.Operand.TheVariants.{Literal, LastPlus}
 use Rattle.fsb_access.specs.declared.item.Item.{Item}
 use Rattle.fsb_access.specs.declared.log.Done.{Done}
-use Rattle.fsb_access.specs.ScriptOrder.{Step, step_of, steps_of_item}
+use Rattle.fsb_access.specs.ScriptOrder.{Step, step_of}
 use Rattle.fsb_agent_view.specs.AgentViews.{AgentView}
 use Rattle.fsb_agent_view.specs.Completing.{completed_entries, hand_of, is_hit_by, next_steps, performed_entries}
 use Rattle.fsb_agent_view.specs.Completing.{steps_at}
@@ -34,47 +32,31 @@ pub old-off : (first n : ℕ) (log : List Done) → is_in_time first n log ≡ t
     → filter (λ (done : Done). nat_eq done.clock n) log ≡ []
 unfolding is_in_time
 old-off first n [] e = refl
-old-off first n (done ∷ log) e =
-    let parts = and_parts (nat_le first done.clock) (nat_lt done.clock n && is_in_time done.clock n log) e in
-    let rest = and_parts (nat_lt done.clock n) (is_in_time done.clock n log) parts.1 in
-    let below : done.clock < n = ltb-true done.clock n rest.0 in
-    rw (ne_eqb done.clock n (λ f. omega arith)) (old-off done.clock n log rest.1)
+old-off first n (done ∷ log) e = grind (arith, old-off done.clock n log)
 
 pub new-on : (n : ℕ) (log : List Done) → list_all (λ (done : Done). nat_eq done.clock n) log ≡ true
     → filter (λ (done : Done). nat_eq done.clock n) log ≡ log
 new-on n [] e = refl
-new-on n (done ∷ log) e =
-    let parts = and_parts (nat_eq done.clock n) (list_all (λ (done : Done). nat_eq done.clock n) log) e in
-    rw parts.0 (ap (λ xs. done ∷ xs) (new-on n log parts.1))
+new-on n (done ∷ log) e = grind (arith, new-on n log)
 
 -- the entries of the new clock are those that come
 pub entries-there : (p : Past) (n : ℕ) (old new : List Done) → p.log ≡ old ++ new → is_in_time 0 n old ≡ true
     → list_all (λ (done : Done). nat_eq done.clock n) new ≡ true → entries_at p n ≡ map completed_of new
 unfolding entries_at
-entries-there p n old new e early at =
-    let off = old-off 0 n old early in
-    let on = new-on n new at in
-    ap (λ xs. map completed_of (filter (λ (done : Done). nat_eq done.clock n) xs)) e
-    ∙ ap (map completed_of) (filter-append (λ (done : Done). nat_eq done.clock n) old new)
-    ∙ (λ i. map completed_of (off i ++ on i))
+entries-there p n old new e early at = grind (arith, old-off, new-on, filter-append)
 
 -- equal lists of what is completed are the same
 operand-same : (x : Operand) → is_operand x x ≡ true
 unfolding is_operand
-operand-same (Literal n) = eq-eqb n n refl
-operand-same (LastPlus n) = eq-eqb n n refl
+operand-same x = grind arith
 
 access-same : (x : Access) → is_access x x ≡ true
 unfolding is_access
-access-same (Load size addr) = and_from _ _ (eq-eqb size size refl) (eq-eqb addr addr refl)
-access-same (Store size addr value) =
-    and_from _ _ (and_from _ _ (eq-eqb size size refl) (eq-eqb addr addr refl)) (operand-same value)
+access-same x = grind (arith, operand-same)
 
 completed-same : (x : Completed) → is_completed x x ≡ true
 unfolding is_completed
-completed-same x =
-    and_from _ _ (and_from _ _ (and_from _ _ (eq-eqb x.agent x.agent refl) (eq-eqb x.step.item x.step.item refl))
-    (eq-eqb x.step.part x.step.part refl)) (access-same x.step.access)
+completed-same x = grind (arith, access-same)
 
 pub all-completed : (xs : List Completed) → are_completed xs xs ≡ true
 unfolding are_completed
@@ -92,9 +74,7 @@ steps_completed a steps = map {B = Completed} (λ step. record { agent = a; step
 hand-completed : (a clock : ℕ) (hand : AtHand) (steps : List Step)
     → map completed_of (entries_at_hand a clock hand steps) ≡ steps_completed a steps
 hand-completed a clock hand [] = refl
-hand-completed a clock hand (step ∷ steps) =
-    let rest = hand-completed a clock (hand_after hand step.access) steps in
-    let first : Completed = record { agent = a; step = step } in ap (λ xs. first ∷ xs) rest
+hand-completed a clock hand (step ∷ steps) = grind (arith, hand-completed a clock (hand_after hand step.access) steps)
 
 -- what an agent completes with its next item
 next-by : (items : List Item) (a : ℕ) (number : Option ℕ)
@@ -102,15 +82,7 @@ next-by : (items : List Item) (a : ℕ) (number : Option ℕ)
     ≡ option_map_or (λ n. option_map_or (completed_of_item a n) (Rattle.std.specs.Option.option_and_then
     (slice_get items) number) []) number []
 unfolding completed_of_item
-next-by items a None =
-    ap (λ o. steps_completed a (option_map_or (steps_of_item (length items)) o [])) (slice_get_past items
-    (length items) (omega arith))
-next-by items a (Some n) = by (slice_get items n)
-  where
-    by : (o : Option Item) → steps_completed a (option_map_or (steps_of_item n) o [])
-        ≡ option_map_or (λ item. steps_completed a (steps_of_item n item)) o []
-    by None = refl
-    by (Some item) = refl
+next-by items a number = grind (arith, slice_get_past)
 
 pub completes-by : (p : Past) (a n clock : ℕ) (w : AgentView) → w.number ≡ a → w.items ≡ items_of p a
     → w.place ≡ place_of (items_of p a) (next_number p a n)

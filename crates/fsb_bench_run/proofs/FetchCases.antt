@@ -1,19 +1,18 @@
 -- Whose bytes a bench fetches for a response: those of the request that responds, where an agent may give them; and
 -- where it fetches none of an agent, none gives any.
-use Rattle.std.proofs.Common.{ℕ, ◌+◌, ◌≡◌, ◌≢◌, ◌⊎◌, Bool, false, Option, Some, None, refl, sym, ap, subst, ◌∙◌, arith}
-use Rattle.std.proofs.Common.{inl, inr}
+use Rattle.std.proofs.Common.{ℕ, ◌+◌, ◌≡◌, ◌≢◌, ◌⊎◌, Bool, false, Some, None, refl, sym, ap, subst, ◌∙◌, arith, inl}
+use Rattle.std.proofs.Common.{inr}
 use Rattle.std.specs.List.{slice_get}
 use Rattle.std.specs.Option.{option_and_then, option_map, option_map_or}
 use Rattle.fsb_agent_run.specs.AgentClocks.{giver_after_snoop, giver_of}
 use Rattle.fsb_agent_run.specs.BytesOwed.{is_given_below}
 use Rattle.fsb_agent_run.proofs.Interface.{given-named}
 use Rattle.fsb_agent_view.specs.AgentEvents.{HandedOn}
-use Rattle.fsb_coherent.specs.Awaits.{Awaited, awaited_by, responded_in, snoop_end_below}
+use Rattle.fsb_coherent.specs.Awaits.{responded_in, snoop_end_below}
 use Rattle.fsb_coherent.specs.Relation.{giver_at}
-use Rattle.fsb_count.specs.Clocks.{first_where}
 use Rattle.fsb_count.specs.Options.{is_at, is_some_and}
 use Rattle.fsb_hazard.specs.declared.choice.Choice.{Choice}
-use Rattle.fsb_lawful.proofs.Interface.{and-then, get-there}
+use Rattle.fsb_lawful.proofs.Interface.{get-there}
 use Rattle.fsb_phase.specs.Due.{has_response}
 use Rattle.fsb_phase.specs.Drive.{drive_of, settled_code}
 use Rattle.fsb_phase.specs.declared.drive.Drive.{Drive}
@@ -22,8 +21,6 @@ use Rattle.fsb_phase_run.proofs.Interface.{code-shown, responded-now}
 use Rattle.fsb_queue.specs.declared.entry.Entry.{Entry}
 use Rattle.fsb_run_laws.specs.Reaches.{Reaches}
 use Rattle.fsb_signal.specs.Samples.{response_of}
-use Rattle.fsb_timely.specs.Grants.{snooped_at}
-use Rattle.fsb_timely.specs.Moments.{is_snoop_of}
 use Rattle.fsb_timely.specs.Past.{Past, SnoopEnd}
 use Rattle.fsb_timely.specs.Runs.{Run, past_of}
 use Rattle.fsb_trace.specs.Outcome.{response_code_of}
@@ -59,16 +56,7 @@ pub record FetchesNone (v : BenchView) (s : Run) : Type 0 where
 giver-none : (p : Past) (n q : ℕ) (end : SnoopEnd) → snoop_end_below p (n + 1) q ≡ Some end
     → ((line t a : ℕ) → giver_at p line t a end ≡ None) → giver_of p n q ≡ None
 unfolding snoop_end_below giver_of giver_after_snoop
-giver-none p n q end below none =
-    let test : ℕ → Bool = λ t. is_some_and (snooped_at p t) (is_snoop_of q) in
-    let k = and-then (snooped_at p) (first_where test (n + 1)) end below in
-    ap (option_and_then (λ t. option_and_then (giver_after_snoop p t) (snooped_at p t))) k.1
-    ∙ ap (option_and_then (giver_after_snoop p k.0)) k.2 ∙ by k.0 (awaited_by end)
-  where
-    by : (t : ℕ) (o : Option Awaited)
-        → option_and_then (λ (awaited : Awaited). giver_at p awaited.line t awaited.agent end) o ≡ None
-    by t None = refl
-    by t (Some awaited) = none awaited.line t awaited.agent
+giver-none p n q end below none = grind arith
 
 -- so no agent gives bytes to it where it responds
 none-gives : (s : Run) (a n q : ℕ) (end : SnoopEnd) → Reaches s (n + 1) → responded_in (past_of s) n ≡ Some q
@@ -84,14 +72,7 @@ none-gives s a n q end h responds below none =
 source-by : (bus : BusView) (drive : Drive) (served : Served) (o : Outcome) → drive.rs ≡ response_code_of o
     → slice_get bus.served 0 ≡ Some served → head_outcome bus ≡ Some o → bytes_source bus drive ≡ from_for served o
 unfolding response_code_of
-source-by bus drive served Granted code first head = rw (code, first, head) refl
-source-by bus drive served Handed code first head = rw (code, first, head) refl
-source-by bus drive served Retried code first head = rw (code, first, head) refl
-source-by bus drive served Deferred code first head = rw (code, first, head) refl
-source-by bus drive served Written code first head = rw (code, first, head) refl
-source-by bus drive served Replied code first head = rw (code, first, head) refl
-source-by bus drive served Failed code first head = rw (code, first, head) refl
-source-by bus drive served Upgraded code first head = rw (code, first, head) refl
+source-by bus drive served o h1 h2 h3 = grind arith
 
 -- where no code is driven nothing is fetched
 source-none : (bus : BusView) (drive : Drive) → drive.rs ≡ 0 → bytes_source bus drive ≡ None

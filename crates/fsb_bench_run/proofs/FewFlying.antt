@@ -1,62 +1,43 @@
 -- At most eight requests are in flight.
 use Rattle.std.proofs.Common.{ℕ, zero, suc, ◌<◌, ◌≤◌, ◌≡◌, Bool, true, false, not, cond, List, [], ◌∷◌, ◌++◌, filter}
-use Rattle.std.proofs.Common.{take, Some, length, refl, sym, ap, subst, ◌∙◌, add-one, arith, inl, inr}
+use Rattle.std.proofs.Common.{take, Some, length, refl, sym, ap, subst, ◌∙◌, add-one, arith}
 use Rattle.std.specs.List.{slice_get}
-use Rattle.std.proofs.lemmas.Bool.{and_parts, cases_Bool, ltb-true}
 use Rattle.std.proofs.lemmas.List.{length-append, length-map, take_all}
 use Rattle.std.proofs.lemmas.Option.{get_or_from_slice_get}
 use Rattle.std.proofs.Math.Seq.{take-suc}
 use Rattle.fsb_count.specs.Clocks.{all_where}
-use Rattle.fsb_lawful.proofs.Interface.{and4, get-there, orderly-at, same-beq}
+use Rattle.fsb_lawful.proofs.Interface.{get-there, orderly-at}
 use Rattle.fsb_laws.specs.Leaving.{leaves}
 use Rattle.fsb_laws.specs.OneMore.{OneMore}
 use Rattle.fsb_laws.specs.Orderly.{Orderly}
 use Rattle.fsb_laws.proofs.Interface.{in_flight-more, in_flight-now, line_at-new, one_more, orderly-empty}
 use Rattle.fsb_phase_run.specs.Holds.{HoldsRequests}
 use Rattle.fsb_queue.specs.declared.entry.Entry.{Entry}
-use Rattle.fsb_signal.specs.declared.lines.TheConstants.Lines.{ADS, BNR}
+use Rattle.fsb_signal.specs.declared.lines.TheConstants.Lines.{ADS}
 use Rattle.fsb_signal.specs.declared.sample.Sample.{Sample}
 use Rattle.fsb_signal.specs.Samples.{has_line, line_at}
-use Rattle.fsb_timely.specs.Past.{Past}
-use Rattle.fsb_timely.specs.Runs.{Run, past_of, past_to, run_to}
-use Rattle.fsb_timely.specs.Starts.{drives_ads, drives_pair, has_free_winner, has_room, is_spaced, may_begin}
-use Rattle.fsb_timely.specs.Starts.{starts_requests}
+use Rattle.fsb_timely.specs.Runs.{Run, run_to}
+use Rattle.fsb_timely.specs.Starts.{drives_ads, has_room, may_begin, starts_requests}
 use Rattle.fsb_timely.specs.Timely.{Timely, holds_at, holds_in}
-use Rattle.fsb_trace.specs.At.{Trace, line_back}
+use Rattle.fsb_trace.specs.At.{Trace}
 use Rattle.fsb_trace.specs.Flight.{in_flight}
 
 -- a list that is filtered is no longer, and shorter where an item does not pass
 pub filter-most : {X : Type 0} (test : X → Bool) (xs : List X) → length (filter test xs) ≤ length xs
 filter-most test [] = omega arith
-filter-most test (x ∷ xs) =
-    let rest = filter-most test xs in
-    elim (cases_Bool (test x)) [ inl on ↦ rw on (omega arith) | inr off ↦ rw off (omega arith) ]
+filter-most test (x ∷ xs) = grind (arith, filter-most test xs)
 
 pub filter-less : {X : Type 0} (test : X → Bool) (xs : List X) (k : ℕ) (x : X) → slice_get xs k ≡ Some x
     → test x ≡ false → length (filter test xs) < length xs
 filter-less test [] k x at off = absurd (let no : ⊥ = cc in no)
-filter-less test (y ∷ ys) zero x at off =
-    let same : y ≡ x = cc in
-    let fails : test y ≡ false = ap test same ∙ off in
-    let rest = filter-most test ys in
-    rw fails (omega arith)
-filter-less test (y ∷ ys) (suc k) x at off =
-    let rest = filter-less test ys k x at off in
-    elim (cases_Bool (test y)) [ inl on ↦ rw on (omega arith) | inr not_on ↦ rw not_on (omega arith) ]
+filter-less test (y ∷ ys) zero x at off = grind (arith, filter-most)
+filter-less test (y ∷ ys) (suc k) x at off = grind (arith, filter-less test ys k x at off)
 
 -- where a request begins there is room for it
 room-at : (r : Run) (c : ℕ) → Timely r → c < length r.trace → line_at ADS (run_to r c).trace c ≡ true
     → length (in_flight (run_to r c).trace c) < 8
 unfolding holds_at holds_in starts_requests drives_ads may_begin has_room
-room-at r c h l ads =
-    let v : Run = run_to r c in
-    let p : Past = past_to (past_of r) c in
-    let e : starts_requests v p c ≡ true = h.request_starts.at c l in
-    let same = same-beq (line_at ADS v.trace c) (may_begin v p c)
-    (and_parts (drives_ads v p c) (drives_pair v p c) e).0 in
-    let parts = and4 (is_spaced v c) (has_room v c) (not (line_back BNR v.trace c 2)) (has_free_winner v p c)
-    (sym same ∙ ads) in
-    ltb-true (length (in_flight v.trace c)) 8 parts.1
+room-at r c h l ads = grind arith
 
 orderly-cut : (r : Run) (m : ℕ) → Timely r → m ≤ length r.trace → Orderly (take m r.trace)
 unfolding run_to
@@ -73,16 +54,7 @@ few-more h x v m before after most room =
     let kept = filter-most (λ q. not (leaves h x v q)) (in_flight h (length h)) in
     let new = cond (has_line x ADS) (length h ∷ []) [] in
     let size = ap length (in_flight-more h x v m before after) ∙ length-append stay new in
-    elim (cases_Bool (has_line x ADS)) [
-      | inl on ↦
-          let less = room (line_at-new ADS h x v m ∙ on) in
-          let now = ap length (in_flight-now h x v m before) in
-          let one : length new ≡ 1 = ap (λ b. length (cond b (length h ∷ []) [])) on in
-          omega (arith, size, less, now, one, kept)
-      | inr off ↦
-          let none : length new ≡ 0 = ap (λ b. length (cond b (length h ∷ []) [])) off in
-          omega (arith, size, none, kept, most)
-    ]
+    grind (arith, line_at-new, in_flight-now)
 
 none-flying : (w : Trace) → length (in_flight (take zero w) (length (take zero w))) ≤ 8
 unfolding in_flight all_where
@@ -117,7 +89,4 @@ few-cut r (suc c) h l =
 pub few-held : (r : Run) (queue : List Entry) → Timely r → HoldsRequests queue r → length queue ≤ 8
 few-held r queue h f =
     let whole : take (length r.trace) r.trace ≡ r.trace = take_all (length r.trace) r.trace (omega arith) in
-    let most : length (in_flight r.trace (length r.trace)) ≤ 8 =
-    subst (λ w. length (in_flight w (length w)) ≤ 8) whole (few-cut r (length r.trace) h (omega arith)) in
-    let size = sym (length-map queue (λ (e : Entry). e.clock)) ∙ ap length f.flight.clocks in
-    omega (arith, most, size)
+    grind (arith, few-cut, length-map)

@@ -1,5 +1,5 @@
 -- The first bench of a plan stands for its run, which is empty.
-use Rattle.std.proofs.Common.{ℕ, zero, suc, ◌<◌, ◌≡◌, true, List, [], Option, Some, None, refl, subst, arith}
+use Rattle.std.proofs.Common.{ℕ, zero, suc, ◌<◌, ◌≡◌, true, List, [], Option, Some, refl, subst, arith}
 use Rattle.std.specs.List.{list_all, slice_get}
 use Rattle.std.proofs.lemmas.List.{get_or_past}
 use Rattle.fsb_access.specs.ScriptOrder.{script_of}
@@ -18,7 +18,7 @@ use Rattle.fsb_timely.specs.Completions.{is_in_time}
 use Rattle.fsb_timely.specs.Moments.{turns_in}
 use Rattle.fsb_timely.specs.Runs.{Run, moments_below, past_of, requests_below}
 use Rattle.fsb_timely.specs.Scripts.{items_of}
-use Rattle.fsb_timely.specs.Timely.{AtEachClock, Part, Timely}
+use Rattle.fsb_timely.specs.Timely.{Timely}
 use Rattle.fsb_trace.specs.Flight.{in_flight}
 use Rattle.fsb_bench_view.specs.FirstBench.{first_agent, first_agents, first_bench}
 use Rattle.fsb_bench_run.specs.BenchOf.{IsAgentNext, IsBenchOf}
@@ -29,33 +29,16 @@ use Rattle.fsb_bench_run.specs.LocksHeld.{keeps_into}
 abbrev empty : PlanView → Run
 empty plan = record { plan = plan; choices = []; holds = []; trace = []; log = [] }
 
-at-no-clock : (part : Part) (plan : PlanView) → AtEachClock part (empty plan)
-at-no-clock part plan = record { at = λ c l. absurd (omega (arith, l)) }
-
 empty-timely : (plan : PlanView) → Timely (empty plan)
 unfolding requests_below count_where is_in_time
-empty-timely plan = record {
-  known = refl;
-  one_hold = refl;
-  one_choice = refl;
-  in_time = refl;
-  request_starts = at-no-clock _ plan;
-  request_lines = at-no-clock _ plan;
-  hazard_lines = at-no-clock _ plan;
-  snoop_results = at-no-clock _ plan;
-  responses_and_data = at-no-clock _ plan;
-  completions = at-no-clock _ plan;
-  bus_lock = at-no-clock _ plan;
-  parity = at-no-clock _ plan;
-}
+empty-timely plan = grind arith
 
 -- each script is lawful, and so is the empty one of an agent that has none
 lawful-script : (plan : PlanView) (a : ℕ) (o : Option (List Item))
     → list_all (is_lawful_script plan.cache) plan.scripts ≡ true → slice_get plan.scripts a ≡ o
     → is_lawful_script plan.cache (script_of plan.scripts a) ≡ true
 unfolding is_lawful_script
-lawful-script plan a None all e = rw e refl
-lawful-script plan a (Some items) all e = rw e (all-at (is_lawful_script plan.cache) plan.scripts a items all e)
+lawful-script plan a o h1 h2 = grind (arith, all-at)
 
 -- an agent before any event
 first-next : (plan : PlanView) (a : ℕ) → IsBenchPlan plan → a < 4 → IsAgentNext (empty plan) a (first_agent plan a)
@@ -121,13 +104,7 @@ first-stands plan k = record {
 
 -- what is read from a bench file keeps the bounds
 some-lines : (n : ℕ) → is_cache n ≡ true → 0 < n
-some-lines zero e = absurd (let no : ⊥ = cc in no)
-some-lines (suc n) e = omega arith
+some-lines n h1 = grind arith
 
 pub plan-keeps : (plan : Plan) → IsBenchPlan (plan_view plan)
-plan-keeps plan = record {
-  bounds = record { lawful_scripts = plan.lawful_scripts; few_ahead = plan.few_ahead };
-  some_lines = some-lines plan.cache plan.lawful_cache;
-  some_ahead = plan.some_ahead;
-  profile = plan.lawful_profile;
-}
+plan-keeps plan = grind arith

@@ -1,16 +1,13 @@
 -- Where an agent is in its script at a clock stays as its past goes on from that clock.
-use Rattle.std.proofs.Common.{ℕ, zero, suc, ◌+◌, ◌-◌, ◌<◌, ◌≤◌, ◌≡◌, Bool, true, false, ◌&&◌, ◌||◌, nat_eq, nat_le}
-use Rattle.std.proofs.Common.{List, [], ◌∷◌, ◌++◌, length, Option, Some, None, slice_get, refl, sym, ap, subst, ◌∙◌}
-use Rattle.std.proofs.Common.{arith}
-use Rattle.std.proofs.Math.Bool.{and-false, or-false}
-use Rattle.std.proofs.lemmas.Bool.{and_parts, leb-true, le-ltb}
+use Rattle.std.proofs.Common.{ℕ, zero, suc, ◌+◌, ◌-◌, ◌<◌, ◌≤◌, ◌≡◌, Bool, true, false, ◌&&◌, nat_eq, nat_le, List}
+use Rattle.std.proofs.Common.{[], ◌∷◌, ◌++◌, length, Option, Some, None, slice_get, refl, sym, ap, ◌∙◌, arith}
+use Rattle.std.proofs.lemmas.Bool.{and_parts}
 use Rattle.std.proofs.lemmas.List.{length-append}
 use Rattle.std.proofs.lemmas.List.Folds.{list_any-append}
 use Rattle.std.specs.List.{list_all, list_any}
-use Rattle.std.specs.Option.{option_and_then, option_map, option_map_or}
-use Rattle.fsb_access.specs.ScriptOrder.{script_of}
+use Rattle.std.specs.Option.{option_and_then}
 use Rattle.fsb_access.specs.declared.log.Done.{Done}
-use Rattle.fsb_agent_run.specs.RunViews.{IsPlacedIn, finished_by, place_of}
+use Rattle.fsb_agent_run.specs.RunViews.{IsPlacedIn}
 use Rattle.fsb_agent_view.specs.AgentViews.{AgentView}
 use Rattle.fsb_count.specs.Clocks.{last_where}
 use Rattle.fsb_count.specs.Options.{is_some_and}
@@ -18,35 +15,24 @@ use Rattle.fsb_count.proofs.Interface.{last_where-failed}
 use Rattle.fsb_signal.proofs.Interface.{slice_get-before}
 use Rattle.fsb_timely.specs.Growth.{GoesOn}
 use Rattle.fsb_timely.specs.Past.{Past}
-use Rattle.fsb_timely.specs.Scripts.{idle_clocks, idle_start, is_done_by, is_logged, items_of, last_done, number_after}
+use Rattle.fsb_timely.specs.Scripts.{idle_start, is_done_by, is_logged, items_of, last_done, number_after}
 use Rattle.fsb_timely.proofs.Interface.{last-same, last_where-found, next_number-alike}
 
 -- an entry of clock n or later is no entry below c
 done-later : (n a c : ℕ) (done : Done) → c ≤ n → nat_le n done.clock ≡ true → is_done_by a c done ≡ false
 unfolding is_done_by
-done-later n a c done l e =
-    let later : n ≤ done.clock = leb-true n done.clock e in
-    ap (λ b. nat_eq done.agent a && b) (le-ltb done.clock c (omega arith)) ∙ and-false (nat_eq done.agent a)
+done-later n a c done l e = grind arith
 
 none-logged : (n a c k : ℕ) (entries : List Done) → c ≤ n
     → list_all (λ (done : Done). nat_le n done.clock) entries ≡ true
     → list_any (λ (done : Done). is_done_by a c done && nat_eq done.item k) entries ≡ false
 none-logged n a c k [] l e = refl
-none-logged n a c k (done ∷ entries) l e =
-    let parts = and_parts (nat_le n done.clock) (list_all (λ (d : Done). nat_le n d.clock) entries) e in
-    let here = done-later n a c done l parts.0 in
-    let rest = none-logged n a c k entries l parts.1 in
-    λ i. (here i && nat_eq done.item k) || rest i
+none-logged n a c k (done ∷ entries) l e = grind (arith, done-later, none-logged n a c k entries l)
 
 -- what is logged below the clock
 pub logged-alike : (n : ℕ) (p q : Past) (a c k : ℕ) → GoesOn n p q → c ≤ n → is_logged p a c k ≡ is_logged q a c k
 unfolding is_logged
-logged-alike n p q a c k h l =
-    let test : Done → Bool = λ done. is_done_by a c done && nat_eq done.item k in
-    sym (ap (list_any test) h.more_log
-    ∙ list_any-append test p.log h.entries
-    ∙ ap (λ b. list_any test p.log || b) (none-logged n a c k h.entries l h.at_end)
-    ∙ or-false (list_any test p.log))
+logged-alike n p q a c k h l = grind (arith, list_any-append, none-logged)
 
 -- a stretch at the end in which nothing passes changes nothing
 last-flat : (test : ℕ → Bool) (m d : ℕ) → ((k : ℕ) → m ≤ k → k < m + d → test k ≡ false)
@@ -54,42 +40,30 @@ last-flat : (test : ℕ → Bool) (m d : ℕ) → ((k : ℕ) → m ≤ k → k <
 last-flat test m zero none = let e : m + 0 ≡ m = omega arith in ap (last_where test) e
 last-flat test m (suc d) none =
     let e : m + suc d ≡ suc (m + d) = omega arith in
-    ap (last_where test) e
-    ∙ last_where-failed test (m + d) (none (m + d) (omega arith) (omega arith))
-    ∙ last-flat test m d (λ k l h. none k l (omega arith))
+    grind (arith, last_where-failed, last-flat test m d)
 
 pub get-behind : {X : Type 0} (xs ys : List X) (j : ℕ) → slice_get (xs ++ ys) (length xs + j) ≡ slice_get ys j
 get-behind [] ys j = let e : 0 + j ≡ j = omega arith in ap (slice_get ys) e
-get-behind (x ∷ xs) ys j =
-    let e : suc (length xs) + j ≡ suc (length xs + j) = omega arith in
-    ap (slice_get (x ∷ (xs ++ ys))) e ∙ get-behind xs ys j
+get-behind (x ∷ xs) ys j = grind (arith, get-behind xs ys j)
 
 all-at : {X : Type 0} (test : X → Bool) (xs : List X) (j : ℕ) (x : X) → list_all test xs ≡ true
     → slice_get xs j ≡ Some x → test x ≡ true
 all-at test [] j x e f = absurd (let h : ⊥ = cc in h)
-all-at test (y ∷ ys) zero x e f =
-    let same : y ≡ x = cc in subst (λ z. test z ≡ true) same (and_parts (test y) (list_all test ys) e).0
+all-at test (y ∷ ys) zero x e f = grind arith
 all-at test (y ∷ ys) (suc j) x e f = all-at test ys j x (and_parts (test y) (list_all test ys) e).1 f
 
 later-by : (n a c : ℕ) (entries : List Done) (j : ℕ) → c ≤ n
     → list_all (λ (done : Done). nat_le n done.clock) entries ≡ true → (o : Option Done) → slice_get entries j ≡ o
     → is_some_and o (is_done_by a c) ≡ false
 unfolding is_some_and
-later-by n a c entries j l e None f = refl
-later-by n a c entries j l e (Some done) f =
-    done-later n a c done l (all-at (λ (d : Done). nat_le n d.clock) entries j done e f)
+later-by n a c entries j h1 h2 o h3 = grind (arith, done-later, all-at)
 
 -- past the old log no entry lies below c
 later-quiet : (n : ℕ) (p q : Past) (a c k : ℕ) → GoesOn n p q → c ≤ n → length p.log ≤ k
     → is_some_and (slice_get q.log k) (is_done_by a c) ≡ false
 later-quiet n p q a c k h l m =
     let e : length p.log + (k - length p.log) ≡ k = omega arith in
-    let behind : slice_get q.log k ≡ slice_get h.entries (k - length p.log) =
-    ap (λ xs. slice_get xs k) h.more_log
-    ∙ ap (slice_get (p.log ++ h.entries)) (sym e)
-    ∙ get-behind p.log h.entries (k - length p.log) in
-    ap (λ o. is_some_and o (is_done_by a c)) behind
-    ∙ later-by n a c h.entries (k - length p.log) l h.at_end (slice_get h.entries (k - length p.log)) refl
+    grind (arith, get-behind, later-by)
 
 entry-same : (n : ℕ) (p q : Past) (k : ℕ) → GoesOn n p q → k < length p.log → slice_get p.log k ≡ slice_get q.log k
 entry-same n p q k h l = sym (ap (λ xs. slice_get xs k) h.more_log ∙ slice_get-before p.log h.entries k l)
@@ -127,11 +101,4 @@ placed-alike n p q a c v h l k =
     let plan = h.same_plan in
     let number = next_number-alike n p q a c h l in
     let done = last_done-alike n p q a c h l in
-    record {
-      place = k.place ∙ (λ i. place_of (script_of (plan i).scripts a) (number i));
-      idle_to = k.idle_to
-          ∙ (λ i. option_map_or (λ (d : Done). d.clock + 1) (done i) 0
-          + idle_clocks (script_of (plan i).scripts a) (option_map_or (λ (d : Done). d.item + 1) (done i) 0)
-          (place_of (script_of (plan i).scripts a) (number i)));
-      finished = k.finished ∙ ap (option_map finished_by) done;
-    }
+    grind arith

@@ -1,12 +1,10 @@
 -- The record of an agent is that of the agent also in the run that has grown by a clock.
-use Rattle.std.proofs.Common.{ℕ, zero, suc, ◌+◌, ◌<◌, ◌≤◌, ◌≡◌, Bool, true, false, not, ◌&&◌, ◌||◌, nat_eq, nat_lt}
-use Rattle.std.proofs.Common.{nat_le, List, [], ◌∷◌, map, length, Option, Some, None, is_some, slice_get, refl, sym, ap}
-use Rattle.std.proofs.Common.{subst, ◌∙◌, inl, inr, arith}
-use Rattle.std.proofs.Math.Bool.{and-false, or-false}
-use Rattle.std.proofs.lemmas.Bool.{and_parts, cases_Bool, cases_lt, eq-eqb, eqb-true, le-ltb, leb-true, ltb-true}
+use Rattle.std.proofs.Common.{ℕ, zero, suc, ◌<◌, ◌≤◌, ◌≡◌, Bool, true, false, ◌&&◌, nat_eq, nat_lt, nat_le, List, []}
+use Rattle.std.proofs.Common.{◌∷◌, map, length, Option, Some, slice_get, refl, sym, ap, subst, ◌∙◌, arith}
+use Rattle.std.proofs.lemmas.Bool.{eq-eqb}
 use Rattle.std.proofs.lemmas.List.Folds.{list_any-append}
 use Rattle.std.specs.List.{filter, list_all, list_any}
-use Rattle.std.specs.Option.{option_and_then, option_map_or}
+use Rattle.std.specs.Option.{option_and_then}
 use Rattle.fsb_access.specs.ScriptOrder.{script_of}
 use Rattle.fsb_access.specs.declared.log.Done.{Done}
 use Rattle.fsb_agent_run.specs.RunViews.{is_awaited, is_won_below, one_if, owing_by, state_told}
@@ -16,7 +14,7 @@ use Rattle.fsb_agent_view.specs.declared.want.OwnRequest.{OwnRequest}
 use Rattle.fsb_coherent.specs.Awaits.{snoop_end_below}
 use Rattle.fsb_coherent.specs.Relation.{is_dirty_below, is_stored_below}
 use Rattle.fsb_coherent.proofs.Interface as coherent
-use Rattle.fsb_count.specs.Clocks.{AgreeBelow, first_where}
+use Rattle.fsb_count.specs.Clocks.{first_where}
 use Rattle.fsb_count.specs.Options.{is_some_and}
 use Rattle.fsb_count.proofs.Interface.{any_where-same, first_where-found, first_where-same}
 use Rattle.fsb_lawful.proofs.Interface as lawful
@@ -26,8 +24,8 @@ use Rattle.fsb_run_laws.proofs.Interface.{begun-wanted, owed-told}
 use Rattle.fsb_timely.specs.Grants.{ended_requests, is_end_at, is_ended, snooped_at}
 use Rattle.fsb_timely.specs.Growth.{GoesOn, GrowsTo}
 use Rattle.fsb_timely.specs.Hits.{is_store_on}
-use Rattle.fsb_timely.specs.Moments.{is_snoop_of, is_upgraded}
-use Rattle.fsb_timely.specs.Past.{Grant, Moment, Owing, Past, SnoopEnd}
+use Rattle.fsb_timely.specs.Moments.{is_snoop_of}
+use Rattle.fsb_timely.specs.Past.{Moment, Owing, Past}
 use Rattle.fsb_timely.specs.Runs.{Run, past_of}
 use Rattle.fsb_timely.specs.Scripts.{items_of}
 use Rattle.fsb_timely.specs.Wants.{outstanding_at, owed}
@@ -43,21 +41,15 @@ snooped-same n p q t h l = ap (option_and_then (λ (m : Moment). m.snooped)) (h.
 
 end-same : (n : ℕ) (p q : Past) (t x : ℕ) → Alike n p q → t < n → is_end_at p t x ≡ is_end_at q t x
 unfolding is_end_at ended_requests
-end-same n p q t x h l =
-    ap (λ o. list_any (nat_eq x) (option_map_or (λ (m : Moment). m.ended) o [])) (h.same_moments t l)
+end-same n p q t x h l = grind arith
 
 ended-same : (n : ℕ) (p q : Past) (c x : ℕ) → Alike n p q → c ≤ n → is_ended p c x ≡ is_ended q c x
 unfolding is_ended
-ended-same n p q c x h l =
-    any_where-same (λ t. is_end_at p t x) (λ t. is_end_at q t x) c
-    (record { same = λ t m. end-same n p q t x h (omega arith) })
+ended-same n p q c x h l = grind (arith, any_where-same, end-same)
 
 awaited-same : (n : ℕ) (p q : Past) (a line : ℕ) → Alike n p q → is_awaited p a line n n ≡ is_awaited q a line n n
 unfolding is_awaited
-awaited-same n p q a line h =
-    let latest = latest_grant-same n p q a line n h (omega arith) in
-    let ended : (x : ℕ) → is_ended p n x ≡ is_ended q n x = λ x. ended-same n p q n x h (omega arith) in
-    λ i. is_some_and (latest i) (λ (grant : Grant). not (ended grant.first i))
+awaited-same n p q a line h = grind (arith, latest_grant-same, ended-same)
 
 -- no entry that comes is a store below the clock
 none-stored : (q : Past) (n a line x : ℕ) (entries : List Done)
@@ -65,70 +57,30 @@ none-stored : (q : Past) (n a line x : ℕ) (entries : List Done)
     → list_any (λ (done : Done). is_store_on a line done && is_ended q done.clock x && nat_lt done.clock n) entries
     ≡ false
 none-stored q n a line x [] e = refl
-none-stored q n a line x (done ∷ entries) e =
-    let parts = and_parts (nat_le n done.clock) (list_all (λ (d : Done). nat_le n d.clock) entries) e in
-    let later : n ≤ done.clock = leb-true n done.clock parts.0 in
-    let here = ap (λ b. is_store_on a line done && is_ended q done.clock x && b) (le-ltb done.clock n (omega arith))
-    ∙ and-false (is_store_on a line done && is_ended q done.clock x) in
-    let rest = none-stored q n a line x entries parts.1 in
-    λ i. here i || rest i
+none-stored q n a line x (done ∷ entries) e = grind (arith, none-stored q n a line x entries)
 
 stored-test : (n : ℕ) (p q : Past) (a line x : ℕ) (done : Done) → Alike n p q
     → (is_store_on a line done && is_ended p done.clock x && nat_lt done.clock n)
     ≡ (is_store_on a line done && is_ended q done.clock x && nat_lt done.clock n)
-stored-test n p q a line x done h = elim (cases_lt done.clock n) [
-  | inl low ↦
-      let ended = ended-same n p q done.clock x h (omega arith) in
-      λ i. is_store_on a line done && ended i && nat_lt done.clock n
-  | inr late ↦
-      let off = le-ltb done.clock n (omega arith) in
-      ap (λ b. is_store_on a line done && is_ended p done.clock x && b) off
-      ∙ and-false (is_store_on a line done && is_ended p done.clock x)
-      ∙ sym (ap (λ b. is_store_on a line done && is_ended q done.clock x && b) off
-      ∙ and-false (is_store_on a line done && is_ended q done.clock x))
-]
+stored-test n p q a line x done h = grind (arith, ended-same)
 
 stored-same : (n : ℕ) (p q : Past) (a line x : ℕ) → GoesOn n p q
     → is_stored_below p a line n x ≡ is_stored_below q a line n x
 unfolding is_stored_below
-stored-same n p q a line x h =
-    let tests : (done : Done) → (is_store_on a line done && is_ended p done.clock x && nat_lt done.clock n)
-    ≡ (is_store_on a line done && is_ended q done.clock x && nat_lt done.clock n) =
-    λ done. stored-test n p q a line x done (going-alike n p q h) in
-    let test : Done → Bool = λ done. is_store_on a line done && is_ended q done.clock x && nat_lt done.clock n in
-    (λ i. list_any (λ done. tests done i) p.log)
-    ∙ sym (ap (list_any test) h.more_log
-    ∙ list_any-append test p.log h.entries
-    ∙ ap (λ b. list_any test p.log || b) (none-stored q n a line x h.entries h.at_end)
-    ∙ or-false (list_any test p.log))
+stored-same n p q a line x h = grind (arith, stored-test, list_any-append, none-stored)
 
 dirty-same : (n : ℕ) (p q : Past) (a line : ℕ) → GoesOn n p q → is_dirty_below p a line n ≡ is_dirty_below q a line n
 unfolding is_dirty_below
-dirty-same n p q a line h =
-    let exclusive = is_exclusive-same n p q a line n (going-alike n p q h) (omega arith) in
-    let latest = latest_grant-same n p q a line n (going-alike n p q h) (omega arith) in
-    let stored : (x : ℕ) → is_stored_below p a line n x ≡ is_stored_below q a line n x =
-    λ x. stored-same n p q a line x h in
-    λ i. exclusive i && is_some_and (latest i) (λ (grant : Grant). grant.owns || stored grant.first i)
+dirty-same n p q a line h = grind (arith, is_exclusive-same, latest_grant-same, stored-same)
 
 found-same : (n : ℕ) (p q : Past) (x : ℕ) → Alike n p q → (o : Option ℕ)
     → first_where (λ t. is_some_and (snooped_at p t) (is_snoop_of x)) n ≡ o
     → option_and_then (snooped_at p) o ≡ option_and_then (snooped_at q) o
-found-same n p q x h None e = refl
-found-same n p q x h (Some c) e =
-    snooped-same n p q c h (first_where-found (λ t. is_some_and (snooped_at p t) (is_snoop_of x)) n c e).0
+found-same n p q x h1 o h2 = grind (arith, snooped-same, first_where-found)
 
 won-same : (n : ℕ) (p q : Past) (x : ℕ) → Alike n p q → is_won_below p n x ≡ is_won_below q n x
 unfolding is_won_below snoop_end_below
-won-same n p q x h =
-    let f : ℕ → Bool = λ t. is_some_and (snooped_at p t) (is_snoop_of x) in
-    let g : ℕ → Bool = λ t. is_some_and (snooped_at q t) (is_snoop_of x) in
-    let tests : AgreeBelow n f g = record {
-      same = λ t l. ap (λ o. is_some_and o (is_snoop_of x)) (snooped-same n p q t h l);
-    } in
-    let end = found-same n p q x h (first_where f n) refl
-    ∙ ap (option_and_then (snooped_at q)) (first_where-same f g n tests) in
-    ap (λ o. is_some_and o (λ (s : SnoopEnd). is_upgraded s.outcome && is_some s.grant)) end
+won-same n p q x h = grind (arith, snooped-same, found-same, first_where-same)
 
 get-mapped : {X Y : Type 0} (f : X → Y) (xs : List X) (k : ℕ) (x : X) → slice_get xs k ≡ Some x
     → slice_get (map f xs) k ≡ Some (f x)
@@ -139,18 +91,7 @@ get-mapped f (y ∷ ys) (suc k) x e = get-mapped f ys k x e
 any-filtered : {X : Type 0} (test f : X → Bool) (xs : List X) → list_any test (filter f xs) ≡ true
     → list_any test xs ≡ true
 any-filtered test f [] e = e
-any-filtered test f (x ∷ xs) e = elim (cases_Bool (f x)) [
-  | inl t ↦ elim (cases_Bool (test x)) [
-    | inl u ↦ rw u refl
-    | inr v ↦
-        let e' : (test x || list_any test (filter f xs)) ≡ true = rw t at e in
-        let e'' : list_any test (filter f xs) ≡ true = rw v at e' in
-        rw v (any-filtered test f xs e'')
-  ]
-  | inr n ↦
-      let rest = any-filtered test f xs (rw n at e) in
-      elim (cases_Bool (test x)) [ inl u ↦ rw u refl | inr v ↦ rw v rest ]
-]
+any-filtered test f (x ∷ xs) e = grind (arith, any-filtered test f xs)
 
 second : (a b c d e : Bool) → (a && b && c && d && e) ≡ true → b ≡ true
 second true true c d e h = refl
@@ -177,12 +118,7 @@ out-below r a v k out h list at =
     (subst (λ xs. list_any test xs ≡ true) list one) in
     let told = subst (λ xs. list_any test xs ≡ true) (owed-told r n h) all in
     let k = lawful.any-from (is_outstanding r.trace n) (owing_begun p) test n told in
-    let below : k.0 < n = ltb-true k.0 n (began-below r.trace n k.0 k.1.there) in
-    let long = h.long in
-    let reaches : Reaches r (k.0 + 1) = record { timely = h.timely; bounds = h.bounds; long = omega arith } in
-    let first = (begun-wanted r k.0 k.1.given reaches k.1.gives).4 in
-    let same = eqb-true k.1.given.claim.first out.number k.1.passes in
-    omega (arith, first, same)
+    grind (arith, began-below, begun-wanted)
 
 -- a view stays that of its agent as the run grows by a clock: all that it says rests on the moments and entries
 -- below it

@@ -1,12 +1,11 @@
 -- The hazard lines of a clock are as they must be.
-use Rattle.std.proofs.Common.{ℕ, ◌+◌, ◌-◌, ◌<◌, ◌≤◌, ◌≡◌, ◌&&◌, ◌||◌, Bool, true, false, not, Option, Some, None, List}
-use Rattle.std.proofs.Common.{[], ◌∷◌, ◌++◌, length, is_none, is_some, nat_eq, nat_le, refl, sym, ap, ◌∙◌, arith, inl}
-use Rattle.std.proofs.Common.{inr, subst}
+use Rattle.std.proofs.Common.{ℕ, ◌+◌, ◌-◌, ◌<◌, ◌≤◌, ◌≡◌, ◌&&◌, ◌||◌, Bool, true, false, not, Option, Some, None}
+use Rattle.std.proofs.Common.{List, [], ◌∷◌, ◌++◌, length, is_none, is_some, nat_eq, nat_le, refl, sym, ap, ◌∙◌}
+use Rattle.std.proofs.Common.{arith, inl, inr, subst}
 use Rattle.std.specs.Bool.{beq}
 use Rattle.std.specs.List.{find, slice_get}
 use Rattle.std.specs.Option.{option_and_then, option_map, option_map_or}
-use Rattle.std.proofs.lemmas.Bool.{and_from, and_parts, both_ways, eq-eqb, eqb-true, false_from_ne_true, le-leb}
-use Rattle.std.proofs.lemmas.Bool.{leb-true}
+use Rattle.std.proofs.lemmas.Bool.{and_from, and_parts, both_ways, eqb-true, false_from_ne_true, le-leb, leb-true}
 use Rattle.fsb_count.specs.Clocks.{any_where}
 use Rattle.fsb_count.specs.Options.{is_some_and}
 use Rattle.fsb_count.proofs.Interface.{slice_get-end}
@@ -37,8 +36,9 @@ use Rattle.fsb_timely.specs.Growth.{GrowsTo}
 use Rattle.fsb_timely.specs.Moments.{choice_at, is_in_window, turns_in}
 use Rattle.fsb_timely.specs.Past.{SnoopEnd}
 use Rattle.fsb_timely.specs.Runs.{Run, past_of}
-use Rattle.fsb_timely.specs.Snoops.{drives_aerr, drives_bnr, drives_defer, drives_hazards, drives_stalls, is_bnr_chosen}
-use Rattle.fsb_timely.specs.Snoops.{is_error_chosen, is_keep, is_put_off, is_stall_chosen, keeps_snoop_lines}
+use Rattle.fsb_timely.specs.Snoops.{drives_aerr, drives_bnr, drives_defer, drives_hazards, drives_stalls}
+use Rattle.fsb_timely.specs.Snoops.{is_bnr_chosen, is_error_chosen, is_keep, is_put_off, is_stall_chosen}
+use Rattle.fsb_timely.specs.Snoops.{keeps_snoop_lines}
 use Rattle.fsb_timely.specs.Timely.{Timely, holds_at}
 use Rattle.fsb_phase_run.specs.Holds.{HoldsRequests}
 use Rattle.fsb_phase_run.proofs.Interface.{agree-grown, choice-same, entry-held, snoops-first, stall-drive}
@@ -118,13 +118,8 @@ error-entry v hold choice entries grows f t =
     let k = entry-held r v.bus.queue i q f clock (snoops-first r i grows.timely none) in
     let same : q ≡ k.entry.clock = one q k.entry.clock (sym clock ∙ k.clock) in
     let choice_is = f.entries.chosen k.place k.entry k.at ∙ ap (choice_at r.choices r.trace) (sym same)
-    ∙ choice-same r s q grows (omega arith) ads in (
-      k.place,
-      k.entry,
-      k.at,
-      and_from _ _ (ap (λ (c : Choice). c.aerr) choice_is
-          ∙ a.1) (eq-eqb (k.entry.clock + 3) n (omega arith)),
-    )
+    ∙ choice-same r s q grows (omega arith) ads in
+    grind arith
   where
     one : (a b : ℕ) → Some a ≡ Some b → a ≡ b
     one a b e = cc
@@ -182,8 +177,7 @@ decoded-now v hold choice entries b grows k =
     let e = k.now.entry in
     let c = snoop_end_of-clock s.trace (rank_of s.trace e) (next_clock_of v) k.told.is_end.reached in
     let above = c.above in
-    let first : c.clock ≡ e.clock = one c.clock e.clock (sym c.is_clock ∙ k.told.is_end.first
-    ∙ ap (λ q. Some q) k.told.first) in
+    let first : c.clock ≡ e.clock = grind arith in
     request-grown r s e.clock grows (omega arith)
     ∙ begun-request r e.clock e.who e.request b.timely b.bounds (omega arith) (b.entries.begun k.now.place e k.now.at)
   where
@@ -216,13 +210,11 @@ turn-now v hold choice entries b told grows k =
 -- DEFER#
 begun-keeps : (y : Entry) (d : Deferral) (o : Option Started) → defer_driven (option_map (snooped_reply y d) o) ≡ false
 unfolding is_keep
-begun-keeps y d None = refl
-begun-keeps y d (Some begun) = refl
+begun-keeps y d o = grind arith
 
 reply-keeps : (bus : BusView) (y : Entry) (o : Option Deferral)
     → defer_driven (option_and_then (snooped_for bus y) o) ≡ false
-reply-keeps bus y None = refl
-reply-keeps bus y (Some d) = begun-keeps y d (slice_get bus.started d.number)
+reply-keeps bus y o = grind (arith, begun-keeps)
 
 put-off-by : (v : BenchView) (hold : Bool) (choice : Choice) (entries : List Done) → IsBenchOf v
     → DeferralsTold v (run_with v hold choice entries)
@@ -307,8 +299,7 @@ lines-kept v hold choice entries grows f =
     ]
   where
     or-true : (b : Bool) → (b || true) ≡ true
-    or-true true = refl
-    or-true false = refl
+    or-true b = grind arith
 
 pub hazards-now : (v : BenchView) (hold : Bool) (choice : Choice) (entries : List Done) → IsBenchOf v
     → DeferralsTold v (run_with v hold choice entries)

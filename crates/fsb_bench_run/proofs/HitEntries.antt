@@ -1,13 +1,11 @@
 -- The entries of a clock that begin with those of the hits: each agent with a hit has the accesses of its next item
 -- there,
 -- and so the agents of the bench after the hits are those of the longer run.
-use Rattle.std.proofs.Common.{ℕ, zero, suc, ◌+◌, ◌-◌, ◌<◌, ◌≤◌, ◌≡◌, Bool, true, false, not, ◌&&◌, ◌||◌, nat_eq, nat_lt}
-use Rattle.std.proofs.Common.{Option, Some, None, List, [], ◌∷◌, ◌++◌, map, length, slice_get, refl, sym, ap, subst}
-use Rattle.std.proofs.Common.{◌∙◌, inl, inr, arith, append-nil}
+use Rattle.std.proofs.Common.{ℕ, zero, suc, ◌+◌, ◌-◌, ◌<◌, ◌≤◌, ◌≡◌, Bool, true, false, ◌&&◌, nat_eq, nat_lt, Option}
+use Rattle.std.proofs.Common.{Some, List, [], ◌∷◌, ◌++◌, length, slice_get, refl, sym, ap, subst, ◌∙◌, arith}
+use Rattle.std.proofs.Common.{append-nil}
 use Rattle.std.specs.List.{list_all, list_any}
-use Rattle.std.specs.Option.{option_and_then, option_map_or}
-use Rattle.std.proofs.lemmas.Bool.{and_parts, both_ways, cases_Bool, eq-eqb, eqb-true, lt-ltb, ne_eqb, not-true}
-use Rattle.std.proofs.lemmas.Bool.{or_cases, or_parts}
+use Rattle.std.proofs.lemmas.Bool.{and_parts, eq-eqb, eqb-true, lt-ltb, ne_eqb}
 use Rattle.std.proofs.lemmas.List.{map-append}
 use Rattle.std.proofs.lemmas.List.Elements.{filter-append}
 use Rattle.std.proofs.lemmas.Option.{slice_get_within}
@@ -15,12 +13,11 @@ use Rattle.fsb_access.specs.declared.access.Access.{Access}
 use Rattle.fsb_access.specs.declared.item.Item.{Item}
 use Rattle.fsb_access.specs.declared.item.Item.TheVariants.{One, Locked, Idle}
 use Rattle.fsb_access.specs.declared.log.Done.{Done}
-use Rattle.fsb_access.specs.ScriptOrder.{Step, script_of, step_of, steps_from, steps_of, steps_of_item}
+use Rattle.fsb_access.specs.ScriptOrder.{Step, script_of, steps_from, steps_of, steps_of_item}
 use Rattle.fsb_agent_view.specs.AgentViews.{AgentView}
-use Rattle.fsb_agent_view.specs.Completing.{completed_entries, hand_of, is_hit_by, next_steps, performed_entries}
-use Rattle.fsb_agent_view.specs.Completing.{steps_at}
+use Rattle.fsb_agent_view.specs.Completing.{is_hit_by, next_steps, performed_entries}
 use Rattle.fsb_agent_view.specs.Serving.{AtHand, entries_at_hand, hand_after}
-use Rattle.fsb_agent_run.specs.RunViews.{LogsItem, place_of}
+use Rattle.fsb_agent_run.specs.RunViews.{LogsItem}
 use Rattle.fsb_agent_run.specs.Stages.{IsViewAfterHit, IsViewOf}
 use Rattle.fsb_agent_run.proofs.Interface.{hit-by, performed-logged, placed-at}
 use Rattle.fsb_coherent.specs.Relation.{is_dirty_below}
@@ -28,15 +25,15 @@ use Rattle.fsb_coherent.proofs.Interface.{any-from, any-there, some-there}
 use Rattle.fsb_count.specs.Options.{is_some_and}
 use Rattle.fsb_count.proofs.Interface.{first_where-found}
 use Rattle.fsb_hazard.specs.declared.choice.Choice.{Choice}
-use Rattle.fsb_lawful.proofs.Interface.{all-at, and-then, some-and}
+use Rattle.fsb_lawful.proofs.Interface.{all-at}
 use Rattle.fsb_run_laws.specs.Reaches.{Reaches}
 use Rattle.fsb_script.specs.Bounds.{is_lawful_item, is_lawful_script, is_lock_size}
 use Rattle.fsb_timely.specs.Growth.{GoesOn, GrowsTo}
-use Rattle.fsb_timely.specs.Hits.{is_hit, is_served}
+use Rattle.fsb_timely.specs.Hits.{is_hit}
 use Rattle.fsb_timely.specs.Past.{Past}
 use Rattle.fsb_timely.specs.Runs.{Run, past_of}
-use Rattle.fsb_timely.specs.Scripts.{is_done_at, is_done_by, is_idle, is_idling, is_logged, is_logged_at, is_to_do}
-use Rattle.fsb_timely.specs.Scripts.{items_of, last_done, needs_of, next_item, next_number}
+use Rattle.fsb_timely.specs.Scripts.{is_done_at, is_done_by, is_idle, is_logged_at, is_to_do, items_of, last_done}
+use Rattle.fsb_timely.specs.Scripts.{next_item, next_number}
 use Rattle.fsb_timely.proofs.Interface.{at, is_hit-alike, last_where-found, last_where-from, next_number-alike}
 use Rattle.fsb_timely.proofs.Interface.{not-behind, past-goes_on}
 use Rattle.fsb_bench_view.specs.BenchSteps.{step_fetched}
@@ -62,14 +59,12 @@ pub record HasHitsFirst (v : BenchView) (entries : List Done) : Type 0 where
       → list_any (is_done_at a (next_clock_of v)) others ≡ false
 
 steps-append : (a : ℕ) (xs ys : List Done) → steps_of a (xs ++ ys) ≡ steps_of a xs ++ steps_of a ys
-steps-append a xs ys =
-    ap (map step_of) (filter-append (λ (done : Done). nat_eq done.agent a) xs ys) ∙ map-append step_of _ _
+steps-append a xs ys = grind (arith, filter-append, map-append)
 
 -- the entries of steps are those of their agent alone
 hand-own : (a clock : ℕ) (hand : AtHand) (steps : List Step) → steps_of a (entries_at_hand a clock hand steps) ≡ steps
 hand-own a clock hand [] = refl
-hand-own a clock hand (step ∷ steps) =
-    rw (eq-eqb a a refl) (ap (λ xs. step ∷ xs) (hand-own a clock (hand_after hand step.access) steps))
+hand-own a clock hand (step ∷ steps) = grind (arith, hand-own a clock (hand_after hand step.access) steps)
 
 hand-other : (a b clock : ℕ) (hand : AtHand) (steps : List Step) → nat_eq b a ≡ false
     → steps_of a (entries_at_hand b clock hand steps) ≡ []
@@ -78,18 +73,11 @@ hand-other a b clock hand (step ∷ steps) e = rw e (hand-other a b clock (hand_
 
 performed-other : (a clock : ℕ) (w : AgentView) → nat_eq w.number a ≡ false
     → steps_of a (performed_entries w clock) ≡ []
-performed-other a clock w e = by (is_hit_by w clock)
-  where
-    by : (b : Bool) → steps_of a (elim b [ true ↦ completed_entries w clock | false ↦ [] ]) ≡ []
-    by true = hand-other a w.number clock (hand_of w) (next_steps w) e
-    by false = refl
+performed-other a clock w e = grind (arith, hand-other)
 
 performed-own : (a clock : ℕ) (w : AgentView) → w.number ≡ a → is_hit_by w clock ≡ true
     → steps_of a (performed_entries w clock) ≡ next_steps w
-performed-own a clock w number hit =
-    (λ i. steps_of a (elim (hit i) [ true ↦ completed_entries w clock | false ↦ [] ]))
-    ∙ (λ i. steps_of (sym number i) (completed_entries w clock))
-    ∙ hand-own w.number clock (hand_of w) (next_steps w)
+performed-own a clock w number hit = grind (arith, hand-own)
 
 -- the agents have their numbers, from this one on
 abbrev AreNumbered : ℕ → List AgentView → Type 0
@@ -109,10 +97,7 @@ own-hits : (a k j clock : ℕ) (vs : List AgentView) (w : AgentView) → AreNumb
 own-hits a k j clock [] w are e same = absurd (let no : ⊥ = cc in no)
 own-hits a k zero clock (u ∷ vs) w are e same =
     let rest = none-own a (k + 1) clock vs (λ j w e. are (suc j) w e ∙ omega arith) (omega (arith, same)) in
-    let this : u ≡ w = cc in
-    steps-append a (performed_entries u clock) (hit_entries clock vs)
-    ∙ (λ i. steps_of a (performed_entries (this i) clock) ++ rest i)
-    ∙ append-nil (steps_of a (performed_entries w clock))
+    grind (arith, steps-append, append-nil)
 own-hits a k (suc j) clock (u ∷ vs) w are e same =
     let number = are 0 u refl in
     let here = performed-other a clock u (ne_eqb u.number a (λ f. omega (arith, number, f, same))) in
@@ -123,28 +108,11 @@ own-hits a k (suc j) clock (u ∷ vs) w are e same =
 no-steps : (a n : ℕ) (log : List Done) → AreOfClock n log → list_any (is_done_at a n) log ≡ false → steps_of a log ≡ []
 unfolding is_done_at
 no-steps a n [] now e = refl
-no-steps a n (done ∷ log) now e =
-    let parts = or_parts (nat_eq done.agent a && nat_eq done.clock n) (list_any (is_done_at a n) log) e in
-    let clocks = and_parts (nat_eq done.clock n) (list_all (λ (d : Done). nat_eq d.clock n) log) now in
-    let rest = no-steps a n log clocks.1 parts.1 in
-    elim (cases_Bool (nat_eq done.agent a)) [
-      | inr other ↦ rw other rest
-      | inl own ↦ absurd (both_ways (nat_eq done.agent a && nat_eq done.clock n) parts.0 (rw (own, clocks.0) refl))
-    ]
+no-steps a n (done ∷ log) now e = grind (arith, no-steps a n log)
 
 later-half : (clock : ℕ) (xs ys : List Done) → AreOfClock clock (xs ++ ys) → AreOfClock clock ys
 later-half clock [] ys h = h
-later-half clock (x ∷ xs) ys h =
-    later-half clock xs ys
-    (and_parts (nat_eq x.clock clock) (list_all (λ (done : Done). nat_eq done.clock clock) (xs ++ ys)) h).1
-
-with_true : (x y : Bool) → ((x && true) && y) ≡ (x && y)
-with_true true y = refl
-with_true false y = refl
-
-with_false : (x y : Bool) → ((x && false) && y) ≡ false
-with_false true y = refl
-with_false false y = refl
+later-half clock (x ∷ xs) ys h = grind (arith, later-half clock xs ys)
 
 -- whether an item is logged at a clock, by the steps there
 logged-steps : (a n m : ℕ) (log : List Done)
@@ -152,34 +120,17 @@ logged-steps : (a n m : ℕ) (log : List Done)
     ≡ list_any (λ (step : Step). nat_eq step.item m) (steps_of a (at n log))
 unfolding is_done_at
 logged-steps a n m [] = refl
-logged-steps a n m (done ∷ log) =
-    let rest = logged-steps a n m log in
-    elim (cases_Bool (nat_eq done.clock n)) [
-      | inr off ↦ rw off (λ i. with_false (nat_eq done.agent a) (nat_eq done.item m) i || rest i)
-      | inl on ↦ elim (cases_Bool (nat_eq done.agent a)) [
-        | inr other ↦ rw (on, other) rest
-        | inl own ↦ rw (on, own) (λ i. nat_eq done.item m || rest i)
-      ]
-    ]
+logged-steps a n m (done ∷ log) = grind (arith, logged-steps a n m log)
 
 -- the accesses of an item are of it
 from-item : (m n part : ℕ) (group : List Access)
     → list_any (λ (step : Step). nat_eq step.item m) (steps_from n part group) ≡ true → m ≡ n
 from-item m n part [] e = absurd (let no : ⊥ = cc in no)
-from-item m n part (access ∷ group) e =
-    elim (or_cases (nat_eq n m) (list_any (λ (step : Step). nat_eq step.item m) (steps_from n (part + 1) group)) e) [
-      | inl t ↦ sym (eqb-true n m t)
-      | inr t ↦ from-item m n (part + 1) group t
-    ]
+from-item m n part (access ∷ group) e = grind (arith, from-item m n (part + 1) group)
 
 of-item : (m n : ℕ) (item : Item) → list_any (λ (step : Step). nat_eq step.item m) (steps_of_item n item) ≡ true
     → m ≡ n
-of-item m n (One access) e = elim (or_cases (nat_eq n m) false e) [
-  | inl t ↦ sym (eqb-true n m t)
-  | inr t ↦ absurd (let no : ⊥ = cc in no)
-]
-of-item m n (Locked group) e = from-item m n 0 group e
-of-item m n (Idle clocks) e = absurd (let no : ⊥ = cc in no)
+of-item m n item h1 = grind (arith, from-item)
 
 -- an item that is to do has an access, where the script is lawful
 has-access : (cache n : ℕ) (item : Item) → is_lawful_item cache item ≡ true → is_idle item ≡ false
@@ -193,9 +144,7 @@ has-access cache n (Idle clocks) lawful e = absurd (let no : ⊥ = cc in no)
 script-lawful : (scripts : List (List Item)) (cache a : ℕ) (o : Option (List Item)) → slice_get scripts a ≡ o
     → list_all (is_lawful_script cache) scripts ≡ true → list_all (is_lawful_item cache) (script_of scripts a) ≡ true
 unfolding is_lawful_script
-script-lawful scripts cache a None e h = rw e refl
-script-lawful scripts cache a (Some items) e h =
-    rw e (and_parts _ (list_all (is_lawful_item cache) items) (all-at (is_lawful_script cache) scripts a items h e)).1
+script-lawful scripts cache a o h1 h2 = grind (arith, all-at)
 
 -- the next item of an agent, with its number
 record IsNextItem (p : Past) (a n : ℕ) : Type 0 where
@@ -208,24 +157,11 @@ record IsNextItem (p : Past) (a n : ℕ) : Type 0 where
 
 next-is : (p : Past) (a n : ℕ) (test : Item → Bool) → is_some_and (next_item p a n) test ≡ true → IsNextItem p a n
 unfolding next_item next_number is_to_do is_some_and
-next-is p a n test e =
-    let k = some-and (next_item p a n) test e in
-    let m = and-then (slice_get (items_of p a)) (next_number p a n) k.0 k.1 in
-    let found = first_where-found (is_to_do p a n) (length (items_of p a)) m.0 m.1 in
-    let active = (and_parts _ (not (is_logged p a n m.0)) found.1).0 in
-    record {
-      number = m.0;
-      next = m.1;
-      item = k.0;
-      there = m.2;
-      is_item = k.1;
-      active = not-true (is_idle k.0) (let active' = rw m.2 at active in active');
-    }
+next-is p a n test e = grind (arith, first_where-found)
 
 hit-next : (p : Past) (a n : ℕ) → is_hit p a n ≡ true → IsNextItem p a n
 unfolding is_hit
-hit-next p a n e =
-    next-is p a n (λ item. list_all (is_served p a n) (needs_of item)) (and_parts (not (is_idling p a n)) _ e).1
+hit-next p a n e = grind (arith, next-is)
 
 -- the last entry of an agent that has one among those that come at the clock
 record IsLastOf (p : Past) (a n : ℕ) : Type 0 where
@@ -261,13 +197,7 @@ last-comes p a n m old new split now e =
     ∙ ap (λ xs. slice_get xs last.0) (sym split)
     ∙ there.1 in
     let at_clock = all-at (λ (done : Done). nat_eq done.clock n) new (last.0 - length old) there.0 now new_at in
-    record {
-      last = there.0;
-      there = ap (option_and_then (slice_get p.log)) last.1 ∙ there.1;
-      clock = eqb-true there.0.clock n at_clock;
-      logged = any-from (λ (done : Done). is_done_at a n done && nat_eq done.item there.0.item) p.log last.0 there.0
-          there.1 (rw (own.0, at_clock, eq-eqb there.0.item there.0.item refl) refl);
-    }
+    grind (arith, any-from)
 
 -- the agents before the hits are those of the longer run, as the clock finds them
 pub agents-found : (v : BenchView) (s : Run) → IsBenchOf v → GrowsTo v.run s → AgentsFound v s
@@ -283,10 +213,7 @@ agents-found v s b grows = record {
 -- the accesses of the next item of the agent's record
 next-told : (p : Past) (a n : ℕ) (w : AgentView) → IsViewOf p a n w → (k : IsNextItem p a n)
     → next_steps w ≡ steps_of_item k.number k.item
-next-told p a n w view k =
-    let items = view.agent.items in
-    let place : w.place ≡ k.number = view.placed.place ∙ ap (place_of (items_of p a)) k.next in
-    (λ i. steps_at (items i) (place i)) ∙ ap (λ o. option_map_or (steps_of_item k.number) o []) k.there
+next-told p a n w view k = grind arith
 
 -- the entries of a hit are those of the agent's next item
 pub logs-hit : (v : BenchView) (hold : Bool) (choice : Choice) (entries : List Done) (a : ℕ) (w : AgentView)
@@ -316,15 +243,11 @@ logs-hit v hold choice entries a w b grows first there hit =
     let now : AreOfClock n (hit_entries n vs ++ first.others) = subst (AreOfClock n) first.split first.now in
     let of_others = no-steps a n first.others (later-half n (hit_entries n vs) first.others now)
     (first.apart a before) in
-    let of_entries : steps_of a entries ≡ steps_of_item k.number k.item =
-    ap (steps_of a) first.split ∙ steps-append a (hit_entries n vs) first.others ∙ (λ i. of_hits i ++ of_others i)
-    ∙ append-nil (steps_of_item k.number k.item) in
+    let of_entries : steps_of a entries ≡ steps_of_item k.number k.item = grind (arith, steps-append, append-nil) in
     let on = new-on n entries first.now in
     let off = old-off 0 n r.log b.timely.in_time in
-    let at_now : at n (r.log ++ entries) ≡ entries =
-    filter-append (λ (done : Done). nat_eq done.clock n) r.log entries ∙ (λ i. off i ++ on i) in
-    let steps : steps_of a (at n (r.log ++ entries))
-    ≡ steps_of_item k.number k.item = ap (steps_of a) at_now ∙ of_entries in
+    let at_now : at n (r.log ++ entries) ≡ entries = grind (arith, filter-append) in
+    let steps : steps_of a (at n (r.log ++ entries)) ≡ steps_of_item k.number k.item = grind arith in
     let whole : (m : ℕ) → is_logged_at p a n m
     ≡ list_any (λ (step : Step). nat_eq step.item m) (steps_of_item k.number k.item) =
     λ m. logged-steps a n m (r.log ++ entries) ∙ ap (list_any (λ (step : Step). nat_eq step.item m)) steps in
@@ -332,15 +255,11 @@ logs-hit v hold choice entries a w b grows first there hit =
     b.bounds.lawful_scripts in
     let item = all-at (is_lawful_item s.plan.cache) (items_of p a) k.number k.item lawful k.there in
     let some = has-access s.plan.cache k.number k.item item k.active in
-    let alone : (m : ℕ) → is_logged_at p a n m ≡ true → m ≡ k.number =
-    λ m e. of-item m k.number k.item (sym (whole m) ∙ e) in
+    let alone : (m : ℕ) → is_logged_at p a n m ≡ true → m ≡ k.number = grind (arith, of-item) in
     let coming : list_any (λ (done : Done). is_done_at a n done && nat_eq done.item k.number) entries ≡ true =
-    logged-steps a n k.number entries
-    ∙ ap (λ xs. list_any (λ (step : Step). nat_eq step.item k.number) (steps_of a xs)) on
-    ∙ ap (list_any (λ (step : Step). nat_eq step.item k.number)) of_entries ∙ some in
+    grind (arith, logged-steps) in
     let last = last-comes p a n k.number r.log entries refl first.now coming in
-    let old_number : next_number (past_of r) a n ≡ Some k.number =
-    next_number-alike n (past_of r) p a n goes (omega arith) ∙ k.next in
+    let old_number : next_number (past_of r) a n ≡ Some k.number = grind (arith, next_number-alike) in
     record {
       number = k.number;
       item = k.item;
@@ -363,8 +282,7 @@ logs-hit v hold choice entries a w b grows first there hit =
     hit-alike : GoesOn (next_clock_of v) (past_of v.run) (past_of (run_with v hold choice entries))
         → is_hit (past_of v.run) a (next_clock_of v)
         ≡ is_hit (past_of (run_with v hold choice entries)) a (next_clock_of v)
-    hit-alike goes = is_hit-alike (next_clock_of v) (past_of v.run) (past_of (run_with v hold choice entries)) a
-        (next_clock_of v) goes (omega arith)
+    hit-alike goes = grind (arith, is_hit-alike)
 
 -- so the agents after the hits are those of any run that grows by entries which begin with the hits
 pub hits-told : (v : BenchView) (hold : Bool) (choice : Choice) (entries : List Done) → IsBenchOf v

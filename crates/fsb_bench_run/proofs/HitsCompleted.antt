@@ -1,5 +1,5 @@
 -- The entries of a clock's hits are what the run completes by them there.
-use Rattle.std.proofs.Common.{ℕ, ◌≡◌, Some, List, [], ◌++◌, length, map, append-nil, append_assoc, ap, ◌∙◌}
+use Rattle.std.proofs.Common.{ℕ, ◌≡◌, Some, List, [], ◌++◌, length, map, append-nil, append_assoc, ap, arith}
 use Rattle.std.specs.List.{slice_get}
 use Rattle.std.proofs.lemmas.List.{map-append}
 use Rattle.fsb_access.specs.declared.log.Done.{Done}
@@ -38,11 +38,7 @@ one-completes v s a w k at =
 four-mapped : (w0 w1 w2 w3 : List Done)
     → map completed_of (w0 ++ (w1 ++ (w2 ++ (w3 ++ []))))
     ≡ map completed_of w0 ++ (map completed_of w1 ++ (map completed_of w2 ++ map completed_of w3))
-four-mapped w0 w1 w2 w3 =
-    ap (λ xs. map completed_of (w0 ++ (w1 ++ (w2 ++ xs)))) (append-nil w3)
-    ∙ map-append completed_of w0 (w1 ++ (w2 ++ w3))
-    ∙ ap (λ xs. map completed_of w0 ++ xs) (map-append completed_of w1 (w2 ++ w3)
-    ∙ ap (λ xs. map completed_of w1 ++ xs) (map-append completed_of w2 w3))
+four-mapped w0 w1 w2 w3 = grind (arith, append-nil, map-append)
 
 left-four : (a b c d : List Completed) → a ++ (b ++ (c ++ d)) ≡ ((a ++ b) ++ c) ++ d
 left-four a b c d = simp append_assoc
@@ -56,12 +52,4 @@ hits-completed v s k =
     let vs = (step_fetched v).agents in
     let q = is-four vs k.four in
     let e0 = one-completes v s 0 q.first k (ap (λ xs. slice_get xs 0) q.same) in
-    let e1 = one-completes v s 1 q.second k (ap (λ xs. slice_get xs 1) q.same) in
-    let e2 = one-completes v s 2 q.third k (ap (λ xs. slice_get xs 2) q.same) in
-    let e3 = one-completes v s 3 q.fourth k (ap (λ xs. slice_get xs 3) q.same) in
-    ap (λ xs. map completed_of (hit_entries n xs)) q.same
-    ∙ four-mapped (performed_entries q.first n) (performed_entries q.second n) (performed_entries q.third n)
-    (performed_entries q.fourth n)
-    ∙ left-four (map completed_of (performed_entries q.first n)) (map completed_of (performed_entries q.second n))
-    (map completed_of (performed_entries q.third n)) (map completed_of (performed_entries q.fourth n))
-    ∙ (λ i. ((e0 i ++ e1 i) ++ e2 i) ++ e3 i)
+    grind (arith, one-completes, four-mapped, left-four)

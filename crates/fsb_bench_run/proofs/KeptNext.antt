@@ -1,14 +1,12 @@
 -- Which agents keep the bus locked after a bench's clock, where its longer run is timely.
-use Rattle.std.proofs.Common.{ℕ, zero, suc, ◌+◌, ◌-◌, ◌<◌, ◌≡◌, ◌&&◌, ◌||◌, Bool, true, false, not, if◌then◌else◌}
-use Rattle.std.proofs.Common.{is_some, nat_eq, nat_le, nat_lt, List, [], ◌∷◌, Option, Some, None, length, slice_get}
-use Rattle.std.proofs.Common.{refl, sym, ap, subst, ◌∙◌, inl, inr, arith}
-use Rattle.std.specs.List.{find, list_all, list_any}
-use Rattle.std.specs.Option.{option_and_then, option_map, option_map_or}
-use Rattle.std.proofs.lemmas.Bool.{and_parts, both_ways, cases_Bool, eq-eqb, eqb-true, false_from_ne_true, le-leb}
-use Rattle.std.proofs.lemmas.Bool.{ne_eqb, ltb-true}
+use Rattle.std.proofs.Common.{ℕ, suc, ◌+◌, ◌<◌, ◌≡◌, ◌&&◌, ◌||◌, Bool, true, false, not, if◌then◌else◌, is_some}
+use Rattle.std.proofs.Common.{nat_eq, List, [], ◌∷◌, Option, Some, None, length, slice_get, refl, sym, ap, subst, ◌∙◌}
+use Rattle.std.proofs.Common.{inl, inr, arith}
+use Rattle.std.specs.List.{find, list_any}
+use Rattle.std.specs.Option.{option_and_then, option_map}
+use Rattle.std.proofs.lemmas.Bool.{and_parts, both_ways, cases_Bool, eq-eqb, eqb-true, false_from_ne_true}
 use Rattle.std.proofs.lemmas.List.Folds.{list_any-append}
 use Rattle.std.proofs.lemmas.Option.{slice_get-map, slice_get_within}
-use Rattle.fsb_access.specs.ScriptOrder.{script_of}
 use Rattle.fsb_access.specs.declared.log.Done.{Done}
 use Rattle.fsb_count.specs.Clocks.{all_where, count_where, nth_where}
 use Rattle.fsb_count.specs.Options.{is_some_and}
@@ -27,12 +25,12 @@ use Rattle.fsb_timely.specs.Completions.{is_in_time}
 use Rattle.fsb_timely.specs.Moments.{cancelled_at}
 use Rattle.fsb_timely.specs.Past.{Past}
 use Rattle.fsb_timely.specs.Runs.{Run, past_of, requests_below}
-use Rattle.fsb_timely.specs.Scripts.{is_locked, items_of}
+use Rattle.fsb_timely.specs.Scripts.{items_of}
 use Rattle.fsb_timely.specs.Timely.{Timely}
 use Rattle.fsb_timely.proofs.Interface.{cancelled-told}
 use Rattle.fsb_trace.specs.At.{Trace}
 use Rattle.fsb_trace.specs.declared.who.Who.{Who}
-use Rattle.fsb_trace.specs.declared.who.Who.TheVariants.{Symmetric, Priority}
+use Rattle.fsb_trace.specs.declared.who.Who.TheVariants.{Symmetric}
 use Rattle.fsb_bench_view.specs.declared.beginning.Started.{Started}
 use Rattle.fsb_bench_view.specs.declared.beginning.Starting.{Starting}
 use Rattle.fsb_bench_view.specs.BenchSteps.{bench_stepped, step_decided, step_drive, step_ended, step_entries}
@@ -66,8 +64,7 @@ into-next p c a = refl
 
 -- a request is an agent's where it is the agent that began it
 is-own : (a : ℕ) (who : Who) → is_of a who ≡ true → who ≡ Symmetric a
-is-own a (Symmetric b) e = ap Symmetric (eqb-true b a e)
-is-own a Priority e = absurd (let no : ⊥ = cc in no)
+is-own a who h1 = grind arith
 
 own-is : (a : ℕ) → is_of a (Symmetric a) ≡ true
 own-is a = eq-eqb a a refl
@@ -120,9 +117,7 @@ locking-told v hold choice a b =
 -- whether the request of an entry is a locked one of an agent
 start-kept : (n : ℕ) (o : Option Starting) (started : List Started) (k : ℕ) (x : Started) → slice_get started k ≡ Some x
     → slice_get (started_after n o started) k ≡ Some x
-start-kept n None started k x e = e
-start-kept n (Some s) started k x e =
-    slice_get-before started _ k (slice_get_within started k x e) ∙ e
+start-kept n o started k x h1 = grind (arith, slice_get-before, slice_get_within)
 
 locked-entry : (v : BenchView) (hold : Bool) (choice : Choice) (a k : ℕ) (e : Entry) → IsBenchOf v
     → slice_get v.bus.queue k ≡ Some e
@@ -142,13 +137,11 @@ locked-entry v hold choice a k e b at =
     ≡ Some e.clock =
     nth_where-at (line_at ADS r.trace) n e.clock within begun.begins in
     let clocks : option_map (λ (x : Started). x.clock) (slice_get v.bus.started e.number) ≡ Some e.clock =
-    sym (slice_get-map (λ (x : Started). x.clock) v.bus.started e.number)
-    ∙ (λ i. slice_get (b.started.clocks i) (number i)) ∙ there in
+    grind (arith, slice_get-map) in
     let start = mapped-some (λ (x : Started). x.clock) (slice_get v.bus.started e.number) e.clock clocks in
     let kept = ap (λ xs. slice_get xs e.number) (started-ended v hold)
     ∙ start-kept n (step_decided v hold).starting v.bus.started e.number start.0 start.1 in
-    let locked : is_locked_start (step_ended v hold).started e.number ≡ start.0.locked =
-    ap (λ o. option_map_or (λ (x : Started). x.locked) o false) kept in
+    let locked : is_locked_start (step_ended v hold).started e.number ≡ start.0.locked = grind arith in
     elim (cases_Bool (is_of a e.who)) [
       | inr other ↦
           ap (λ b. b && is_locked_start (step_ended v hold).started e.number) other
@@ -167,8 +160,7 @@ locked-entry v hold choice a k e b at =
 some-told : (o : Option Entry) (f : Entry → Bool) (g : ℕ → Bool) → ((e : Entry) → o ≡ Some e → f e ≡ g e.clock)
     → is_some_and o f ≡ is_some_and (option_map (λ (x : Entry). x.clock) o) g
 unfolding is_some_and
-some-told None f g same = refl
-some-told (Some e) f g same = same e refl
+some-told o f g h1 = grind arith
 
 -- what is retried
 retried-at : (rs : ℕ) (o : Option Entry) (e : Entry)
@@ -176,19 +168,7 @@ retried-at : (rs : ℕ) (o : Option Entry) (e : Entry)
     else option_and_then (λ (entry : Entry). if is_some_and entry.outcome is_retry then Some entry else None)
     o) ≡ Some e
     → o ≡ Some e
-retried-at rs o e f = by (nat_eq rs 0) o f
-  where
-    kept : (b : Bool) (x : Entry) → (if b then Some x else None) ≡ Some e → x ≡ e
-    kept true x g = (let same : x ≡ e = cc in same)
-    kept false x g = absurd (let no : ⊥ = cc in no)
-
-    by : (b : Bool) (o : Option Entry) → (if b then None
-        else option_and_then (λ (entry : Entry). if is_some_and entry.outcome is_retry then Some entry else None)
-        o) ≡ Some e
-        → o ≡ Some e
-    by true o g = absurd (let no : ⊥ = cc in no)
-    by false None g = absurd (let no : ⊥ = cc in no)
-    by false (Some x) g = ap (λ y. Some y) (kept (is_some_and x.outcome is_retry) x g)
+retried-at rs o e f = grind arith
 
 retried-told : (v : BenchView) (hold : Bool) (choice : Choice) (a : ℕ) → IsBenchOf v → Timely (step_run v hold choice)
     → is_some_and (retried_by v.bus (step_drive v)) (is_locked_of (step_ended v hold).started a)
@@ -216,19 +196,11 @@ retried-told v hold choice a b timely =
 cancelled-some : (w : Trace) (n q : ℕ) → q + 3 ≡ n → line_at AERR w n ≡ true → line_at ADS w q ≡ true
     → cancelled_at w n ≡ Some q
 unfolding cancelled_at
-cancelled-some w n q e error ads =
-    let back : n - 3 ≡ q = omega arith in
-    rw (le-leb 3 n (omega arith), error, back, ads, cancelled_at) (ap (λ x. Some x) back)
+cancelled-some w n q e error ads = grind arith
 
 cancelled-none : (w : Trace) (n : ℕ) → line_at AERR w n ≡ false → cancelled_at w n ≡ None
 unfolding cancelled_at
-cancelled-none w n e =
-    let off = by (nat_le 3 n) in
-    λ i. elim (off i) [ true ↦ Some (n - 3) | false ↦ None ]
-  where
-    by : (b : Bool) → (b && line_at AERR w n && line_at ADS w (n - 3)) ≡ false
-    by true = rw e refl
-    by false = refl
+cancelled-none w n e = grind arith
 
 cancelled-is : (v : BenchView) (hold : Bool) (choice : Choice) → IsBenchOf v
     → option_map (λ (x : Entry). x.clock) (step_decided v hold).cancelled
@@ -266,8 +238,7 @@ cancelled-entry v hold e f =
     elim (find-cases (is_cancelled_by n) queue) [
       | inr g ↦ absurd (let none = sym f ∙ same ∙ find-off (is_cancelled_by n) queue g in let no : ⊥ = cc in no)
       | inl k ↦
-          let some : Some e ≡ Some k.item =
-          sym f ∙ same ∙ find-place (is_cancelled_by n) queue k.place k.item k.at k.passes k.before in
+          let some : Some e ≡ Some k.item = grind (arith, find-place) in
           (k.place, k.at ∙ sym some)
     ]
 
@@ -290,21 +261,13 @@ none-locked : (p : Past) (a first n : ℕ) (log : List Done) → is_in_time firs
     → list_any (ends_locked_item p a n) log ≡ false
 unfolding is_in_time ends_locked_item
 none-locked p a first n [] e = refl
-none-locked p a first n (done ∷ log) e =
-    let parts = and_parts (nat_le first done.clock) (nat_lt done.clock n && is_in_time done.clock n log) e in
-    let rest = and_parts (nat_lt done.clock n) (is_in_time done.clock n log) parts.1 in
-    let below : done.clock < n = ltb-true done.clock n rest.0 in
-    rw (ne_eqb done.clock n (λ same. omega arith), ends_locked_item) (none-locked p a done.clock n log rest.1)
+none-locked p a first n (done ∷ log) e = grind (arith, none-locked p a done.clock n log)
 
 ends-there : (p : Past) (a n : ℕ) (entries : List Done) → AreOfClock n entries
     → list_any (ends_locked_item p a n) entries ≡ list_any (completes_lock p.plan.scripts a) entries
 unfolding ends_locked_item items_of
 ends-there p a n [] e = refl
-ends-there p a n (done ∷ entries) e =
-    let parts = and_parts (nat_eq done.clock n) (list_all (λ (d : Done). nat_eq d.clock n) entries) e in
-    let rest = ends-there p a n entries parts.1 in
-    rw (parts.0, ends_locked_item)
-    (λ i. (nat_eq done.agent a && is_some_and (slice_get (script_of p.plan.scripts a) done.item) is_locked) || rest i)
+ends-there p a n (done ∷ entries) e = grind (arith, ends-there p a n entries)
 
 lock-completed : (v : BenchView) (hold : Bool) (choice : Choice) (a : ℕ) → IsBenchOf v
     → list_any (completes_lock v.run.plan.scripts a) (step_entries v hold)
@@ -320,8 +283,7 @@ lock-completed v hold choice a b =
     ∙ ends-there p a n (step_entries v hold) (entries-now v hold))
 
 or-split : (x y z : Bool) → (x || (y || z)) ≡ ((x || y) || z)
-or-split true y z = refl
-or-split false y z = refl
+or-split x y z = grind arith
 
 released-told : (v : BenchView) (hold : Bool) (choice : Choice) (a : ℕ) → IsBenchOf v → Timely (step_run v hold choice)
     → is_released v.run.plan.scripts (step_ended v hold).started (step_releases v hold) a
@@ -337,17 +299,10 @@ released-told v hold choice a b timely =
     ∙ or-split (list_any (ends_locked_item p a n) p.log) (is_lock_retried p a n) (is_lock_cancelled p a n)
 
 kept-at : (p : Past) (c a : ℕ) → a < 4 → keeps_in (kept_into p c) a ≡ keeps_into p c a
-kept-at p c zero l = refl
-kept-at p c (suc zero) l = refl
-kept-at p c (suc (suc zero)) l = refl
-kept-at p c (suc (suc (suc zero))) l = refl
-kept-at p c (suc (suc (suc (suc a)))) l = absurd (omega arith)
+kept-at p c a h1 = grind arith
 
 or-swap : (x y : Bool) → (x || y) ≡ (y || x)
-or-swap true true = refl
-or-swap true false = refl
-or-swap false true = refl
-or-swap false false = refl
+or-swap x y = grind arith
 
 -- an agent keeps the bus locked after the clock exactly where it does in the longer run
 keeps-next : (v : BenchView) (hold : Bool) (choice : Choice) (a : ℕ) → a < 4 → IsBenchOf v
@@ -364,10 +319,7 @@ keeps-next v hold choice a few b timely =
     ∙ sym (keeps_into-grown r s a (grows-to v hold choice b)) in
     let locking = locking-told v hold choice a b in
     let released = released-told v hold choice a b timely in
-    (λ i. (kept i || locking i) && not (released i))
-    ∙ ap (λ b. b && not (is_release p a n))
-    (or-swap (keeps_into p n a) (is_locked_request p a n) ∙ sym (keeps_lock-into p n a))
-    ∙ sym (into-next p n a)
+    grind (arith, or-swap, keeps_lock-into, into-next)
 
 -- so the locks of the bench after the clock are those of the longer run
 pub kept-next : (v : BenchView) (hold : Bool) (choice : Choice) → IsBenchOf v → Timely (step_run v hold choice)

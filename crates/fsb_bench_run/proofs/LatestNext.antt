@@ -1,6 +1,6 @@
 -- The request that began last, and those that have begun, after the clock.
-use Rattle.std.proofs.Common.{◌≡◌, Bool, true, false, Option, Some, None, is_some, length, refl, sym, ap, subst, ◌∙◌}
-use Rattle.std.specs.Option.{option_map}
+use Rattle.std.proofs.Common.{◌≡◌, Bool, true, false, Option, Some, None, is_some, length, refl, sym, subst, ◌∙◌}
+use Rattle.std.proofs.Common.{arith}
 use Rattle.fsb_count.specs.Clocks.{last_where}
 use Rattle.fsb_hazard.specs.declared.choice.Choice.{Choice}
 use Rattle.fsb_signal.specs.declared.lines.TheConstants.Lines.{ADS}
@@ -38,8 +38,7 @@ latest-by r s latest (Some x) grows k ads begins = record {
 latest-by r s latest None grows k ads begins = record {
   clock = k.clock ∙ sym (last-more r s false grows ads);
   begun = λ last e.
-      let there : last_where (line_at ADS r.trace) (length r.trace) ≡ Some last.clock = sym k.clock
-      ∙ ap (option_map (λ (last : Latest). last.clock)) e in
+      let there : last_where (line_at ADS r.trace) (length r.trace) ≡ Some last.clock = grind arith in
       begun-stays r s last.clock last.who last.request grows
       (last-below (line_at ADS r.trace) (length r.trace) last.clock there)
       (k.begun last e);

@@ -1,9 +1,9 @@
 -- LOCK# of the clock, and which agents keep the bus locked into it.
-use Rattle.std.proofs.Common.{ℕ, zero, suc, ◌+◌, ◌-◌, ◌<◌, ◌≡◌, ◌&&◌, ◌||◌, Bool, true, false, not, Option, Some, None}
-use Rattle.std.proofs.Common.{List, is_some, length, if◌then◌else◌, refl, sym, ap, subst, ◌∙◌, arith, inl, inr}
+use Rattle.std.proofs.Common.{ℕ, zero, suc, ◌+◌, ◌<◌, ◌≡◌, ◌&&◌, ◌||◌, Bool, true, false, not, Option, Some, List}
+use Rattle.std.proofs.Common.{is_some, length, refl, sym, ap, subst, ◌∙◌, arith, inl, inr}
 use Rattle.std.specs.Bool.{beq}
 use Rattle.std.specs.List.{list_any}
-use Rattle.std.proofs.lemmas.Bool.{both_ways, eq-eqb, le-leb, or_cases, or_left, or_right}
+use Rattle.std.proofs.lemmas.Bool.{or_cases, or_left, or_right}
 use Rattle.fsb_count.specs.Clocks.{any_where, holds_since, last_where}
 use Rattle.fsb_count.specs.Options.{is_some_and}
 use Rattle.fsb_count.proofs.Interface.{any_where-at, any_where-found, holds_since-more}
@@ -15,7 +15,6 @@ use Rattle.fsb_signal.specs.Samples.{line_at}
 use Rattle.fsb_tied.proofs.Interface.{winner-four}
 use Rattle.fsb_timely.specs.BusLock.{drives_lock, is_begun_by, is_locked_request, is_release, is_released_before}
 use Rattle.fsb_timely.specs.BusLock.{keeps_lock}
-use Rattle.fsb_timely.specs.Grants.{begun_at}
 use Rattle.fsb_timely.specs.Moments.{agent_at, claim_at}
 use Rattle.fsb_timely.specs.Past.{Past}
 use Rattle.fsb_timely.specs.Runs.{Run, past_of}
@@ -24,20 +23,20 @@ use Rattle.fsb_timely.proofs.Interface.{begun-told}
 use Rattle.fsb_trace.specs.Requests.{line_of}
 use Rattle.fsb_trace.specs.Winner.{winner_at}
 use Rattle.fsb_trace.specs.declared.who.Who.{Who}
-use Rattle.fsb_trace.specs.declared.who.Who.TheVariants.{Symmetric, Priority}
+use Rattle.fsb_trace.specs.declared.who.Who.TheVariants.{Symmetric}
 use Rattle.fsb_encode.specs.declared.request.Request.{Request}
 use Rattle.fsb_bench_view.specs.declared.beginning.Starting.{Starting}
 use Rattle.fsb_bench_view.specs.BenchSteps.{step_decided, step_performed, was_held_at}
 use Rattle.fsb_bench_view.specs.BusDecisions.{asked_by}
 use Rattle.fsb_bench_view.specs.BusSample.{is_lock_driven}
-use Rattle.fsb_bench_view.specs.BusStarting.{starting_for, starting_reply, want_in}
+use Rattle.fsb_bench_view.specs.BusStarting.{starting_for}
 use Rattle.fsb_bench_view.specs.BusViews.{BenchView, next_clock_of}
 use Rattle.fsb_bench_run.specs.BenchOf.{IsBegunAt, IsBenchOf}
 use Rattle.fsb_bench_run.specs.LocksHeld.{keeps_into, kept_into}
 use Rattle.fsb_bench_run.proofs.DrivenLines.{line-with, lock-driven}
 use Rattle.fsb_bench_run.proofs.LockedStarts.{locked-start}
 use Rattle.fsb_bench_run.proofs.LocksStay.{keeps_into-grown}
-use Rattle.fsb_bench_run.proofs.StartingNow.{mapped-some, starting-begins, starting-parts, wanted-parts}
+use Rattle.fsb_bench_run.proofs.StartingNow.{starting-begins, starting-parts}
 use Rattle.fsb_bench_run.proofs.StepFields.{performed-begun}
 use Rattle.fsb_bench_run.proofs.ThisClock.{holds-now}
 use Rattle.fsb_access.specs.declared.log.Done.{Done}
@@ -46,20 +45,13 @@ use Rattle.fsb_bench_run.proofs.StepWith.{IsStepWith, begins-with}
 
 -- two tests are the same where each passes with the other
 pub same-bools : (a b : Bool) → (a ≡ true → b ≡ true) → (b ≡ true → a ≡ true) → a ≡ b
-same-bools true b f g = sym (f refl)
-same-bools false true f g = g refl
-same-bools false false f g = refl
+same-bools a b h1 h2 = grind arith
 
 since-next : (p : Past) (a c : ℕ)
     → (holds_since (is_locked_request p a) (is_released_before p a) (suc c) && not (is_released_before p a (suc c)))
     ≡ (holds_since (is_locked_request p a) (is_released_before p a) (c + 1) && not (is_release p a c))
 unfolding is_released_before
-since-next p a c =
-    let back : suc c - 1 ≡ c = omega arith in
-    let one : suc c ≡ c + 1 = omega arith in
-    ap (λ n. holds_since (is_locked_request p a) (is_released_before p a) n && not (is_released_before p a (suc c))) one
-    ∙ ap (λ b. holds_since (is_locked_request p a) (is_released_before p a) (c + 1) && not b)
-    (ap (λ b. b && is_release p a (suc c - 1)) (le-leb 1 (suc c) (omega arith)) ∙ ap (is_release p a) back)
+since-next p a c = grind arith
 
 keeps-since : (p : Past) (c a : ℕ)
     → keeps_lock p c a ≡ holds_since (is_locked_request p a) (is_released_before p a) (c + 1)
@@ -85,10 +77,7 @@ keeps_lock-into p zero a =
     ∙ ap (λ b. is_locked_request p a 0 || b)
     (ap (λ b. b && not (is_released_before p a 0)) (since-zero (is_locked_request p a) (is_released_before p a))
     ∙ sym (into-zero p a))
-keeps_lock-into p (suc c) a =
-    keeps-since p (suc c) a ∙ holds_since-more (is_locked_request p a) (is_released_before p a) (suc c)
-    ∙ ap (λ b. is_locked_request p a (suc c) || b)
-    (since-next p a c ∙ ap (λ b. b && not (is_release p a c)) (sym (keeps-since p c a)) ∙ sym (into-suc p c a))
+keeps_lock-into p (suc c) a = grind (arith, keeps-since, holds_since-more, since-next, into-suc)
 
 -- who begins a request has begun it
 pub agent-begins : (r : Run) (q a : ℕ) (request : Request) → q < length r.trace → IsBegunAt r q (Symmetric a) request
@@ -96,27 +85,18 @@ pub agent-begins : (r : Run) (q a : ℕ) (request : Request) → q < length r.tr
 unfolding is_begun_by claim_at agent_at line_of is_some_and
 agent-begins r q a request l b =
     let x = get-there r.trace q l in
-    let told : begun_at (past_of r) q ≡ claim_at r.trace q = begun-told r q l
-    ∙ ap (λ (b : Bool). if b then claim_at r.trace q else None) b.begins in
-    rw told (rw (b.winner, x.1, claim_at, agent_at, line_of) (eq-eqb a a refl))
+    grind (arith, begun-told)
 
 -- what is locked begins for an agent
 locked-agent : (v : BenchView) (hold : Bool) (starting : Starting) (who : Who)
     → starting_for (step_performed v) (step_decided v hold).asked who ≡ Some starting → starting.locked ≡ true
     → (a : ℕ) × (who ≡ Symmetric a) × (starting.who ≡ Symmetric a)
-locked-agent v hold starting (Symmetric a) f e =
-    let parts = wanted-parts (step_performed v) a (want_in (step_decided v hold).asked a) starting f in
-    (a, refl, sym (ap (λ (s : Starting). s.who) parts.3))
-locked-agent v hold starting Priority f e =
-    let parts = mapped-some starting_reply (step_decided v hold).asked.due starting f in
-    let off : starting.locked ≡ false = sym (ap (λ (s : Starting). s.locked) parts.2) in
-    absurd (both_ways starting.locked off e)
+locked-agent v hold starting who h1 h2 = grind arith
 
 some-locked : (o : Option Starting) → is_some_and o (λ (s : Starting). s.locked) ≡ true
     → (s : Starting) × (o ≡ Some s) × (s.locked ≡ true)
 unfolding is_some_and
-some-locked None e = absurd (let no : ⊥ = cc in no)
-some-locked (Some s) e = (s, refl, e)
+some-locked o h1 = grind arith
 
 locked-some : (o : Option Starting) (s : Starting) → o ≡ Some s → s.locked ≡ true
     → is_some_and o (λ (s : Starting). s.locked) ≡ true
@@ -125,53 +105,23 @@ locked-some o s e f = rw e f
 
 kept-found : (p : Past) (c : ℕ) → list_any (λ (kept : Bool). kept) (kept_into p c) ≡ true
     → (a : ℕ) × (a < 4) × (keeps_into p c a ≡ true)
-kept-found p c e =
-    elim (or_cases (keeps_into p c 0) _ e) [
-      | inl t ↦ (0, omega arith, t)
-      | inr e ↦ elim (or_cases (keeps_into p c 1) _ e) [
-        | inl t ↦ (1, omega arith, t)
-        | inr e ↦ elim (or_cases (keeps_into p c 2) _ e) [
-          | inl t ↦ (2, omega arith, t)
-          | inr e ↦ elim (or_cases (keeps_into p c 3) _ e) [
-            | inl t ↦ (3, omega arith, t)
-            | inr e ↦ absurd (let no : ⊥ = cc in no)
-          ]
-        ]
-      ]
-    ]
+kept-found p c e = grind arith
 
 kept-there : (p : Past) (c a : ℕ) → a < 4 → keeps_into p c a ≡ true
     → list_any (λ (kept : Bool). kept) (kept_into p c) ≡ true
-kept-there p c zero l e = or_left (keeps_into p c 0) _ e
-kept-there p c (suc zero) l e = or_right (keeps_into p c 0) _ (or_left (keeps_into p c 1) _ e)
-kept-there p c (suc (suc zero)) l e =
-    or_right (keeps_into p c 0) _ (or_right (keeps_into p c 1) _ (or_left (keeps_into p c 2) _ e))
-kept-there p c (suc (suc (suc zero))) l e =
-    or_right (keeps_into p c 0) _
-    (or_right (keeps_into p c 1) _ (or_right (keeps_into p c 2) _ (or_left (keeps_into p c 3) _ e)))
-kept-there p c (suc (suc (suc (suc a)))) l e = absurd (omega arith)
+kept-there p c a h1 h2 = grind arith
 
 pub locked-begins : (p : Past) (a c : ℕ) → is_locked_request p a c ≡ true → is_begun_by p a c ≡ true
 unfolding is_locked_request
-locked-begins p a c e = by (is_begun_by p a c) refl e
-  where
-    by : (b : Bool) → is_begun_by p a c ≡ b → is_locked_request p a c ≡ true → b ≡ true
-    by true f e = refl
-    by false f e = absurd (let g = rw (f, is_locked_request) at e in let no : ⊥ = cc in no)
+locked-begins p a c e = grind arith
 
 pub begun-ads : (r : Run) (a q : ℕ) → q < length r.trace → is_begun_by (past_of r) a q ≡ true
     → line_at ADS r.trace q ≡ true
 unfolding is_begun_by is_some_and
-begun-ads r a q l e = by (line_at ADS r.trace q) (begun-told r q l) e
-  where
-    by : (b : Bool) → begun_at (past_of r) q ≡ (if b then claim_at r.trace q else None)
-        → is_begun_by (past_of r) a q ≡ true → b ≡ true
-    by true f e = refl
-    by false f e = absurd (let g = rw (f, is_begun_by, is_some_and) at e in let no : ⊥ = cc in no)
+begun-ads r a q l e = grind (arith, begun-told)
 
 pub some-there : (o : Option Starting) → is_some o ≡ true → (s : Starting) × (o ≡ Some s)
-some-there None e = absurd (let no : ⊥ = cc in no)
-some-there (Some s) e = (s, refl)
+some-there o h1 = grind arith
 
 -- a locked request begins exactly where the run has one of an agent
 pub locked-now : (v : BenchView) (hold : Bool) (choice : Choice) (entries : List Done)
@@ -246,8 +196,7 @@ lock-now v hold choice entries b =
     ])
 
 pub same-beq : (a b : Bool) → a ≡ b → beq a b ≡ true
-same-beq true b e = rw (sym e) refl
-same-beq false b e = rw (sym e) refl
+same-beq a b h1 = grind arith
 
 -- LOCK# is as it must
 pub lock-driven-now : (v : BenchView) (hold : Bool) (choice : Choice) (entries : List Done)

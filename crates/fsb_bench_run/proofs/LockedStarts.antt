@@ -1,8 +1,6 @@
 -- The request that begins at the clock is a locked one exactly where the run says so.
-use Rattle.std.proofs.Common.{ℕ, ◌<◌, ◌≡◌, Bool, true, false, nat_eq, Option, Some, None, length, if◌then◌else◌, refl}
-use Rattle.std.proofs.Common.{sym, ap, ◌∙◌, arith, List}
-use Rattle.std.specs.Option.{option_map}
-use Rattle.std.proofs.lemmas.Bool.{eqb-true}
+use Rattle.std.proofs.Common.{ℕ, ◌<◌, ◌≡◌, Bool, true, nat_eq, Option, Some, None, length, if◌then◌else◌, sym, ap}
+use Rattle.std.proofs.Common.{◌∙◌, arith, List}
 use Rattle.fsb_agent_view.specs.declared.want.Want.{Want}
 use Rattle.fsb_count.specs.Options.{is_some_and}
 use Rattle.fsb_hazard.specs.declared.choice.Choice.{Choice}
@@ -17,7 +15,6 @@ use Rattle.fsb_timely.specs.Past.{Claim, Past}
 use Rattle.fsb_timely.specs.Runs.{Run, past_of, past_to}
 use Rattle.fsb_timely.proofs.Interface.{begun-told}
 use Rattle.fsb_trace.specs.At.{Trace}
-use Rattle.fsb_trace.specs.Requests.{line_of}
 use Rattle.fsb_trace.specs.Winner.{winner_at}
 use Rattle.fsb_trace.specs.declared.who.Who.{Who}
 use Rattle.fsb_trace.specs.declared.who.Who.TheVariants.{Symmetric, Priority}
@@ -27,7 +24,7 @@ use Rattle.fsb_bench_view.specs.BusDecisions.{asked_by}
 use Rattle.fsb_bench_view.specs.BusStarting.{starting_for, want_in}
 use Rattle.fsb_bench_view.specs.BusViews.{BenchView, next_clock_of}
 use Rattle.fsb_bench_run.proofs.AskedNow.{locked-told}
-use Rattle.fsb_bench_run.proofs.StartingNow.{and-some, mapped-some, starting-parts, wanted-parts, winner-grown}
+use Rattle.fsb_bench_run.proofs.StartingNow.{starting-parts, wanted-parts, winner-grown}
 use Rattle.fsb_bench_run.proofs.ThisClock.{past-now}
 use Rattle.fsb_access.specs.declared.log.Done.{Done}
 use Rattle.fsb_bench_run.proofs.RunWith.{run_with}
@@ -36,35 +33,21 @@ use Rattle.fsb_bench_run.proofs.StepWith.{IsStepWith}
 -- the winner's claim is that of the agent
 agent-won : (w : Trace) (q a : ℕ) (o : Option Who) → winner_at w q ≡ o → agent_at w q ≡ Some a → o ≡ Some (Symmetric a)
 unfolding agent_at
-agent-won w q a None e f = absurd (let g = rw (e, agent_at) at f in let no : ⊥ = cc in no)
-agent-won w q a (Some Priority) e f = absurd (let g = rw (e, agent_at) at f in let no : ⊥ = cc in no)
-agent-won w q a (Some (Symmetric x)) e f =
-    let g = rw (e, agent_at) at f in
-    let same : x ≡ a = cc in
-    ap (λ x. Some (Symmetric x)) same
+agent-won w q a o h1 h2 = grind arith
 
 claimed-by : (w : Trace) (q : ℕ) (claim : Claim) → claim_at w q ≡ Some claim
     → winner_at w q ≡ Some (Symmetric claim.agent)
 unfolding claim_at
-claimed-by w q claim e =
-    let k = and-some (λ a. option_map (λ line. record { first = q; agent = a; line = line }) (line_of w q))
-    (agent_at w q) claim e in
-    let m = mapped-some (λ line. record { first = q; agent = k.0; line = line }) (line_of w q) claim k.2 in
-    let same : k.0 ≡ claim.agent = ap (λ (claim : Claim). claim.agent) m.2 in
-    agent-won w q k.0 (winner_at w q) refl k.1 ∙ ap (λ x. Some (Symmetric x)) same
+claimed-by w q claim e = grind (arith, agent-won)
 
 claim-there : (w : Trace) (q : ℕ) (claim : Claim) (b : Bool) → (if b then claim_at w q else None) ≡ Some claim
     → claim_at w q ≡ Some claim
-claim-there w q claim true e = e
-claim-there w q claim false e = absurd (let no : ⊥ = cc in no)
+claim-there w q claim b h1 = grind arith
 
 winner-of : (w : Trace) (q a : ℕ) (o : Option Claim) → o ≡ (if line_at ADS w q then claim_at w q else None)
     → is_some_and o (λ (claim : Claim). nat_eq claim.agent a) ≡ true → winner_at w q ≡ Some (Symmetric a)
 unfolding is_some_and
-winner-of w q a None f e = absurd (let no : ⊥ = cc in no)
-winner-of w q a (Some claim) f e =
-    let same : claim.agent ≡ a = eqb-true claim.agent a e in
-    claimed-by w q claim (claim-there w q claim (line_at ADS w q) (sym f)) ∙ ap (λ x. Some (Symmetric x)) same
+winner-of w q a o h1 h2 = grind (arith, claimed-by)
 
 -- an agent that begins a request is the winner
 pub begun-by-agent : (r : Run) (a q : ℕ) → q < length r.trace → is_begun_by (past_of r) a q ≡ true

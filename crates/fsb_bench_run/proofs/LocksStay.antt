@@ -1,23 +1,20 @@
 -- Which agents keep the bus locked into a clock stays as a run grows.
-use Rattle.std.proofs.Common.{ℕ, zero, suc, ◌+◌, ◌-◌, ◌<◌, ◌≤◌, ◌≡◌, ◌&&◌, ◌||◌, Bool, true, false, not, nat_eq, nat_le}
-use Rattle.std.proofs.Common.{Option, Some, None, List, [], ◌∷◌, ◌++◌, length, slice_get, refl, sym, ap, ◌∙◌, arith}
+use Rattle.std.proofs.Common.{ℕ, ◌-◌, ◌<◌, ◌≤◌, ◌≡◌, ◌&&◌, ◌||◌, Bool, true, false, nat_eq, nat_le, Option, Some}
+use Rattle.std.proofs.Common.{None, List, [], ◌∷◌, ◌++◌, length, slice_get, refl, ap, ◌∙◌, arith}
 use Rattle.std.specs.List.{list_all, list_any}
 use Rattle.std.specs.Option.{option_and_then}
-use Rattle.std.proofs.lemmas.Bool.{and_parts, eqb-true, ne_eqb}
 use Rattle.fsb_access.specs.declared.log.Done.{Done}
-use Rattle.fsb_count.specs.Clocks.{any_where, count_where, from_clock, holds_since}
+use Rattle.fsb_count.specs.Clocks.{count_where, from_clock, holds_since}
 use Rattle.fsb_count.specs.Options.{is_some_and}
 use Rattle.fsb_count.proofs.Interface.{any_where-same, nth_where-found}
 use Rattle.fsb_lawful.proofs.Interface.{length-cut}
-use Rattle.fsb_signal.specs.declared.lines.TheConstants.Lines.{ADS, AERR}
-use Rattle.fsb_signal.specs.Samples.{line_at}
 use Rattle.fsb_signal.proofs.Interface.{slice_get-before}
 use Rattle.fsb_timely.specs.BusLock.{ends_locked_item, is_lock_cancelled, is_lock_retried, is_locked_request}
 use Rattle.fsb_timely.specs.BusLock.{is_release, is_released_before, keeps_lock}
 use Rattle.fsb_timely.specs.Growth.{GrowsTo}
 use Rattle.fsb_timely.specs.Moments.{cancelled_at, moment_at, responded_at, retried_at}
 use Rattle.fsb_timely.specs.Past.{Moment, Past}
-use Rattle.fsb_timely.specs.Runs.{Run, past_of, run_to}
+use Rattle.fsb_timely.specs.Runs.{Run, past_of}
 use Rattle.fsb_timely.specs.Scripts.{items_of}
 use Rattle.fsb_timely.proofs.Interface.{cancelled-told, length-moments, moment-at, moments-grow}
 use Rattle.fsb_trace.specs.At.{Trace, responds_at, response_code_at}
@@ -41,8 +38,7 @@ any-both f [] ys = refl
 any-both f (x ∷ xs) ys = assoc (f x) _ _ _ (any-both f xs ys)
   where
     assoc : (a b c d : Bool) → d ≡ (b || c) → (a || d) ≡ ((a || b) || c)
-    assoc true b c d e = refl
-    assoc false b c d e = e
+    assoc a b c d h1 = grind arith
 
 -- no entry of another clock ends a locked item at this one
 none-ends : (p : Past) (a t n : ℕ) (entries : List Done) → t < n
@@ -50,15 +46,10 @@ none-ends : (p : Past) (a t n : ℕ) (entries : List Done) → t < n
     → list_any (ends_locked_item p a t) entries ≡ false
 unfolding ends_locked_item
 none-ends p a t n [] l e = refl
-none-ends p a t n (done ∷ entries) l e =
-    let parts = and_parts (nat_eq done.clock n) (list_all (λ (done : Done). nat_eq done.clock n) entries) e in
-    let at : done.clock ≡ n = eqb-true done.clock n parts.0 in
-    let off : nat_eq done.clock t ≡ false = ne_eqb done.clock t (λ same. omega arith) in
-    rw (off, ends_locked_item) (none-ends p a t n entries l parts.1)
+none-ends p a t n (done ∷ entries) l e = grind (arith, none-ends p a t n entries l)
 
 or-false : (a b : Bool) → b ≡ false → (a || b) ≡ a
-or-false true b e = refl
-or-false false b e = e
+or-false a b h1 = grind arith
 
 ends-old : (r s : Run) (a t : ℕ) → GrowsTo r s → t < length r.trace
     → list_any (ends_locked_item (past_of s) a t) (past_of s).log
@@ -73,20 +64,14 @@ ends-old r s a t grows l =
 some-same : (r s : Run) (a : ℕ) (o : Option ℕ) → GrowsTo r s → ((q : ℕ) → o ≡ Some q → q < length r.trace)
     → is_some_and o (is_locked_request (past_of s) a) ≡ is_some_and o (is_locked_request (past_of r) a)
 unfolding is_some_and
-some-same r s a None grows below = refl
-some-same r s a (Some q) grows below = locked-same r s a q grows (below q refl)
+some-same r s a o h1 h2 = grind (arith, locked-same)
 
 if-some : {X : Type 0} (b : Bool) (o : Option X) (x : X) → (elim b [ true ↦ o | false ↦ None ]) ≡ Some x → o ≡ Some x
-if-some true o x e = e
-if-some false o x e = absurd (let no : ⊥ = cc in no)
+if-some b o x h1 = grind arith
 
 cancelled-below : (w : Trace) (t q : ℕ) → cancelled_at w t ≡ Some q → q ≤ t
 unfolding cancelled_at
-cancelled-below w t q e =
-    let same : Some (t - 3) ≡ Some q =
-    if-some (nat_le 3 t && line_at AERR w t && line_at ADS w (t - 3)) (Some (t - 3)) q e in
-    let one : t - 3 ≡ q = cc in
-    omega arith
+cancelled-below w t q e = grind arith
 
 -- what responds began below the end of the trace
 retried-within : (w : Trace) (t q : ℕ) → retried_at w t ≡ Some q → q < length w
@@ -100,38 +85,20 @@ retried-below : (r : Run) (t q : ℕ) → t < length r.trace
     → option_and_then (λ (moment : Moment). moment.retried) (slice_get (past_of r).moments t) ≡ Some q
     → q < length r.trace
 unfolding past_of moment_at
-retried-below r t q l e =
-    let told = ap (option_and_then (λ (moment : Moment). moment.retried)) (moment-at r (length r.trace) t l) in
-    let within = retried-within (run_to r t).trace t q (sym told ∙ e) in
-    let short = length-cut r t l in
-    omega arith
+retried-below r t q l e = grind (arith, moment-at, retried-within, length-cut)
 
 pub release-old : (r s : Run) (a t : ℕ) → GrowsTo r s → t < length r.trace
     → is_release (past_of s) a t ≡ is_release (past_of r) a t
 unfolding is_release is_lock_retried is_lock_cancelled
 release-old r s a t grows l =
-    let moment = moments-old r s t grows l in
-    let retried = ap (option_and_then (λ (moment : Moment). moment.retried)) moment in
-    let cancelled = ap (option_and_then (λ (moment : Moment). moment.cancelled)) moment in
-    let ends = ends-old r s a t grows l in
-    let one = ap (λ o. is_some_and o (is_locked_request (past_of s) a)) retried
-    ∙ some-same r s a _ grows (λ q e. retried-below r t q l e) in
-    let two = ap (λ o. is_some_and o (is_locked_request (past_of s) a)) cancelled
-    ∙ some-same r s a _ grows (λ q e.
-    let below = cancelled-below r.trace t q (sym (cancelled-told r t l) ∙ e) in omega arith) in
-    λ i. ends i || one i || two i
+    grind (arith, moments-old, ends-old, some-same, retried-below, cancelled-below, cancelled-told)
 
 -- what has held since is the same where the gains and losses are
 since-same : (gain gain' loss loss' : ℕ → Bool) (n : ℕ) → ((c : ℕ) → c < n → gain c ≡ gain' c)
     → ((c : ℕ) → c < n → loss c ≡ loss' c)
     → holds_since gain loss n ≡ holds_since gain' loss' n
 unfolding holds_since from_clock
-since-same gain gain' loss loss' n a b =
-    let last = last-same gain gain' n a in
-    let any : (d : ℕ) → any_where (from_clock (d + 1) loss) n ≡ any_where (from_clock (d + 1) loss') n =
-    λ d. any_where-same (from_clock (d + 1) loss) (from_clock (d + 1) loss') n
-    (record { same = λ c l. ap (λ x. nat_le (d + 1) c && x) (b c l) }) in
-    λ i. elim (last i) [ None ↦ false | Some d ↦ not (any d i) ]
+since-same gain gain' loss loss' n a b = grind (arith, last-same, any_where-same)
 
 released-old : (r s : Run) (a t : ℕ) → GrowsTo r s → t < length r.trace
     → is_released_before (past_of s) a t ≡ is_released_before (past_of r) a t
@@ -141,19 +108,12 @@ released-old r s a t grows l = ap (λ b. nat_le 1 t && b) (release-old r s a (t 
 keeps-old : (r s : Run) (a c : ℕ) → GrowsTo r s → c < length r.trace
     → keeps_lock (past_of s) c a ≡ keeps_lock (past_of r) c a
 unfolding keeps_lock
-keeps-old r s a c grows l =
-    since-same (is_locked_request (past_of s) a) (is_locked_request (past_of r) a) (is_released_before (past_of s) a)
-    (is_released_before (past_of r) a) (c + 1) (λ t m. locked-same r s a t grows (omega arith))
-    (λ t m. released-old r s a t grows (omega arith))
+keeps-old r s a c grows l = grind (arith, since-same, locked-same, released-old)
 
 into-old : (r s : Run) (a c : ℕ) → GrowsTo r s → c ≤ length r.trace
     → keeps_into (past_of s) c a ≡ keeps_into (past_of r) c a
 unfolding keeps_into
-into-old r s a zero grows l = refl
-into-old r s a (suc c) grows l =
-    let kept = keeps-old r s a c grows (omega arith) in
-    let release = release-old r s a c grows (omega arith) in
-    λ i. kept i && not (release i)
+into-old r s a c h1 h2 = grind (arith, keeps-old, release-old)
 
 -- into the next clock
 pub keeps_into-grown : (r s : Run) (a : ℕ) → GrowsTo r s

@@ -3,9 +3,9 @@
 -- arrivals.
 use Rattle.std.proofs.Common.{ℕ, ◌+◌, ◌≡◌, ◌||◌, Bool, true, false, nat_eq, Option, Some, None, List, [], ◌∷◌, ◌++◌}
 use Rattle.std.proofs.Common.{map, refl, sym, ap, ◌∙◌, inl, inr, arith}
-use Rattle.std.specs.List.{list_all, list_any}
+use Rattle.std.specs.List.{list_any}
 use Rattle.std.specs.Option.{option_map_or}
-use Rattle.std.proofs.lemmas.Bool.{and_from, and_parts, both_ways, cases_Bool, eq-eqb, eqb-true, false_from_ne_true}
+use Rattle.std.proofs.lemmas.Bool.{both_ways, cases_Bool, eqb-true, false_from_ne_true}
 use Rattle.std.proofs.lemmas.List.{map-append}
 use Rattle.std.proofs.lemmas.List.Folds.{list_any-append}
 use Rattle.fsb_access.specs.declared.item.Item.{Item}
@@ -44,17 +44,12 @@ use Rattle.fsb_bench_run.proofs.TimelyNext.{timely-next}
 
 first-of-clock : (n : ℕ) (xs ys : List Done) → AreOfClock n (xs ++ ys) → AreOfClock n xs
 first-of-clock n [] ys h = refl
-first-of-clock n (x ∷ xs) ys h =
-    let parts = and_parts (nat_eq x.clock n) (list_all (λ (done : Done). nat_eq done.clock n) (xs ++ ys)) h in
-    and_from (nat_eq x.clock n) (list_all (λ (done : Done). nat_eq done.clock n) xs) parts.0
-    (first-of-clock n xs ys parts.1)
+first-of-clock n (x ∷ xs) ys h = grind (arith, first-of-clock n xs ys)
 
 -- the entries at a clock of accesses are of that clock
 made-of-clock : (n : ℕ) (xs : List Completed) → AreOfClock n (map (entry_at n) xs)
 made-of-clock n [] = refl
-made-of-clock n (x ∷ xs) =
-    and_from (nat_eq n n) (list_all (λ (done : Done). nat_eq done.clock n) (map (entry_at n) xs)) (eq-eqb n n refl)
-    (made-of-clock n xs)
+made-of-clock n (x ∷ xs) = grind (arith, made-of-clock n xs)
 
 -- and of their agents
 none-of-steps : (a b n : ℕ) (steps : List Step) → nat_eq b a ≡ false

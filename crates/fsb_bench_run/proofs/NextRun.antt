@@ -1,16 +1,15 @@
 -- The run with one more clock of a bench goes on from the run.
-use Rattle.std.proofs.Common.{ℕ, slice_get, if◌then◌else◌, ◌+◌, ◌≡◌, Bool, true, false, nat_eq, is_some, Option, Some}
-use Rattle.std.proofs.Common.{None, List, [], ◌∷◌, ◌++◌, length, refl, sym, ap, ◌∙◌, arith}
+use Rattle.std.proofs.Common.{ℕ, if◌then◌else◌, ◌+◌, ◌≡◌, Bool, true, false, nat_eq, is_some, Option, Some, None}
+use Rattle.std.proofs.Common.{List, [], ◌∷◌, ◌++◌, length, refl, sym, ap, ◌∙◌, arith}
 use Rattle.std.specs.List.{list_all}
 use Rattle.std.specs.Option.{option_map_or}
-use Rattle.std.proofs.lemmas.Bool.{and_from, and_parts, eq-eqb}
+use Rattle.std.proofs.lemmas.Bool.{eq-eqb}
 use Rattle.std.proofs.lemmas.List.{length-append}
 use Rattle.fsb_access.specs.ScriptOrder.{Step}
 use Rattle.fsb_access.specs.declared.log.Done.{Done}
 use Rattle.fsb_agent_view.specs.AgentViews.{AgentView}
 use Rattle.fsb_agent_view.specs.Arriving.{ended_entries_for, is_arrival_by, met_entries, with_bytes}
-use Rattle.fsb_agent_view.specs.Completing.{completed_entries, is_hit_by, performed_entries}
-use Rattle.fsb_agent_view.specs.OwnRequests.{request_numbered}
+use Rattle.fsb_agent_view.specs.Completing.{completed_entries}
 use Rattle.fsb_agent_view.specs.Serving.{AtHand, entries_at_hand, hand_after}
 use Rattle.fsb_agent_view.specs.declared.want.OwnRequest.{OwnRequest}
 use Rattle.fsb_count.specs.Clocks.{count_where}
@@ -23,11 +22,9 @@ use Rattle.fsb_timely.specs.Growth.{GrowsTo, IsNext, IsWhole}
 use Rattle.fsb_timely.specs.Runs.{requests_below}
 use Rattle.fsb_trace.specs.At.{Trace}
 use Rattle.fsb_trace.specs.declared.outcome.Outcome.{Outcome}
-use Rattle.fsb_trace.specs.declared.outcome.Outcome.TheVariants as outcomes
 use Rattle.fsb_bench_view.specs.declared.beginning.Starting.{Starting}
 use Rattle.fsb_bench_view.specs.declared.decided.Ending.{Ending}
-use Rattle.fsb_bench_view.specs.BenchSteps.{step_answered, step_decided, step_ending, step_entries, step_fetched}
-use Rattle.fsb_bench_view.specs.BenchSteps.{step_performed, step_run, step_sample}
+use Rattle.fsb_bench_view.specs.BenchSteps.{step_decided, step_entries, step_performed, step_run, step_sample}
 use Rattle.fsb_bench_view.specs.BusEvents.{end_entries, end_event, entries_ended, entries_of_event}
 use Rattle.fsb_bench_view.specs.BusViews.{BenchView, BusView, next_clock_of}
 use Rattle.fsb_bench_view.specs.ToldAgents.{hit_entries}
@@ -40,10 +37,7 @@ AreOfClock clock entries = list_all (λ (done : Done). nat_eq done.clock clock) 
 
 pub of-both : (clock : ℕ) (xs ys : List Done) → AreOfClock clock xs → AreOfClock clock ys → AreOfClock clock (xs ++ ys)
 of-both clock [] ys h k = k
-of-both clock (x ∷ xs) ys h k =
-    let parts = and_parts (nat_eq x.clock clock) (list_all (λ (done : Done). nat_eq done.clock clock) xs) h in
-    and_from (nat_eq x.clock clock) (list_all (λ (done : Done). nat_eq done.clock clock) (xs ++ ys)) parts.0
-    (of-both clock xs ys parts.1 k)
+of-both clock (x ∷ xs) ys h k = grind (arith, of-both clock xs ys)
 
 of-steps : (agent clock : ℕ) (hand : AtHand) (steps : List Step)
     → AreOfClock clock (entries_at_hand agent clock hand steps)
@@ -53,14 +47,11 @@ of-steps agent clock hand (step ∷ steps) =
 
 of-hit-if : (v : AgentView) (clock : ℕ) (b : Bool)
     → AreOfClock clock (elim b [ true ↦ completed_entries v clock | false ↦ [] ])
-of-hit-if v clock true = of-steps v.number clock _ _
-of-hit-if v clock false = refl
+of-hit-if v clock b = grind (arith, of-steps)
 
 of-hits : (clock : ℕ) (agents : List AgentView) → AreOfClock clock (hit_entries clock agents)
 of-hits clock [] = refl
-of-hits clock (v ∷ vs) =
-    of-both clock (performed_entries v clock) (hit_entries clock vs) (of-hit-if v clock (is_hit_by v clock))
-    (of-hits clock vs)
+of-hits clock (v ∷ vs) = grind (arith, of-both, of-hit-if, of-hits clock vs)
 
 of-met : (v : AgentView) (clock : ℕ) (out : OwnRequest) (bytes : List ℕ)
     → AreOfClock clock (met_entries v clock out bytes)
@@ -68,29 +59,19 @@ of-met v clock out bytes = of-hit-if (with_bytes v out.request.line bytes) clock
 
 of-arrived : (v : AgentView) (clock : ℕ) (bytes : List ℕ) (o : Option OwnRequest)
     → AreOfClock clock (option_map_or (λ out. met_entries v clock out bytes) o [])
-of-arrived v clock bytes None = refl
-of-arrived v clock bytes (Some out) = of-met v clock out bytes
+of-arrived v clock bytes o = grind (arith, of-met)
 
 of-kept : (v : AgentView) (clock : ℕ) (out : OwnRequest) (o : Option (List ℕ))
     → AreOfClock clock (elim o [ Some bytes ↦ met_entries v clock out bytes | None ↦ [] ])
-of-kept v clock out None = refl
-of-kept v clock out (Some bytes) = of-met v clock out bytes
+of-kept v clock out o = grind (arith, of-met)
 
 of-upgraded : (v : AgentView) (clock : ℕ) (o : Option OwnRequest)
     → AreOfClock clock (option_map_or (ended_entries_for v clock) o [])
-of-upgraded v clock None = refl
-of-upgraded v clock (Some out) = of-kept v clock out out.kept
+of-upgraded v clock o = grind (arith, of-kept)
 
 of-outcome : (v : AgentView) (clock first : ℕ) (bytes : List ℕ) (o : Outcome)
     → AreOfClock clock (option_map_or (entries_of_event v) (end_event clock first bytes o) [])
-of-outcome v clock first bytes outcomes.Granted = of-arrived v clock bytes (request_numbered first v.outs)
-of-outcome v clock first bytes outcomes.Handed = of-arrived v clock bytes (request_numbered first v.outs)
-of-outcome v clock first bytes outcomes.Retried = refl
-of-outcome v clock first bytes outcomes.Deferred = refl
-of-outcome v clock first bytes outcomes.Written = refl
-of-outcome v clock first bytes outcomes.Replied = of-arrived v clock bytes (request_numbered first v.outs)
-of-outcome v clock first bytes outcomes.Failed = refl
-of-outcome v clock first bytes outcomes.Upgraded = of-upgraded v clock (request_numbered first v.outs)
+of-outcome v clock first bytes o = grind (arith, of-arrived, of-upgraded)
 
 of-end : (clock first : ℕ) (bytes : List ℕ) (outcome : Outcome) (o : Option AgentView)
     → AreOfClock clock (option_map_or (entries_ended clock first bytes outcome) o [])
@@ -99,16 +80,10 @@ of-end clock first bytes outcome (Some v) = of-outcome v clock first bytes outco
 
 of-ending : (bus : BusView) (clock : ℕ) (o : Option Ending)
     → AreOfClock clock (option_map_or (end_entries bus clock) o [])
-of-ending bus clock None = refl
-of-ending bus clock (Some ending) =
-    of-end clock ending.served.first bus.moved ending.outcome (slice_get bus.agents ending.served.agent)
+of-ending bus clock o = grind (arith, of-end)
 
 pub entries-now : (v : BenchView) (hold : Bool) → AreOfClock (next_clock_of v) (step_entries v hold)
-entries-now v hold =
-    of-both (next_clock_of v) (hit_entries (next_clock_of v) (step_fetched v).agents)
-    (option_map_or (end_entries (step_answered v hold) (next_clock_of v)) (step_ending v hold) [])
-    (of-hits (next_clock_of v) (step_fetched v).agents)
-    (of-ending (step_answered v hold) (next_clock_of v) (step_ending v hold))
+entries-now v hold = grind (arith, of-both, of-hits, of-ending)
 
 pub next-run : (v : BenchView) (hold : Bool) (choice : Choice) → IsNext v.run (step_run v hold choice)
 next-run v hold choice = record {
@@ -127,14 +102,12 @@ next-run v hold choice = record {
 one-if : (choice : Choice) (o : Option Starting) (k m : ℕ) (b : Bool) → b ≡ is_some o
     → m ≡ (if b then k + 1 else k)
     → k + length (option_map_or (λ (starting : Starting). choice ∷ []) o []) ≡ m
-one-if choice None k m b e f = let g = rw e at f in omega arith
-one-if choice (Some s) k m b e f = let g = rw e at f in omega arith
+one-if choice o k m b h1 h2 = grind arith
 
 counted : (w : Trace) (n : ℕ) (b : Bool) → line_at ADS w n ≡ b
     → count_where (line_at ADS w) (n + 1)
     ≡ (if b then count_where (line_at ADS w) n + 1 else count_where (line_at ADS w) n)
-counted w n true e = count_where-passed (line_at ADS w) n e
-counted w n false e = count_where-failed (line_at ADS w) n e
+counted w n b h1 = grind (arith, count_where-passed, count_where-failed)
 
 -- what begins shows on ADS#
 pub begins-now : (v : BenchView) (hold : Bool) (choice : Choice)
@@ -156,8 +129,7 @@ whole-run v hold choice b =
     let choices = length-append r.choices
     (option_map_or (λ (starting : Starting). choice ∷ []) (step_decided v hold).starting []) in
     let old : count_where (line_at ADS r.trace) n ≡ count_where (line_at ADS s.trace) n =
-    count_where-same (line_at ADS r.trace) (line_at ADS s.trace) n
-    (record { same = λ d m. sym (line_at-old ADS r.trace x s.trace d (one_more r.trace x) m) }) in
+    grind (arith, count_where-same, line_at-old, one_more) in
     let began = begins-now v hold choice in
     let more = counted s.trace n (is_some (step_decided v hold).starting) began in
     record {

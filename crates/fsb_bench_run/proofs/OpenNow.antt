@@ -1,10 +1,10 @@
 -- Which requests of others are open at a bench's clock: those of the queue that have no outcome.
-use Rattle.std.proofs.Common.{ℕ, zero, suc, ◌+◌, ◌/◌, ◌<◌, ◌≤◌, ◌≡◌, ◌&&◌, ◌||◌, Bool, true, false, not, if◌then◌else◌}
-use Rattle.std.proofs.Common.{is_none, is_some, nat_eq, List, [], ◌∷◌, Option, Some, None, length, map, slice_get, take}
-use Rattle.std.proofs.Common.{refl, sym, ap, ◌∙◌, arith, inl, inr}
+use Rattle.std.proofs.Common.{ℕ, zero, suc, ◌+◌, ◌/◌, ◌<◌, ◌≤◌, ◌≡◌, ◌&&◌, ◌||◌, Bool, true, false, not, is_none}
+use Rattle.std.proofs.Common.{is_some, nat_eq, List, [], ◌∷◌, Option, Some, None, length, map, slice_get, refl, sym}
+use Rattle.std.proofs.Common.{ap, ◌∙◌, arith}
 use Rattle.std.specs.List.{filter, filter_map, list_any}
-use Rattle.std.specs.Option.{option_and_then, option_map, option_map_or}
-use Rattle.std.proofs.lemmas.Bool.{cases_Bool, eq-eqb, eqb-true}
+use Rattle.std.specs.Option.{option_and_then, option_map}
+use Rattle.std.proofs.lemmas.Bool.{eq-eqb, eqb-true}
 use Rattle.std.proofs.lemmas.List.{take_all}
 use Rattle.std.proofs.lemmas.List.Folds.{list_any-append}
 use Rattle.fsb_access.specs.declared.log.Done.{Done}
@@ -27,8 +27,8 @@ use Rattle.fsb_timely.specs.Moments.{agent_at, claim_at, is_snoop_of, is_snooped
 use Rattle.fsb_timely.specs.Past.{Claim, Moment, Owing, Past, SnoopEnd}
 use Rattle.fsb_timely.specs.Runs.{Run, moments_below, past_of, past_to, run_to}
 use Rattle.fsb_timely.specs.Starts.{would_begin}
-use Rattle.fsb_timely.specs.Wants.{is_open_to_other, unsnooped_at, want_of}
-use Rattle.fsb_timely.proofs.Interface.{begun-told, below_le, done_below, moment-at, moment_of, past-begins, snoop-tied}
+use Rattle.fsb_timely.specs.Wants.{is_open_to_other, unsnooped_at}
+use Rattle.fsb_timely.proofs.Interface.{begun-told, below_le, done_below, moment-at, past-begins, snoop-tied}
 use Rattle.fsb_timely.proofs.Interface.{tied-snoop, want_of-alike}
 use Rattle.fsb_trace.specs.At.{Trace}
 use Rattle.fsb_trace.specs.Flight.{in_flight}
@@ -56,14 +56,7 @@ any-over g t f h [] each = refl
 any-over g t f h (x ∷ queue) each =
     let here = each 0 x refl in
     let rest = any-over g t f h queue (λ k e at. each (suc k) e at) in
-    elim (cases_Bool (t x.clock)) [
-      | inr off ↦
-          let none : false ≡ h x = sym (ap (λ b. b && is_some_and (g x.clock) f) off) ∙ here in
-          rw off (rest ∙ (λ i. none i || list_any h queue))
-      | inl on ↦
-          let some : is_some_and (g x.clock) f ≡ h x = sym (ap (λ b. b && is_some_and (g x.clock) f) on) ∙ here in
-          rw on (by (g x.clock) refl some rest)
-    ]
+    grind arith
   where
     by : (o : Option Claim) → g x.clock ≡ o → is_some_and (g x.clock) f ≡ h x
         → list_any f (filter_map g (filter t (map (λ (x : Entry). x.clock) queue))) ≡ list_any h queue
@@ -83,13 +76,10 @@ one-number w i j q e f =
     sym (nth_where-found (is_live w) i (length w) q e).2 ∙ (nth_where-found (is_live w) j (length w) q f).2
 
 same-bools : (a b : Bool) → (a ≡ true → b ≡ true) → (b ≡ true → a ≡ true) → a ≡ b
-same-bools true b f g = sym (f refl)
-same-bools false true f g = g refl
-same-bools false false f g = refl
+same-bools a b h1 h2 = grind arith
 
 some-of : {X : Type 0} (o : Option X) → is_some o ≡ true → (x : X) × (o ≡ Some x)
-some-of None e = absurd (let no : ⊥ = cc in no)
-some-of (Some x) e = (x, refl)
+some-of o h1 = grind arith
 
 -- the snoop end of a moment
 at-place : (p : Past) (t : ℕ) (m : Moment) → slice_get p.moments t ≡ Some m → snooped_at p t ≡ m.snooped
@@ -125,8 +115,7 @@ snooped-told r i q first =
     (ap (λ o. is_some_and o (λ (s : SnoopEnd). nat_eq s.first q)) moment.2 ∙ eq-eqb tied.0.first q same))
 
 none-is : {X : Type 0} (o : Option X) → not (is_some o) ≡ is_none o
-none-is None = refl
-none-is (Some x) = refl
+none-is o = grind arith
 
 -- a symmetric agent's request has a claim of the agent
 claim-there : (w : Trace) (q b : ℕ) → q < length w → winner_at w q ≡ Some (Symmetric b)
@@ -139,16 +128,11 @@ claim-there w q b l won =
 
 claim-agent : (w : Trace) (q b : ℕ) (claim : Claim) → q < length w → winner_at w q ≡ Some (Symmetric b)
     → claim_at w q ≡ Some claim → claim.agent ≡ b
-claim-agent w q b claim l won e =
-    let k = claim-there w q b l won in
-    let one : Some k.0 ≡ Some claim = sym k.1 ∙ e in
-    let same : k.0 ≡ claim = cc in
-    ap (λ (c : Claim). c.agent) (sym same) ∙ k.2
+claim-agent w q b claim l won e = grind (arith, claim-there)
 
 mapped : (o : Option Owing) (claim : Claim) → option_map (λ (owing : Owing). owing.claim) o ≡ Some claim
     → (owing : Owing) × (o ≡ Some owing) × (owing.claim ≡ claim)
-mapped None claim e = absurd (let no : ⊥ = cc in no)
-mapped (Some owing) claim e = (owing, refl, (let same : owing.claim ≡ claim = cc in same))
+mapped o claim h1 = grind arith
 
 claim-line : (r : Run) (q b : ℕ) (request : Request) (claim : Claim) → Reaches r (q + 1)
     → IsBegunAt r q (Symmetric b) request → claim_at r.trace q ≡ Some claim → claim.line ≡ request.line
@@ -157,17 +141,14 @@ claim-line r q b request claim h k e =
     let p = past_of r in
     let long = h.long in
     let l : q < length r.trace = omega arith in
-    let begun : begun_at p q ≡ Some claim =
-    begun-told r q l ∙ ap (λ (b : Bool). if b then claim_at r.trace q else None) k.begins ∙ e in
+    let begun : begun_at p q ≡ Some claim = grind (arith, begun-told) in
     let owing = mapped (owing_begun p q) claim begun in
     let wanted = begun-wanted r q owing.0 h owing.1 in
-    let agent : owing.0.claim.agent ≡ b =
-    ap (λ (c : Claim). c.agent) owing.2 ∙ claim-agent r.trace q b claim l k.winner e in
+    let agent : owing.0.claim.agent ≡ b = grind (arith, claim-agent) in
     let g = past-begins r q h.timely l in
     let same = want_of-alike (q + 1) (past_to p q) p b q g (below_le q (q + 1) (omega arith))
     (done_below (q + 1) (past_to p q) b q g.entries (omega arith) g.at_end) in
-    let one : Some wanted.0 ≡ Some request =
-    sym wanted.1 ∙ ap (λ a. want_of p a q) agent ∙ sym same ∙ k.wanted in
+    let one : Some wanted.0 ≡ Some request = grind arith in
     let equal : wanted.0 ≡ request = cc in
     ap (λ (c : Claim). c.line) (sym owing.2) ∙ wanted.3 ∙ ap (λ (x : Request). x.line) equal
 
@@ -180,53 +161,25 @@ other-told : (r : Run) (q a line : ℕ) (who : Who) (request : Request) → Reac
     → is_some_and (claim_at r.trace q) (is_claim_of_other a line)
     ≡ (is_of_other a who && nat_eq request.line line)
 unfolding is_some_and is_claim_of_other
-other-told r q a line (Symmetric b) request h k =
-    let long = h.long in
-    let claim = claim-there r.trace q b (omega arith) k.winner in
-    let agent = claim.2 in
-    let same = claim-line r q b request claim.0 h k claim.1 in
-    rw claim.1 (λ i. not (nat_eq (agent i) a) && nat_eq (same i) line)
-other-told r q a line Priority request h k = ap (λ o. is_some_and o (is_claim_of_other a line))
-    (no-claim r.trace q k.winner)
+other-told r q a line who request h1 h2 = grind (arith, claim-there, claim-line, no-claim)
 
 -- the open requests as the clock before left them
 open-list : (r : Run) (c : ℕ) → suc c ≡ length r.trace → unsnooped_at (past_of r) (suc c)
     ≡ filter_map (claim_at r.trace)
     (filter (λ q. not (is_snooped_in (past_of r).moments q)) (in_flight r.trace (length r.trace)))
 unfolding unsnooped_at past_of moment_at is_unsnooped run_to moments_below is_snooped_in
-open-list r c e =
-    let n = length r.trace in
-    let l : c < n = omega arith in
-    let whole : take (c + 1) r.trace ≡ r.trace = take_all (c + 1) r.trace (omega arith) in
-    let size : c + 1 ≡ n = omega arith in
-    let test : ℕ → Moment → Bool = λ q moment. is_some_and moment.snooped (is_snoop_of q) in
-    let split : (q : ℕ)
-    → (not (list_any (test q) (moments_below r c)) && not (is_some_and (moment_of r c).snooped (is_snoop_of q)))
-    ≡ not (list_any (test q) (moments_below r n)) =
-    (λ q.
-    both (list_any (test q) (moments_below r c)) (is_some_and (moment_of r c).snooped (is_snoop_of q))
-    ∙ ap not (sym (list_any-append (test q) (moments_below r c) (moment_of r c ∷ [])))
-    ∙ ap (λ k. not (list_any (test q) (moments_below r k))) e) in
-    ap (λ o. option_map_or (λ (m : Moment). m.unsnooped) o []) (moment-at r n c l)
-    ∙ (λ i. filter_map (claim_at (whole i)) (filter (λ q. split q i) (in_flight (whole i) (size i))))
-  where
-    both : (x y : Bool) → (not x && not y) ≡ not (x || (y || false))
-    both true y = refl
-    both false true = refl
-    both false false = refl
+open-list r c e = grind (arith, take_all, list_any-append, moment-at)
 
 none-flies : (w : Trace) → 0 ≡ length w → in_flight w (length w) ≡ []
 unfolding in_flight all_where
-none-flies [] e = refl
-none-flies (x ∷ w) e = absurd (omega (arith, e))
+none-flies w h1 = grind arith
 
 empty-open : (r : Run) (a line : ℕ) (queue : List Entry) → 0 ≡ length r.trace
     → map (λ (x : Entry). x.clock) queue ≡ in_flight r.trace (length r.trace)
     → list_any (is_claim_of_other a line) (unsnooped_at (past_of r) 0) ≡ list_any (is_open_of_other a line) queue
 unfolding unsnooped_at
 empty-open r a line [] size e = refl
-empty-open r a line (x ∷ queue) size e =
-    absurd (let f = e ∙ none-flies r.trace size in let no : ⊥ = cc in no)
+empty-open r a line (x ∷ queue) size e = grind (arith, none-flies)
 
 open-at : (r : Run) (a line n : ℕ) (queue : List Entry) → n ≡ length r.trace → Reaches r (length r.trace)
     → HoldsRequests queue r → ((k : ℕ) (e : Entry) → slice_get queue k ≡ Some e → IsBegunAt r e.clock e.who e.request)
@@ -246,19 +199,12 @@ open-at r a line (suc c) queue size h holds begun =
     (λ i. settled i && other i) ∙ swap (is_none e.outcome) (is_of_other a e.who) (nat_eq e.request.line line))
   where
     swap : (x y z : Bool) → (x && (y && z)) ≡ (y && z && x)
-    swap true true true = refl
-    swap true true false = refl
-    swap true false z = refl
-    swap false true true = refl
-    swap false true false = refl
-    swap false false z = refl
+    swap x y z = grind arith
 
 unsnooped-old : (r s : Run) (n : ℕ) → GrowsTo r s → n ≤ length r.trace
     → unsnooped_at (past_of s) n ≡ unsnooped_at (past_of r) n
 unfolding unsnooped_at
-unsnooped-old r s zero grows l = refl
-unsnooped-old r s (suc c) grows l =
-    ap (λ o. option_map_or (λ (m : Moment). m.unsnooped) o []) (moments-old r s c grows (omega arith))
+unsnooped-old r s n h1 h2 = grind (arith, moments-old)
 
 -- the open requests of others, by the queue
 pub open-told : (v : BenchView) (hold : Bool) (choice : Choice) (entries : List Done) (a line : ℕ)

@@ -1,72 +1,42 @@
 -- What an agent owes rests on its buffers alone: so it stays by each event that leaves them, and where an agent is told
 -- to hand on bytes that it does not have.
-use Rattle.std.proofs.Common.{ℕ, ◌+◌, ◌≡◌, Bool, true, false, cond, if◌then◌else◌, List, [], ◌∷◌, length, Option, Some}
-use Rattle.std.proofs.Common.{None, fold, nat_eq, refl, sym, ap, subst, ◌∙◌, inl, inr, arith}
-use Rattle.std.specs.Prelude.{◌==◌, count_by, is_some}
+use Rattle.std.proofs.Common.{ℕ, ◌+◌, ◌≡◌, false, cond, if◌then◌else◌, List, [], ◌∷◌, Some, fold, refl, sym, ap}
+use Rattle.std.proofs.Common.{subst, ◌∙◌, inl, inr, arith}
+use Rattle.std.specs.Prelude.{◌==◌, count_by}
 use Rattle.std.proofs.lemmas.Bool.{cases_Bool}
 use Rattle.std.proofs.lemmas.List.Sums.{sum_by-cons}
 use Rattle.fsb_agent_run.specs.BytesOwed.{HasBytesOwed, is_given_below, is_pushed}
 use Rattle.fsb_agent_run.specs.Stages.{IsViewAfterSnoop, IsViewOf}
 use Rattle.fsb_agent_run.proofs.Interface.{handed-owed, kept-at-response, line-owed}
-use Rattle.fsb_agent_view.specs.AgentEvents.{GivenUp, Sent, agent_after}
+use Rattle.fsb_agent_view.specs.AgentEvents.{agent_after}
 use Rattle.fsb_agent_view.specs.AgentViews.{AgentView}
 use Rattle.fsb_agent_view.specs.Arriving.{handed_on}
-use Rattle.fsb_agent_view.specs.Completing.{is_hit_by, performed}
-use Rattle.fsb_agent_view.specs.Snooping.{owed_count}
-use Rattle.fsb_agent_view.specs.Wanting.{sent, want_by}
-use Rattle.fsb_agent_view.specs.declared.want.Want.{Want}
-use Rattle.fsb_agent_view.proofs.Interface.{without_first-cons}
+use Rattle.fsb_agent_view.specs.Completing.{performed}
 use Rattle.fsb_coherent.specs.Awaits.{responded_in}
-use Rattle.fsb_linebuf.specs.Buffers.{is_fill_on, is_push_for, promise_on, pushes_without}
+use Rattle.fsb_linebuf.specs.Buffers.{is_fill_on, is_push_for, pushes_without}
 use Rattle.fsb_linebuf.specs.declared.entry.Push.{Push}
 use Rattle.fsb_run_laws.specs.Reaches.{Reaches}
 use Rattle.fsb_timely.specs.Past.{Past}
 use Rattle.fsb_timely.specs.Runs.{Run, past_of}
 use Rattle.fsb_trace.specs.declared.who.Who.{Who}
-use Rattle.fsb_trace.specs.declared.who.Who.TheVariants.{Symmetric, Priority}
 use Rattle.fsb_bench_view.specs.BusEvents.{cancelled_event, starting_event}
 
 -- an agent with the same buffers owes the same
 pub owed-alike : (p : Past) (a n r c : ℕ) (v w : AgentView) → w.buffers ≡ v.buffers → HasBytesOwed p a n r c v
     → HasBytesOwed p a n r c w
-owed-alike p a n r c v w e k = record {
-  pushes = λ q. ap (λ b. count_by (is_push_for q) b.pushes) e ∙ k.pushes q;
-  promises = λ line. ap (λ b. promise_on line b.fills) e ∙ k.promises line;
-  count = ap (λ b. owed_count b) e ∙ k.count;
-}
+owed-alike p a n r c v w e k = grind arith
 
 pub performed-buffers : (v : AgentView) (clock : ℕ) → (performed v clock).buffers ≡ v.buffers
-performed-buffers v clock = by (is_hit_by v clock) refl
-  where
-    by : (b : Bool) → is_hit_by v clock ≡ b → (performed v clock).buffers ≡ v.buffers
-    by true e = rw (e, performed) refl
-    by false e = rw (e, performed) refl
-
-sent-buffers : (v : AgentView) (clock number : ℕ) → (sent v clock number).buffers ≡ v.buffers
-sent-buffers v clock number = by (want_by v clock) refl
-  where
-    by : (o : Option Want) → want_by v clock ≡ o → (sent v clock number).buffers ≡ v.buffers
-    by None e = rw (e, sent) refl
-    by (Some want) e = rw (e, sent) refl
+performed-buffers v clock = grind arith
 
 -- what begins, and what is cancelled, leaves each agent's buffers
 pub started-buffers : (clock a : ℕ) (who : Who) (w : AgentView)
     → (fold agent_after w (starting_event clock who a)).buffers ≡ w.buffers
-started-buffers clock a (Symmetric agent) w = by (nat_eq a agent)
-  where
-    by : (b : Bool) → (fold agent_after w (if b then Sent clock clock ∷ [] else [])).buffers ≡ w.buffers
-    by true = sent-buffers w clock clock
-    by false = refl
-started-buffers clock a Priority w = refl
+started-buffers clock a who w = grind arith
 
 pub cancelled-buffers : (first a : ℕ) (who : Who) (w : AgentView)
     → (fold agent_after w (cancelled_event first who a)).buffers ≡ w.buffers
-cancelled-buffers first a (Symmetric agent) w = by (nat_eq a agent)
-  where
-    by : (b : Bool) → (fold agent_after w (if b then GivenUp first ∷ [] else [])).buffers ≡ w.buffers
-    by true = refl
-    by false = refl
-cancelled-buffers first a Priority w = refl
+cancelled-buffers first a who w = grind arith
 
 -- pushes of which none is for the number
 without-none : (q : ℕ) (pushes : List Push) → count_by (is_push_for q) pushes ≡ 0 → pushes_without q pushes ≡ pushes
@@ -75,16 +45,7 @@ without-none q (push ∷ pushes) none =
     let here : count_by (is_push_for q) (push ∷ pushes)
     ≡ cond (push.number == q) 1 0 + count_by (is_push_for q) pushes =
     sum_by-cons (λ x. cond (is_push_for q x) 1 0) push pushes in
-    elim (cases_Bool (push.number == q)) [
-      | inl on ↦
-          let one : cond (push.number == q) 1 0 ≡ 1 = ap {B = ℕ} (λ b. cond b 1 0) on in
-          absurd (omega (arith, here, none, one))
-      | inr off ↦
-          let rest : count_by (is_push_for q) pushes ≡ 0 = omega (arith, here, none) in
-          without_first-cons (is_push_for q) push pushes
-          ∙ ap (λ b. cond b pushes (push ∷ pushes_without q pushes)) off
-          ∙ ap (λ (xs : List Push). push ∷ xs) (without-none q pushes rest)
-    ]
+    grind (arith, without-none q pushes)
 
 unpushed : (p : Past) (a n r c q : ℕ) → is_given_below p a n q ≡ false → is_pushed p a n r c q ≡ false
 unfolding is_pushed
@@ -96,12 +57,7 @@ unhanded : (p : Past) (a n r c q : ℕ) (v : AgentView) → is_given_below p a n
 unhanded p a n r c q v none k =
     let zero_for : count_by (is_push_for q) v.buffers.pushes ≡ 0 =
     k.pushes q ∙ ap {B = ℕ} (λ b. if b then 1 else 0) (unpushed p a n r c q none) in
-    let same = without-none q v.buffers.pushes zero_for in
-    record {
-      pushes = λ other. ap (λ xs. count_by (is_push_for other) xs) same ∙ k.pushes other;
-      promises = k.promises;
-      count = ap (λ xs. length xs + count_by (λ fill. is_some fill.promise) v.buffers.fills) same ∙ k.count;
-    }
+    grind (arith, without-none)
 
 -- what an agent owes where all are told that the bytes of the request that responds are handed on
 pub told-handed : (s : Run) (a n q : ℕ) (w : AgentView) → Reaches s (n + 1) → responded_in (past_of s) n ≡ Some q

@@ -1,28 +1,22 @@
 -- What an agent completes where its request ends is what the run completes by an arrival there.
-use Rattle.std.proofs.Common.{ℕ, ◌+◌, ◌<◌, ◌≡◌, ◌≢◌, ◌⊎◌, Bool, true, false, ◌||◌, ◌&&◌, if◌then◌else◌, Option, Some}
-use Rattle.std.proofs.Common.{None, List, [], map, refl, sym, ap, subst, ◌∙◌, arith, inl, inr}
-use Rattle.fsb_agent_run.specs.Ending.{EndsFor, NothingEndsFor, number_left, number_replied}
+use Rattle.std.proofs.Common.{ℕ, ◌+◌, ◌<◌, ◌≡◌, ◌≢◌, ◌⊎◌, true, false, Option, Some, None, List, [], map, refl, sym}
+use Rattle.std.proofs.Common.{ap, arith, inl, inr}
+use Rattle.fsb_agent_run.specs.Ending.{EndsFor, NothingEndsFor, number_left}
 use Rattle.fsb_agent_run.specs.Stages.{IsViewAfterSnoop}
 use Rattle.fsb_agent_run.proofs.Interface.{IsSettledAs, arrived-entries, settled-as, ungranted, ungranted-arrival}
 use Rattle.fsb_agent_run.proofs.Interface.{upgrade-entries}
 use Rattle.fsb_agent_view.specs.AgentViews.{AgentView}
 use Rattle.fsb_agent_view.specs.Arriving.{arrived_entries}
-use Rattle.fsb_agent_view.specs.Snooping.{kind_asks}
 use Rattle.fsb_coherent.specs.Awaits.{snoop_end_below}
 use Rattle.fsb_coherent.specs.Fitting.{fits_getting, fits_kind, fits_upgrade, fits_write_back}
-use Rattle.fsb_count.specs.Clocks.{first_where}
-use Rattle.fsb_count.specs.Options.{is_some_and}
 use Rattle.fsb_count.proofs.Interface.{first_where-found}
 use Rattle.fsb_encode.specs.declared.request.Kind.{Kind}
-use Rattle.fsb_encode.specs.declared.request.Kind.TheVariants as kinds
-use Rattle.fsb_lawful.proofs.Interface.{and-then}
-use Rattle.fsb_line.specs.States.{kind_owns}
 use Rattle.fsb_run_laws.specs.Reaches.{Reaches}
 use Rattle.fsb_run_laws.proofs.Interface.{replied-on}
 use Rattle.fsb_tied.proofs.Interface.{ended-number, one-ends, orderly-whole}
 use Rattle.fsb_timely.specs.Completions.{completed_if, is_arrival}
-use Rattle.fsb_timely.specs.Grants.{holds_line, is_end_at, snooped_at}
-use Rattle.fsb_timely.specs.Moments.{is_got, is_snoop_of, is_upgraded, makes_grant}
+use Rattle.fsb_timely.specs.Grants.{is_end_at, snooped_at}
+use Rattle.fsb_timely.specs.Moments.{is_got, makes_grant}
 use Rattle.fsb_timely.specs.Past.{Claim, Grant, Past, SnoopEnd}
 use Rattle.fsb_timely.specs.Runs.{Run, past_of}
 use Rattle.fsb_trace.specs.Outcome.{is_deferral}
@@ -43,22 +37,12 @@ one-ended s n q u h first second =
     let i = ended-number s n q h.timely (omega arith) first in
     let j = ended-number s n u h.timely (omega arith) second in
     let same : i.0 ≡ j.0 = one-ends s.trace i.0 j.0 n (orderly-whole s n h.timely (omega arith)) i.1.end j.1.end in
-    let here = i.1.first in
-    let there = j.1.first in
-    cc
+    grind arith
 
 -- of each agent for which the request that ends leaves nothing, nothing ends
 pub quiet-end : (s : Run) (n a : ℕ) (served : Served) (settled : Option Outcome) → Reaches s (n + 1)
     → (k : IsEndHeard s n served settled) → number_left (past_of s) a n k.end ≡ None → NothingEndsFor (past_of s) a n
-quiet-end s n a served settled h k leaves = record {
-  none = λ first end ends below.
-      let same = one-ended s n k.first first h k.ends ends in
-      let there = subst (λ q. snoop_end_below (past_of s) (n + 1) q ≡ Some k.end) same k.snooped in
-      subst (λ e. number_left (past_of s) a n e ≡ None) (one-end k.end end (sym there ∙ below)) leaves;
-}
-  where
-    one-end : (x y : SnoopEnd) → Some x ≡ Some y → x ≡ y
-    one-end x y e = cc
+quiet-end s n a served settled h k leaves = grind (arith, one-ended)
 
 -- nothing ends for an agent other than the one whose request ends
 pub others-quiet : (s : Run) (n a : ℕ) (served : Served) (settled : Option Outcome) → Reaches s (n + 1)
@@ -69,25 +53,13 @@ others-quiet s n a served settled h k other = quiet-end s n a served settled h k
 snooped-when : (p : Past) (n q : ℕ) (end : SnoopEnd) → snoop_end_below p n q ≡ Some end
     → (t : ℕ) × (t < n) × (snooped_at p t ≡ Some end)
 unfolding snoop_end_below
-snooped-when p n q end e =
-    let test : ℕ → Bool = λ t. is_some_and (snooped_at p t) (is_snoop_of q) in
-    let k = and-then (snooped_at p) (first_where test n) end e in
-    (k.0, (first_where-found test n k.0 k.1).0, k.2)
+snooped-when p n q end e = grind (arith, first_where-found)
 
 -- what leaves is an agent's own request, or a reply grants it its line
 claims-or-grants : (p : Past) (a n number : ℕ) (end : SnoopEnd) → number_left p a n end ≡ Some number
     → ((claim : Claim) × (end.claim ≡ Some claim)) ⊎ ((grant : Grant) × (end.claim ≡ None) × (end.grant ≡ Some grant))
 unfolding number_left
-claims-or-grants p a n number end e = by end.claim refl
-  where
-    by : (o : Option Claim) → end.claim ≡ o
-        → ((claim : Claim) × (end.claim ≡ Some claim))
-        ⊎ ((grant : Grant) × (end.claim ≡ None) × (end.grant ≡ Some grant))
-    by (Some claim) claims = inl (claim, claims)
-    by None none =
-        let f = rw (none, number_left) at e in
-        let k = and-then (number_replied p a n) end.grant number f in
-        inr (k.0, none, k.1)
+claims-or-grants p a n number end e = grind arith
 
 -- the own request that ends was settled so, or its reply is
 pub record IsOwnSettled (s : Run) (end : SnoopEnd) : Type 0 where
@@ -122,67 +94,28 @@ settled-or-replied s a n number end h ends =
 -- a write-back gets no bytes
 unwritten : (o : Outcome) → is_got o ≡ true → fits_write_back o ≡ true → ⊥
 unfolding is_got fits_write_back
-unwritten Granted got fits = cc
-unwritten Handed got fits = cc
-unwritten Retried got fits = cc
-unwritten Deferred got fits = cc
-unwritten Written got fits = cc
-unwritten Replied got fits = cc
-unwritten Failed got fits = cc
-unwritten Upgraded got fits = cc
+unwritten o h1 h2 = grind arith
 
 -- a request that gets its bytes is granted its line
 got-makes : (kind : Kind) (outcome : Outcome) → is_got outcome ≡ true → fits_kind kind outcome ≡ true
     → makes_grant kind outcome ≡ true
 unfolding fits_kind makes_grant
-got-makes kinds.Reply outcome got fits = refl
-got-makes kinds.Invalidate outcome got fits = got
-got-makes kinds.Read outcome got fits = got
-got-makes kinds.WriteBack outcome got fits = absurd (unwritten outcome got fits)
-got-makes kinds.Upgrade outcome got fits = got
+got-makes kind outcome h1 h2 = grind (arith, unwritten)
 
 -- a request of an agent is neither Replied nor Failed
 never-so : (kind : Kind) (outcome : Outcome) → (outcome ≡ Replied) ⊎ (outcome ≡ Failed)
     → fits_kind kind outcome ≡ true → ⊥
 unfolding fits_kind fits_getting fits_upgrade fits_write_back
-never-so kinds.Reply outcome which e = cc
-never-so kinds.Invalidate outcome (inl f) e = let e' = rw f at e in cc
-never-so kinds.Invalidate outcome (inr f) e = let e' = rw f at e in cc
-never-so kinds.Read outcome (inl f) e = let e' = rw f at e in cc
-never-so kinds.Read outcome (inr f) e = let e' = rw f at e in cc
-never-so kinds.WriteBack outcome (inl f) e = let e' = rw f at e in cc
-never-so kinds.WriteBack outcome (inr f) e = let e' = rw f at e in cc
-never-so kinds.Upgrade outcome (inl f) e = let e' = rw f at e in cc
-never-so kinds.Upgrade outcome (inr f) e = let e' = rw f at e in cc
+never-so kind outcome h1 h2 = grind arith
 
 -- the grant of a request whose bytes come
 pub made-by : (s : Run) (end : SnoopEnd) (o : Outcome) → end.outcome ≡ o → (is_got o ≡ true) ⊎ (o ≡ Replied)
     → IsOwnSettled s end ⊎ IsRepliedGrant end → (grant : Grant) × (end.grant ≡ Some grant)
-made-by s end o e which (inr reply) = (reply.grant, reply.grants)
-made-by s end o e (inr replied) (inl own) =
-    absurd (never-so own.settled.request.kind end.outcome (inl (e ∙ replied)) own.settled.fits)
-made-by s end o e (inl got) (inl own) =
-    let k = own.settled in
-    let claim = own.claim in
-    let grant : Grant = record {
-      first = end.first;
-      agent = claim.agent;
-      line = claim.line;
-      owns = kind_owns (kind_asks k.request.kind);
-      shared = k.shared;
-    } in
-    let makes = got-makes k.request.kind end.outcome (ap is_got e ∙ got) k.fits in (
-      grant,
-      k.granted
-          ∙ ap (λ b. if b || (is_upgraded end.outcome && holds_line (past_of s) claim.agent claim.line own.clock)
-          then Some grant else None)
-          makes,
-    )
+made-by s end o h1 h2 h3 = grind (arith, never-so, got-makes)
 
 -- an end that fails is none of an agent's request
 pub never-failed : (s : Run) (end : SnoopEnd) → end.outcome ≡ Failed → IsOwnSettled s end ⊎ IsRepliedGrant end → ⊥
-never-failed s end e (inl own) = never-so own.settled.request.kind end.outcome (inr e) own.settled.fits
-never-failed s end e (inr reply) = let both = sym reply.replied ∙ e in cc
+never-failed s end h1 h2 = grind (arith, never-so)
 
 -- where nothing arrives nothing is completed
 none-arrives : (p : Past) (a n : ℕ) → is_arrival p a n ≡ false → [] ≡ completed_if p n (is_arrival p a n) a
@@ -198,12 +131,7 @@ own-completes s n served settled bytes w h k view = by k.end.outcome refl
   where
     ends : (o : Outcome) → k.end.outcome ≡ o → is_deferral o ≡ false
         → EndsFor (past_of s) served.agent n served.first k.end
-    ends o e kept = record {
-      first = k.first;
-      ends = k.ends;
-      snooped = k.snooped;
-      left = k.left (ap is_deferral e ∙ kept);
-    }
+    ends o e kept = grind arith
 
     come : (o : Outcome) → k.end.outcome ≡ o → is_deferral o ≡ false → (is_got o ≡ true) ⊎ (o ≡ Replied)
         → map completed_of (arrived_entries w n served.first bytes)
@@ -215,15 +143,7 @@ own-completes s n served settled bytes w h k view = by k.end.outcome refl
 
     gone : (o : Outcome) → k.end.outcome ≡ o → is_deferral o ≡ false → (o ≡ Retried) ⊎ (o ≡ Written)
         → [] ≡ completed_if (past_of s) n (is_arrival (past_of s) served.agent n) served.agent
-    gone o e kept which =
-        let f = ends o e kept in
-        let none = ungranted s served.agent n served.first k.end h f (so o e which) in
-        none-arrives (past_of s) served.agent n (ungranted-arrival s served.agent n served.first k.end h f none)
-      where
-        so : (o : Outcome) → k.end.outcome ≡ o → (o ≡ Retried) ⊎ (o ≡ Written)
-            → (k.end.outcome ≡ Retried) ⊎ (k.end.outcome ≡ Written)
-        so o e (inl f) = inl (e ∙ f)
-        so o e (inr f) = inr (e ∙ f)
+    gone o e kept which = grind (arith, ends, ungranted, none-arrives, ungranted-arrival)
 
     by : (o : Outcome) → k.end.outcome ≡ o
         → map completed_of (entries_ended n served.first bytes o w)
@@ -236,6 +156,5 @@ own-completes s n served settled bytes w h k view = by k.end.outcome refl
         (quiet-end s n served.agent served settled h k (k.put_off (ap is_deferral e) served.agent)))
     by Written e = gone Written e refl (inr refl)
     by Replied e = come Replied e refl (inr refl)
-    by Failed e =
-        absurd (never-failed s k.end e (settled-or-replied s served.agent n served.first k.end h (ends Failed e refl)))
+    by Failed e = grind (arith, never-failed, settled-or-replied, ends)
     by Upgraded e = (upgrade-entries s served.agent n served.first k.end w h (ends Upgraded e refl) e view).accessed

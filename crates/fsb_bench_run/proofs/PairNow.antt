@@ -1,6 +1,5 @@
 -- The address and REQ words of the clock are those that are due.
-use Rattle.std.proofs.Common.{ℕ, ◌≡◌, Bool, true, nat_eq, Some, List, refl, sym, subst}
-use Rattle.std.proofs.lemmas.Bool.{and_from, eq-eqb}
+use Rattle.std.proofs.Common.{ℕ, ◌≡◌, Bool, true, Some, List, refl, sym, subst, arith}
 use Rattle.fsb_count.specs.Options.{is_some_and}
 use Rattle.fsb_encode.specs.Decoded.{is_pair}
 use Rattle.fsb_encode.specs.declared.request.Pair.{Pair}
@@ -32,9 +31,7 @@ pair-due-now v hold choice entries b =
 due-shown : (s : Run) (n : ℕ) (pair : Pair) → pair_due s (past_of s) n ≡ Some pair
     → known_pair_at s.trace n ≡ Some pair → drives_pair s (past_of s) n ≡ true
 unfolding drives_pair is_some_and is_pair
-due-shown s n pair e f = rw (e, f, is_some_and, is_pair)
-    (and_from (nat_eq pair.addr pair.addr) (nat_eq pair.req pair.req) (eq-eqb pair.addr pair.addr refl)
-    (eq-eqb pair.req pair.req refl))
+due-shown s n pair e f = grind arith
 
 -- the words are as they must be
 pub drives-pair-now : (v : BenchView) (hold : Bool) (choice : Choice) (entries : List Done)

@@ -1,15 +1,13 @@
 -- The words that are due at a clock, and those that a bench shows there.
-use Rattle.std.proofs.Common.{ℕ, suc, ◌+◌, ◌-◌, ◌*◌, ◌%◌, ◌^◌, ◌<◌, ◌≤◌, ◌≡◌, ◌&&◌, ◌==◌, Bool, true, false, not}
-use Rattle.std.proofs.Common.{nat_eq, nat_le, nat_lt, Option, Some, None, List, is_some, length, if◌then◌else◌, refl}
-use Rattle.std.proofs.Common.{sym, ap, ◌∙◌, arith}
+use Rattle.std.proofs.Common.{ℕ, suc, ◌+◌, ◌-◌, ◌%◌, ◌^◌, ◌<◌, ◌≤◌, ◌≡◌, ◌==◌, Bool, true, false, Option, Some, None}
+use Rattle.std.proofs.Common.{List, is_some, length, if◌then◌else◌, refl, sym, ap, ◌∙◌, arith}
 use Rattle.std.specs.Option.{option_and_then, option_map}
-use Rattle.std.proofs.lemmas.Bool.{and_from, and_parts, eq-eqb, eqb-false, eqb-true, false_from_ne_true, le-leb}
-use Rattle.std.proofs.lemmas.Bool.{leb-true, ltb-true}
+use Rattle.std.proofs.lemmas.Bool.{eqb-false, eqb-true, false_from_ne_true}
 use Rattle.std.proofs.Math.Nat.{mod-eq_of_lt}
 use Rattle.fsb_count.specs.Clocks.{last_where}
-use Rattle.fsb_encode.specs.Request.{are_lawful_fields, clocks, den_bit, high_bit, is_lawful_request, pairs_of, row_of}
+use Rattle.fsb_encode.specs.Request.{are_lawful_fields, clocks, den_bit, high_bit, is_lawful_request, pairs_of}
+use Rattle.fsb_encode.specs.Request.{row_of}
 use Rattle.fsb_encode.specs.declared.request.Kind.{Kind}
-use Rattle.fsb_encode.specs.declared.request.Kind.TheVariants.{Reply, Invalidate, Read, WriteBack, Upgrade}
 use Rattle.fsb_encode.specs.declared.request.Pair.{Pair}
 use Rattle.fsb_encode.specs.declared.request.Request.{Request}
 use Rattle.fsb_lawful.specs.Beginning.{KeepsBounds}
@@ -43,57 +41,21 @@ pub record FitsWords (pair : Pair) : Type 0 where
 
 high-small : (line : ℕ) → high_bit line ≤ 8
 unfolding high_bit
-high-small line = by (nat_le (2 ^ 32) (line * 32))
-  where
-    by : (b : Bool) → (if b then 8 else 0) ≤ 8
-    by true = omega arith
-    by false = omega arith
+high-small line = grind arith
 
 den-small : (den : Bool) → den_bit den ≤ 2
 unfolding den_bit
-den-small true = omega arith
-den-small false = omega arith
-
-three-parts : (a b c : Bool) → (a && b && c) ≡ true → (a ≡ true) × (b ≡ true) × (c ≡ true)
-three-parts a b c e = let p = and_parts (a && b) c e in let q = and_parts a b p.0 in (q.0, q.1, p.1)
+den-small den = grind arith
 
 row-fits : (kind : Kind) (line chunk did : ℕ) (den : Bool) → are_lawful_fields kind line chunk den ≡ true → did < 2 ^ 8
     → FitsWords (row_of kind line chunk did den).0 × FitsWords (row_of kind line chunk did den).1
 unfolding row_of clocks are_lawful_fields
-row-fits Reply line chunk did den e l =
-    (record { addr = omega arith; req = omega arith }, record { addr = omega arith; req = omega arith })
-row-fits Invalidate line chunk did den e l =
-    let p = and_parts (nat_lt line (2 ^ 31)) (nat_lt chunk 4) e in
-    let a = ltb-true line (2 ^ 31) p.0 in
-    let b = ltb-true chunk 4 p.1 in
-    let h = high-small line in
-    let d = den-small den in
-    (record { addr = omega arith; req = omega arith }, record { addr = omega arith; req = omega arith })
-row-fits Read line chunk did den e l =
-    let p = and_parts (nat_lt line (2 ^ 31)) (nat_lt chunk 4) e in
-    let a = ltb-true line (2 ^ 31) p.0 in
-    let b = ltb-true chunk 4 p.1 in
-    let h = high-small line in
-    let d = den-small den in
-    (record { addr = omega arith; req = omega arith }, record { addr = omega arith; req = omega arith })
-row-fits WriteBack line chunk did den e l =
-    let p = three-parts (nat_lt line (2 ^ 31)) (nat_eq chunk 0) (not den) e in
-    let a = ltb-true line (2 ^ 31) p.0 in
-    let h = high-small line in
-    (record { addr = omega arith; req = omega arith }, record { addr = omega arith; req = omega arith })
-row-fits Upgrade line chunk did den e l =
-    let p = three-parts (nat_lt line (2 ^ 31)) (nat_lt chunk 4) (not den) e in
-    let a = ltb-true line (2 ^ 31) p.0 in
-    let b = ltb-true chunk 4 p.1 in
-    let h = high-small line in
-    (record { addr = omega arith; req = omega arith }, record { addr = omega arith; req = omega arith })
+row-fits kind line chunk did den h1 h2 = grind (arith, high-small, den-small)
 
 -- those of a lawful request do
 pub lawful-fits : (q : Request) → is_lawful_request q ≡ true → FitsWords (pairs_of q).0 × FitsWords (pairs_of q).1
 unfolding is_lawful_request pairs_of
-lawful-fits q e =
-    let p = and_parts (are_lawful_fields q.kind q.line q.chunk q.den) (nat_lt q.did (2 ^ 8)) e in
-    row-fits q.kind q.line q.chunk q.did q.den p.0 (ltb-true q.did (2 ^ 8) p.1)
+lawful-fits q e = grind (arith, row-fits)
 
 none-fits : FitsWords no_pair
 unfolding no_pair
@@ -103,8 +65,7 @@ none-fits = record { addr = omega arith; req = omega arith }
 begun-now : (r s : Run) (q : Request) → GrowsTo r s
     → request_begun (run_to s (length r.trace)) (past_to (past_of s) (length r.trace)) (length r.trace) ≡ Some q
     → request_begun s (past_of s) (length r.trace) ≡ Some q
-begun-now r s q grows e =
-    sym (λ i. request_begun (run-ends r s grows i) (past-now r s grows i) (length r.trace)) ∙ e
+begun-now r s q grows e = grind (arith, run-ends, past-now)
 
 -- the words that are due, and that they have their bits
 pub record IsPairDue (s : Run) (n : ℕ) (pair : Pair) : Type 0 where
@@ -129,23 +90,17 @@ due-none s n e g = rw (e, g, pair_due) refl
 -- a request began at the clock before, where the last one did
 back-true : (s : Run) (n q : ℕ) → q + 1 ≡ n → line_at ADS s.trace q ≡ true → line_back ADS s.trace n 1 ≡ true
 unfolding line_back
-back-true s n q e f =
-    let one : n - 1 ≡ q = omega arith in
-    rw (le-leb 1 n (omega arith), one, line_back) f
+back-true s n q e f = grind arith
 
 back-parts : (s : Run) (n : ℕ) → line_back ADS s.trace n 1 ≡ true → (1 ≤ n) × (line_at ADS s.trace (n - 1) ≡ true)
 unfolding line_back
-back-parts s n e =
-    let p = and_parts (nat_le 1 n) (line_at ADS s.trace (n - 1)) e in
-    (leb-true 1 n p.0, p.1)
+back-parts s n e = grind arith
 
 pub begun-before : (s : Run) (n q : ℕ) (request : Request) → q + 1 ≡ n
     → request_begun (run_to s q) (past_to (past_of s) q) q ≡ Some request
     → request_begun_before s (past_of s) n ≡ Some request
 unfolding request_begun_before
-begun-before s n q request e f =
-    let one : n - 1 ≡ q = omega arith in
-    ap (λ k. request_begun (run_to s k) (past_to (past_of s) k) k) one ∙ f
+begun-before s n q request e f = grind arith
 
 -- the last clock of a test, where a later one passes
 pub last-at : (p : ℕ → Bool) (n : ℕ) → p n ≡ true → last_where p (suc n) ≡ Some n
@@ -222,9 +177,7 @@ shown-pair : (x : Sample) (pair : Pair) → x.addr.bits ≡ pair.addr → x.req.
     → x.req.unknown ≡ 0
     → known_pair x ≡ Some pair
 unfolding known_pair
-shown-pair x pair a q u w =
-    let known : (x.addr.unknown == 0 && (x.req.unknown == 0)) ≡ true = and_from _ _ (eq-eqb _ _ u) (eq-eqb _ _ w) in
-    rw (known, known_pair) (λ i. Some (record { addr = a i; req = q i }))
+shown-pair x pair a q u w = grind arith
 
 pub pair-shown : (v : BenchView) (hold : Bool) (choice : Choice) (entries : List Done) (pair : Pair)
     → FitsWords pair → step_pair v hold ≡ pair

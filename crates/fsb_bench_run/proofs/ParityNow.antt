@@ -1,8 +1,7 @@
 -- The parity lines of the clock are as they must.
-use Rattle.std.proofs.Common.{ℕ, ◌+◌, ◌/◌, ◌%◌, ◌^◌, ◌≡◌, ◌&&◌, ◌||◌, Bool, true, false, not, nat_eq, Some, List}
-use Rattle.std.proofs.Common.{is_some, if◌then◌else◌, slice_get, refl, sym, ap, ◌∙◌, arith}
+use Rattle.std.proofs.Common.{ℕ, ◌+◌, ◌/◌, ◌%◌, ◌^◌, ◌≡◌, Bool, true, false, not, nat_eq, Some, List, is_some}
+use Rattle.std.proofs.Common.{if◌then◌else◌, slice_get, refl, arith}
 use Rattle.std.specs.Int.RustNames.{count_ones}
-use Rattle.std.proofs.lemmas.Bool.{and_from, eq-eqb, eqb-false, eqb-true}
 use Rattle.std.proofs.Math.Nat.{mod-eq_of_lt}
 use Rattle.fsb_count.specs.Options.{is_some_and}
 use Rattle.fsb_encode.specs.declared.request.Pair.{Pair}
@@ -10,8 +9,8 @@ use Rattle.fsb_hazard.specs.declared.choice.Choice.{Choice}
 use Rattle.fsb_laws.proofs.Interface.{one_more}
 use Rattle.fsb_signal.specs.declared.lines.TheConstants.Lines.{ADS, AP0, AP1, RP}
 use Rattle.fsb_signal.specs.declared.sample.Sample.{Sample}
-use Rattle.fsb_signal.specs.Parity.{has_no_parity, is_even, is_high_address_even, is_low_address_even, is_request_even}
-use Rattle.fsb_signal.specs.Samples.{bit_of, has_line}
+use Rattle.fsb_signal.specs.Parity.{has_no_parity, is_even}
+use Rattle.fsb_signal.specs.Samples.{has_line}
 use Rattle.fsb_timely.specs.ParityLines.{drives_parity, is_even_sample}
 use Rattle.fsb_timely.specs.Runs.{Run, past_of}
 use Rattle.fsb_timely.specs.Timely.{holds_at}
@@ -27,23 +26,8 @@ use Rattle.fsb_access.specs.declared.log.Done.{Done}
 use Rattle.fsb_bench_run.proofs.RunWith.{run_with}
 use Rattle.fsb_bench_run.proofs.StepWith.{IsStepWith}
 
--- a count is made even by one more where it is not
-evens : (k : ℕ) (b : Bool) → b ≡ not (is_even k) → is_even ((if b then 1 else 0) + k) ≡ true
-evens k true e = by (nat_eq (k % 2) 0) refl e
-  where
-    by : (c : Bool) → nat_eq (k % 2) 0 ≡ c → true ≡ not (nat_eq (k % 2) 0) → nat_eq ((1 + k) % 2) 0 ≡ true
-    by true f e = absurd (let g = rw f at e in let no : ⊥ = cc in no)
-    by false f e = let odd = eqb-false (k % 2) 0 f in eq-eqb ((1 + k) % 2) 0 (omega arith)
-evens k false e = by (nat_eq (k % 2) 0) refl e
-  where
-    by : (c : Bool) → nat_eq (k % 2) 0 ≡ c → false ≡ not (nat_eq (k % 2) 0) → nat_eq ((0 + k) % 2) 0 ≡ true
-    by true f e = let even = eqb-true (k % 2) 0 f in eq-eqb ((0 + k) % 2) 0 (omega arith)
-    by false f e = absurd (let g = rw f at e in let no : ⊥ = cc in no)
-
 evens-two : (j k : ℕ) (b : Bool) → b ≡ not (is_even (j + k)) → is_even ((if b then 1 else 0) + j + k) ≡ true
-evens-two j k b e =
-    let same : (if b then 1 else 0) + j + k ≡ (if b then 1 else 0) + (j + k) = omega arith in
-    ap (λ n. is_even n) same ∙ evens (j + k) b e
+evens-two j k b e = grind arith
 
 -- in profile 2
 even-by : (x : Sample) (pair : Pair) (ads : Bool) → x.addr.bits ≡ pair.addr → x.req.bits ≡ pair.req
@@ -52,22 +36,7 @@ even-by : (x : Sample) (pair : Pair) (ads : Bool) → x.addr.bits ≡ pair.addr 
     → has_line x AP1 ≡ not (is_even (count_ones (pair.addr / 2 ^ 21)))
     → has_line x RP ≡ not (is_even ((if ads then 1 else 0) + count_ones pair.req)) → is_even_sample x ≡ true
 unfolding is_even_sample
-even-by x pair ads a q s low high req =
-    let one : is_low_address_even x ≡ true =
-    evens (count_ones (x.addr.bits % 2 ^ 21)) (has_line x AP0) (low
-    ∙ ap (λ n. not (is_even (count_ones (n % 2 ^ 21)))) (sym a)) in
-    let two : is_high_address_even x ≡ true =
-    evens (count_ones (x.addr.bits / 2 ^ 21)) (has_line x AP1) (high
-    ∙ ap (λ n. not (is_even (count_ones (n / 2 ^ 21)))) (sym a)) in
-    let three : is_request_even x ≡ true =
-    evens-two (bit_of x ADS) (count_ones x.req.bits) (has_line x RP)
-    (req ∙ (λ i. not (is_even ((if sym s i then 1 else 0) + count_ones (sym q i))))) in
-    and_from (is_low_address_even x && is_high_address_even x) (is_request_even x)
-    (and_from (is_low_address_even x) (is_high_address_even x) one two) three
-
-none-by : (x : Sample) → has_line x AP0 ≡ false → has_line x AP1 ≡ false → has_line x RP ≡ false
-    → has_no_parity x ≡ true
-none-by x a b c = λ i. not (a i || b i || c i)
+even-by x pair ads a q s low high req = grind (arith, evens-two)
 
 parity-by : (x : Sample) (pair : Pair) (ads : Bool) (profile : ℕ) → x.addr.bits ≡ pair.addr → x.req.bits ≡ pair.req
     → has_line x ADS ≡ ads → has_line x AP0 ≡ bit_in (parity_bits profile pair ads) 0
@@ -84,11 +53,7 @@ parity-by x pair ads profile a q s low high req = by (nat_eq profile 2) refl low
         let h = rw e at high in
         let r = rw e at req in
         rw e (even-by x pair ads a q s l h r)
-    by false e low high req =
-        let l = rw e at low in
-        let h = rw e at high in
-        let r = rw e at req in
-        rw e (none-by x l h r)
+    by false e low high req = grind arith
 
 parity-shown : (s : Run) (n : ℕ) (x : Sample) → slice_get s.trace n ≡ Some x
     → (if nat_eq s.plan.profile 2 then is_even_sample else has_no_parity) x ≡ true

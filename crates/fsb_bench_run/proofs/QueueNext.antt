@@ -1,5 +1,5 @@
 -- The queue after a clock of a bench.
-use Rattle.std.proofs.Common.{ℕ, zero, suc, ◌≡◌, Bool, Option, Some, None, List, [], ◌∷◌, ◌++◌, length, map, is_some}
+use Rattle.std.proofs.Common.{ℕ, ◌≡◌, Bool, Option, Some, None, List, [], ◌∷◌, ◌++◌, length, map, is_some}
 use Rattle.std.proofs.Common.{if◌then◌else◌, refl, sym, ap, ◌∙◌, arith, inl, inr, subst}
 use Rattle.std.specs.List.{slice_get}
 use Rattle.std.specs.Option.{option_map, option_map_or}
@@ -9,7 +9,6 @@ use Rattle.fsb_count.proofs.Interface.{count_where-above, count_where-same, leng
 use Rattle.fsb_flight.specs.GoesOn.{IsLater, TakesTurn, goes_on}
 use Rattle.fsb_flight.specs.Steps.{begun_list}
 use Rattle.fsb_flight.proofs.Interface.{goes_on-holds, rising-goes_on}
-use Rattle.fsb_hazard.specs.Choice.{quiet_choice}
 use Rattle.fsb_hazard.specs.declared.choice.Choice.{Choice}
 use Rattle.fsb_laws.specs.Orderly.{Orderly}
 use Rattle.fsb_laws.proofs.Interface.{is_live-ads, orderly-empty}
@@ -36,7 +35,6 @@ use Rattle.fsb_tied.proofs.Interface.{orderly-whole}
 use Rattle.fsb_phase_run.specs.Holds.{AreRequestsOf, HoldsRequests}
 use Rattle.fsb_phase_run.proofs.Interface.{agree-grown, outcome-settled, queue-goes-on, turn-same, write-back-kept}
 use Rattle.fsb_bench_view.specs.declared.beginning.Starting.{Starting}
-use Rattle.fsb_bench_view.specs.declared.beginning.Started.{Started}
 use Rattle.fsb_bench_view.specs.declared.snoop.SnoopSettled.{SnoopSettled}
 use Rattle.fsb_bench_view.specs.BenchSteps.{outcome_snooped, step_begun, step_decided, step_entries, step_performed}
 use Rattle.fsb_bench_view.specs.BenchSteps.{step_queue, step_run, step_sample}
@@ -84,8 +82,7 @@ begun-clocks : (bus : BusView) (clock : ℕ) (choice : Choice) (o : Option Start
     → map (λ (e : Entry). e.clock) (begun_list (option_map (λ starting. entry_started bus clock starting choice) o))
     ≡ (if is_some o then clock ∷ [] else [])
 unfolding begun_list
-begun-clocks bus clock choice None = refl
-begun-clocks bus clock choice (Some starting) = refl
+begun-clocks bus clock choice o = grind arith
 
 pub record IsNewEntry (bus : BusView) (clock : ℕ) (choice : Choice) (o : Option Starting) (e : Entry) : Type 0 where
   pub starting : Starting
@@ -96,15 +93,7 @@ pub begun-entry : (bus : BusView) (clock : ℕ) (choice : Choice) (o : Option St
     → slice_get (begun_list (option_map (λ starting. entry_started bus clock starting choice) o)) k ≡ Some e
     → IsNewEntry bus clock choice o e
 unfolding begun_list
-begun-entry bus clock choice None k e f = absurd (let no : ⊥ = cc in no)
-begun-entry bus clock choice (Some starting) zero e f =
-    record {
-      starting = starting;
-      some = refl;
-      same = sym
-          (let same : entry_started bus clock starting choice ≡ e = cc in same);
-    }
-begun-entry bus clock choice (Some starting) (suc k) e f = absurd (let no : ⊥ = cc in no)
+begun-entry bus clock choice o k e h1 = grind arith
 
 -- the turns go on
 turns-taken : (v : BenchView) (hold : Bool) (choice : Choice) → IsBenchOf v → DeferralsTold v (step_run v hold choice)
@@ -143,25 +132,17 @@ turns-taken v hold choice b told grows =
 count-grown : (r s : Run) → GrowsTo r s
     → requests_below s.trace (length r.trace) ≡ requests_below r.trace (length r.trace)
 unfolding requests_below
-count-grown r s grows =
-    sym (count_where-same (line_at ADS r.trace) (line_at ADS s.trace) (length r.trace)
-    (record { same = λ t l. line_at-agree ADS (length r.trace) r.trace s.trace t (agree-grown r s grows) l }))
+count-grown r s grows = grind (arith, count_where-same, line_at-agree, agree-grown)
 
 started-count : (v : BenchView) → IsBenchOf v → length v.bus.started ≡ requests_below v.run.trace (next_clock_of v)
 unfolding requests_below
-started-count v b =
-    sym (length-map v.bus.started (λ (x : Started). x.clock)) ∙ ap length b.started.clocks
-    ∙ length-all_where (line_at ADS v.run.trace) (next_clock_of v)
+started-count v b = grind (arith, length-map, length-all_where)
 
 choice-added : (choices : List Choice) (choice : Choice) (o : Option Starting) (starting : Starting) (w : Trace) (q : ℕ)
     → o ≡ Some starting → count_where (line_at ADS w) q ≡ length choices
     → choice ≡ choice_at (choices ++ option_map_or (λ (x : Starting). choice ∷ []) o []) w q
 unfolding choice_at
-choice-added choices choice o starting w q e f =
-    sym (ap (λ xs. option_map_or (λ (c : Choice). c) (slice_get xs (count_where (line_at ADS w) q)) quiet_choice)
-    (ap (λ x. choices ++ option_map_or (λ (y : Starting). choice ∷ []) x []) e)
-    ∙ ap (λ k. option_map_or (λ (c : Choice). c) (slice_get (choices ++ choice ∷ []) k) quiet_choice) f
-    ∙ ap (λ x. option_map_or (λ (c : Choice). c) x quiet_choice) (slice_get-end choices choice))
+choice-added choices choice o starting w q e f = grind (arith, slice_get-end)
 
 -- the entry that begins has its choice and its number
 new-requests : (v : BenchView) (hold : Bool) (choice : Choice) → IsBenchOf v
@@ -206,8 +187,7 @@ new-later v hold choice b =
           let less = count_where-above (line_at ADS r.trace) f.clock n here.within
           (is_live-ads r.trace f.clock here.live) in
           let number = b.requests.entries.numbered j f at in
-          let mine : e.number ≡ count_where (line_at ADS r.trace) n =
-          ap (λ (x : Entry). x.number) first.same ∙ ap length same.started ∙ started-count v b in
+          let mine : e.number ≡ count_where (line_at ADS r.trace) n = grind (arith, started-count) in
           omega arith;
     }
 

@@ -19,13 +19,13 @@ use Rattle.fsb_timely.specs.Runs.{Run, past_of}
 use Rattle.fsb_timely.specs.Tied.{IsSnoopOf}
 use Rattle.fsb_timely.proofs.Interface.{snoop-tied}
 use Rattle.fsb_trace.specs.At.{request_at}
-use Rattle.fsb_trace.specs.Outcome.{settled_outcome_of}
 use Rattle.fsb_trace.specs.Requests.{is_reply, live_clock_of, live_number_of}
 use Rattle.fsb_trace.specs.Snoop.{snoop_end_of}
 use Rattle.fsb_trace.specs.declared.outcome.Outcome.TheVariants.{Replied}
 use Rattle.fsb_trace.specs.declared.who.Who.{Who}
 use Rattle.fsb_trace.specs.declared.who.Who.TheVariants.{Symmetric, Priority}
-use Rattle.fsb_trace.proofs.Interface.{live_clock_of-rises, live_clock_of-stays, snoop_end_of-clock, snoop_end_of-stays}
+use Rattle.fsb_trace.proofs.Interface.{live_clock_of-rises, live_clock_of-stays, snoop_end_of-clock}
+use Rattle.fsb_trace.proofs.Interface.{snoop_end_of-stays}
 use Rattle.fsb_bench_view.specs.declared.snoop.Served.{Served}
 use Rattle.fsb_bench_run.specs.BenchOf.{IsBegunAt, IsServed}
 use Rattle.fsb_bench_run.proofs.BegunEvents.{begun-claim}
@@ -91,8 +91,7 @@ responding-of r s e grows h responds =
 -- its outcome is settled
 pub responding-settled : (r s : Run) (queue : List Entry) (k : ℕ) (e : Entry) → HoldsRequests queue r
     → slice_get queue k ≡ Some e → (d : IsResponding r s e) → e.outcome ≡ Some d.end.outcome
-responding-settled r s queue k e f at d =
-    f.flight.settled k e at ∙ ap (settled_outcome_of r.trace (turns_in (past_of r).moments)) d.rank ∙ d.tied.outcome
+responding-settled r s queue k e f at d = grind arith
 
 -- a request that is no reply serves itself: so does each with another outcome than that of a reply
 pub serves-itself : (r s : Run) (e : Entry) (served : Served) (who : Who) → GrowsTo r s → KeepsBounds r.plan

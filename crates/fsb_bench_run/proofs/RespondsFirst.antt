@@ -1,14 +1,14 @@
 -- The request that responds at a clock of a timely run is the oldest one in flight.
-use Rattle.std.proofs.Common.{ℕ, zero, suc, ◌<◌, ◌≡◌, Bool, true, false, not, if◌then◌else◌, nat_eq, List, Option, Some}
+use Rattle.std.proofs.Common.{ℕ, zero, suc, ◌<◌, ◌≡◌, Bool, true, false, if◌then◌else◌, nat_eq, List, Option, Some}
 use Rattle.std.proofs.Common.{None, length, slice_get, refl, sym, ap, ◌∙◌, inl, inr, arith}
 use Rattle.std.specs.List.{find}
 use Rattle.std.specs.Option.{option_and_then, option_map, option_map_or}
-use Rattle.std.proofs.lemmas.Bool.{and_parts, both_ways, lt-ltb}
+use Rattle.std.proofs.lemmas.Bool.{lt-ltb}
 use Rattle.std.proofs.lemmas.Option.{slice_get_within}
 use Rattle.fsb_count.specs.Options.{is_before, is_some_and}
 use Rattle.fsb_count.proofs.Interface.{nth_where-found, nth_where-rises}
 use Rattle.fsb_coherent.specs.Awaits.{responded_in}
-use Rattle.fsb_lawful.proofs.Interface.{get-there, not-true}
+use Rattle.fsb_lawful.proofs.Interface.{get-there}
 use Rattle.fsb_laws.proofs.Interface.{is_in_flight-end}
 use Rattle.fsb_phase.specs.Due.{has_response, rank_of}
 use Rattle.fsb_phase.specs.Drive.{drive_of, settled_code}
@@ -24,7 +24,6 @@ use Rattle.fsb_timely.specs.Timely.{Timely}
 use Rattle.fsb_trace.specs.At.{Trace}
 use Rattle.fsb_trace.specs.Flight.{is_in_flight}
 use Rattle.fsb_trace.specs.Outcome.{response_code_of}
-use Rattle.fsb_trace.specs.Requests.{is_live, live_number_of}
 use Rattle.fsb_trace.specs.Response.{end_of}
 use Rattle.fsb_trace.specs.declared.outcome.Outcome.{Outcome}
 use Rattle.fsb_trace.specs.declared.outcome.Outcome.TheVariants as outcomes
@@ -42,12 +41,7 @@ unfolding is_before is_some_and
 flying r queue k e end f at ended low =
     let n = length r.trace in
     let there = nth_where-found (is_in_flight r.trace n) k n e.clock (clock-there r queue k e f at) in
-    let parts = and_parts (is_live r.trace e.clock)
-    (not (is_before (end_of r.trace (live_number_of r.trace e.clock)) n))
-    (sym (is_in_flight-end r.trace e.clock there.0) ∙ there.1) in
-    let before = before-by (end_of r.trace (rank_of r.trace e)) end n ended low in
-    absurd (both_ways (is_before (end_of r.trace (rank_of r.trace e)) n)
-    (not-true (is_before (end_of r.trace (rank_of r.trace e)) n) parts.1) before)
+    grind (arith, is_in_flight-end)
   where
     before-by : (o : Option ℕ) (end n : ℕ) → o ≡ Some end → end < n → is_before o n ≡ true
     before-by o end n e l = ap (λ o. is_before o n) e ∙ lt-ltb end n l
@@ -82,8 +76,7 @@ responds-first r s queue (suc k) e grows timely f at responds =
     let now = live_clock_of-stays n r.trace s.trace (rank_of r.trace e) e.clock agree (omega (arith, same))
     mine.first in
     let number : i ≡ rank_of r.trace e = one-number s.trace i (rank_of r.trace e) e.clock m.1.first now in
-    let less : rank_of r.trace y < rank_of r.trace e =
-    rank-rises r queue 0 (suc k) y e f (omega arith) first.1 at in
+    let less : rank_of r.trace y < rank_of r.trace e = grind (arith, rank-rises) in
     let ended = ended-before s.trace (rank_of r.trace y) i n orderly (omega (arith, number, less)) m.1.response in
     let response = end_of-response s.trace (rank_of r.trace y) ended.0 ended.1 in
     let early = response.2 in
@@ -100,15 +93,7 @@ code-retried : (e : Entry) (code : ℕ) (o : Option Outcome) → e.outcome ≡ o
     (if nat_eq code 0 then None else (if is_some_and e.outcome is_retry then Some e else None))
     ≡ (elim (nat_eq code (response_code_of outcomes.Retried)) [ true ↦ Some e.clock | false ↦ None ])
 unfolding response_code_of is_some_and
-code-retried e code None f g = rw g refl
-code-retried e code (Some outcomes.Granted) f g = rw g (rw f refl)
-code-retried e code (Some outcomes.Handed) f g = rw g (rw f refl)
-code-retried e code (Some outcomes.Retried) f g = rw g (rw f refl)
-code-retried e code (Some outcomes.Deferred) f g = rw g (rw f refl)
-code-retried e code (Some outcomes.Written) f g = rw g (rw f refl)
-code-retried e code (Some outcomes.Replied) f g = rw g (rw f refl)
-code-retried e code (Some outcomes.Failed) f g = rw g (rw f refl)
-code-retried e code (Some outcomes.Upgraded) f g = rw g (rw f refl)
+code-retried e code o h1 h2 = grind arith
 
 -- the request that is retried is the one of the first entry
 pub retried-first : (h : Trace) (queue : List Entry)
@@ -144,5 +129,4 @@ retried-first h queue first = elim (find-cases (has_response h) queue) [
 ]
   where
     either : (b : Bool) → None ≡ (elim b as (λ z. Option ℕ) [ true ↦ None | false ↦ None ])
-    either true = refl
-    either false = refl
+    either b = grind arith

@@ -1,6 +1,6 @@
 -- Responses and data of a clock are as they are due.
-use Rattle.std.proofs.Common.{ℕ, ◌<◌, ◌≡◌, ◌&&◌, ◌||◌, Bool, true, false, Option, Some, None, List, [], ◌∷◌, ◌++◌}
-use Rattle.std.proofs.Common.{is_some, nat_eq, lit<, refl, sym, ap, ◌∙◌}
+use Rattle.std.proofs.Common.{ℕ, ◌<◌, ◌≡◌, ◌&&◌, ◌||◌, Bool, true, Option, List, [], ◌∷◌, ◌++◌, is_some, nat_eq, refl}
+use Rattle.std.proofs.Common.{sym, ap, ◌∙◌, arith}
 use Rattle.std.specs.Bool.{beq}
 use Rattle.std.specs.Option.{option_map_or}
 use Rattle.std.specs.List.{find}
@@ -20,8 +20,6 @@ use Rattle.fsb_trace.specs.At.{Trace, response_code_at}
 use Rattle.fsb_trace.specs.Outcome.{response_code_of}
 use Rattle.fsb_trace.specs.Requests.{live_count}
 use Rattle.fsb_trace.specs.declared.outcome.Outcome.{Outcome}
-use Rattle.fsb_trace.specs.declared.outcome.Outcome.TheVariants.{Granted, Handed, Retried, Deferred, Written, Replied}
-use Rattle.fsb_trace.specs.declared.outcome.Outcome.TheVariants.{Failed, Upgraded}
 use Rattle.fsb_timely.specs.Growth.{GrowsTo}
 use Rattle.fsb_timely.specs.Runs.{past_of}
 use Rattle.fsb_timely.specs.Transfers.{code_due, drives_code, drives_data_busy, drives_data_ready, drives_ready}
@@ -36,8 +34,7 @@ use Rattle.fsb_bench_run.proofs.DrivenLines.{code-driven, dbsy-driven, drdy-driv
 use Rattle.fsb_bench_run.proofs.ThisClock.{holds-now}
 
 pub beq-from : (a b : Bool) → a ≡ b → beq a b ≡ true
-beq-from true b e = rw (sym e) refl
-beq-from false b e = rw (sym e) refl
+beq-from a b h1 = grind arith
 
 pub all5 : (a b c d e : Bool) → a ≡ true → b ≡ true → c ≡ true → d ≡ true → e ≡ true
     → (a && b && c && d && e) ≡ true
@@ -45,23 +42,14 @@ all5 a b c d e p q r s t = rw (p, q, r, s, t) refl
 
 small-code : (o : Outcome) → response_code_of o < 8
 unfolding response_code_of
-small-code Granted = lit< tt
-small-code Handed = lit< tt
-small-code Retried = lit< tt
-small-code Deferred = lit< tt
-small-code Written = lit< tt
-small-code Replied = lit< tt
-small-code Failed = lit< tt
-small-code Upgraded = lit< tt
+small-code o = grind arith
 
 some-code : (o : Option Outcome) → option_map_or response_code_of o 0 < 8
-some-code None = lit< tt
-some-code (Some o) = small-code o
+some-code o = grind (arith, small-code)
 
 entry-code : (o : Option Entry) → option_map_or settled_code o 0 < 8
 unfolding settled_code
-entry-code None = lit< tt
-entry-code (Some e) = some-code e.outcome
+entry-code o = grind (arith, some-code)
 
 -- a code has three bits
 pub code-small : (h : Trace) (queue : List Entry) → (drive_of h queue).rs < 8
@@ -83,14 +71,9 @@ sample-grown v hold choice entries grows =
     last [] x y e = cc
     last (z ∷ h) x y e = last h x y (let same : h ++ x ∷ [] ≡ h ++ y ∷ [] = cc in same)
 
-data-quiet : (o : Option Sample) (b : Bool) → option_map_or (λ s. s.dbus.bits) o 0 ≡ 0 → (b || true) ≡ true
-data-quiet o true e = refl
-data-quiet o false e = refl
-
 quiet-by : (drive : Drive) (o : Option (ℕ × ℕ)) (bus : BusView) → drive.chunk ≡ o
     → (is_some o || nat_eq (data_driven bus drive) 0) ≡ true
-quiet-by drive None bus e = rw e refl
-quiet-by drive (Some c) bus e = refl
+quiet-by drive o bus h1 = grind arith
 
 abbrev quiet_now : BenchView → Bool → Choice → List Done → Type 0
 quiet_now v hold choice entries = keeps_data_quiet (run_with v hold choice entries) (next_clock_of v) ≡ true
@@ -110,9 +93,7 @@ quiet-now v hold choice entries =
     let line = line-with v hold choice entries DRDY
     ∙ drdy-driven (step_performed v) n v.run.plan.profile (step_decided v hold) in
     let word = data-new v hold choice entries in
-    ap (λ b. b || nat_eq (data_at s.trace n).bits 0) line
-    ∙ ap (λ k. is_some (step_drive v).chunk || nat_eq k 0) word
-    ∙ quiet-by (step_drive v) (step_drive v).chunk (step_performed v) refl
+    grind arith
 
 pub responses-now : (v : BenchView) (hold : Bool) (choice : Choice) (entries : List Done)
     (grows : GrowsTo v.run (run_with v hold choice entries)) → HoldsRequests v.bus.queue v.run

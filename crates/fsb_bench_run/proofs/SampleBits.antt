@@ -1,6 +1,6 @@
 -- A sample that is made of bits has each of its lines where the bit is set.
 use Rattle.std.proofs.Common.{ℕ, zero, suc, ◌+◌, ◌*◌, ◌/◌, ◌%◌, ◌^◌, ◌<◌, ◌≤◌, ◌≡◌, Bool, true, false, List, [], ◌∷◌}
-use Rattle.std.proofs.Common.{length, if◌then◌else◌, eqb, ap, ◌∙◌, arith}
+use Rattle.std.proofs.Common.{length, if◌then◌else◌, eqb, ◌∙◌, arith}
 use Rattle.std.specs.List.{slice_get}
 use Rattle.std.specs.Option.{option_map_or}
 use Rattle.std.specs.Int.{bit_at}
@@ -8,7 +8,7 @@ use Rattle.std.specs.Int.RustNames.{bit_and}
 use Rattle.std.proofs.lemmas.Nat.{pow_pos}
 use Rattle.std.proofs.lemmas.Nat.Bits.{and_pow, bit_at_lowest, bit_at-suc, bit_at-zero}
 use Rattle.std.proofs.lemmas.Bool.{eq-eqb, ne_eqb}
-use Rattle.std.proofs.Math.Nat.{mod-eq_of_lt, pow-succ'}
+use Rattle.std.proofs.Math.Nat.{mod-eq_of_lt}
 use Rattle.std.proofs.Math.Pow.{pow_mono}
 use Rattle.fsb_bench_view.specs.BusSample.{bits_of}
 
@@ -20,22 +20,13 @@ one_of bit = if bit then 1 else 0
 abbrev pub bit_in : List Bool → ℕ → Bool
 bit_in bits k = option_map_or (λ b. b) (slice_get bits k) false
 
-one_small : (b : Bool) → one_of b < 2
-one_small true = omega arith
-one_small false = omega arith
-
 -- so many bits make a number below that power of two
 pub bits_of-below : (bits : List Bool) → bits_of bits < 2 ^ length bits
 bits_of-below [] = omega arith
-bits_of-below (b ∷ bs) =
-    let rest = bits_of-below bs in
-    let small = one_small b in
-    let double : 2 ^ suc (length bs) ≡ 2 * 2 ^ length bs = pow-succ' 2 (length bs) in
-    rw double (omega arith)
+bits_of-below (b ∷ bs) = grind (arith, bits_of-below bs)
 
 lowest : (b : Bool) (y : ℕ) → (one_of b + 2 * y) % 2 ≡ one_of b
-lowest true y = omega arith
-lowest false y = omega arith
+lowest b y = grind arith
 
 above : (b : Bool) (y : ℕ) → (one_of b + 2 * y) / 2 ≡ y
 above true y = omega arith
@@ -44,8 +35,7 @@ above false y = omega arith
 pub bit_at-bits : (bits : List Bool) (k : ℕ) → bit_at (bits_of bits) k ≡ one_of (bit_in bits k)
 bit_at-bits [] k = bit_at-zero k
 bit_at-bits (b ∷ bs) zero = bit_at_lowest (one_of b + 2 * bits_of bs) ∙ lowest b (bits_of bs)
-bit_at-bits (b ∷ bs) (suc k) =
-    bit_at-suc (one_of b + 2 * bits_of bs) k ∙ ap (λ n. bit_at n k) (above b (bits_of bs)) ∙ bit_at-bits bs k
+bit_at-bits (b ∷ bs) (suc k) = grind (arith, bit_at-suc, bit_at-bits bs k)
 
 is_there : (b : Bool) (p : ℕ) → 0 < p → eqb (one_of b * p) p ≡ b
 is_there true p l = eq-eqb (1 * p) p (omega arith)
@@ -56,8 +46,4 @@ pub line-bit : (bits : List Bool) (k : ℕ) → length bits ≤ 21
     → eqb (bit_and (bits_of bits % 2 ^ 21) (2 ^ k)) (2 ^ k) ≡ bit_in bits k
 line-bit bits k few =
     let high = pow_mono few in
-    let below = bits_of-below bits in
-    let small : bits_of bits % 2 ^ 21 ≡ bits_of bits = mod-eq_of_lt (omega arith) in
-    ap (λ n. eqb (bit_and n (2 ^ k)) (2 ^ k)) small
-    ∙ ap (λ n. eqb n (2 ^ k)) (and_pow (bits_of bits) k ∙ ap (λ n. n * 2 ^ k) (bit_at-bits bits k))
-    ∙ is_there (bit_in bits k) (2 ^ k) (pow_pos k)
+    grind (arith, bits_of-below, mod-eq_of_lt, and_pow, bit_at-bits, pow_pos)

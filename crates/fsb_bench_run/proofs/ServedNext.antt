@@ -1,10 +1,10 @@
 -- What requests serve, after a bench's clock: that of the longer run.
-use Rattle.std.proofs.Common.{ℕ, zero, suc, ◌+◌, ◌<◌, ◌≤◌, ◌≡◌, ◌&&◌, ◌||◌, Bool, true, false, not, Option, Some, None}
-use Rattle.std.proofs.Common.{List, [], ◌∷◌, ◌++◌, append-nil, drop, is_none, is_some, length, map, nat_eq, refl, sym}
-use Rattle.std.proofs.Common.{ap, subst, ◌∙◌, ◌⊎◌, arith, inl, inr}
+use Rattle.std.proofs.Common.{ℕ, zero, suc, ◌+◌, ◌<◌, ◌≤◌, ◌≡◌, Bool, true, false, Option, Some, None, List, [], ◌∷◌}
+use Rattle.std.proofs.Common.{◌++◌, append-nil, drop, is_none, is_some, length, map, refl, sym, ap, subst, ◌∙◌, ◌⊎◌}
+use Rattle.std.proofs.Common.{arith, inl, inr}
 use Rattle.std.specs.List.{filter, slice_get}
 use Rattle.std.specs.Option.{option_map, option_map_or}
-use Rattle.std.proofs.lemmas.Bool.{and_right, both_ways, false_from_ne_true, ne_eqb}
+use Rattle.std.proofs.lemmas.Bool.{both_ways, false_from_ne_true}
 use Rattle.std.proofs.lemmas.List.Elements.{filter-append}
 use Rattle.fsb_flight.specs.GoesOn.{goes_on, settles, stays_in_flight}
 use Rattle.fsb_flight.specs.Steps.{begun_list}
@@ -19,9 +19,7 @@ use Rattle.fsb_phase.proofs.Interface.{not_reached_from}
 use Rattle.fsb_phase_run.specs.Holds.{HoldsRequests}
 use Rattle.fsb_queue.specs.declared.entry.Entry.{Entry}
 use Rattle.fsb_queue.specs.Entries.{with_outcome}
-use Rattle.fsb_signal.specs.declared.lines.TheConstants.Lines.{AERR}
 use Rattle.fsb_signal.specs.declared.sample.Sample.{Sample}
-use Rattle.fsb_signal.specs.Samples.{has_line}
 use Rattle.fsb_timely.specs.Grants.{snooped_at}
 use Rattle.fsb_timely.specs.Growth.{GrowsTo}
 use Rattle.fsb_timely.specs.Past.{SnoopEnd}
@@ -59,20 +57,16 @@ abbrev is_settled : Entry → Bool
 is_settled e = is_some e.outcome
 
 some-none : {X : Type 0} (o : Option X) → is_some o ≡ true → is_none o ≡ false
-some-none None e = absurd (let no : ⊥ = cc in no)
-some-none (Some x) e = refl
+some-none o h1 = grind arith
 
 none-some : {X : Type 0} (o : Option X) → is_none o ≡ false → is_some o ≡ true
-none-some None e = absurd (let no : ⊥ = cc in no)
-none-some (Some x) e = refl
+none-some o h1 = grind arith
 
 none-off : {X : Type 0} (o : Option X) → is_none o ≡ true → is_some o ≡ false
-none-off None e = refl
-none-off (Some x) e = absurd (let no : ⊥ = cc in no)
+none-off o h1 = grind arith
 
 there-is : {X : Type 0} (o : Option X) → is_none o ≡ false → (x : X) × (o ≡ Some x)
-there-is None e = absurd (let no : ⊥ = cc in no)
-there-is (Some x) e = (x, refl)
+there-is o h1 = grind arith
 
 -- the snoop end of an entry that is settled
 record IsSettledAt (r : Run) (e : Entry) : Type 0 where
@@ -125,20 +119,12 @@ other-ends r s queue k j e y grows f at there ends apart =
 stays-open : (h : Trace) (x : Sample) (e : Entry) → e.clock + 4 ≤ length h
     → has_end_at (h ++ x ∷ []) (length h) e ≡ false → stays_in_flight h x e ≡ true
 unfolding stays_in_flight leaves cancels has_end_at
-stays-open h x e low off =
-    let other : (has_line x AERR && nat_eq (e.clock + 3) (length h)) ≡ false =
-    and_right (has_line x AERR) (nat_eq (e.clock + 3) (length h))
-    (ne_eqb (e.clock + 3) (length h) (λ same. omega (arith, low, same))) in
-    λ i. not (other i || off i)
+stays-open h x e low off = grind arith
 
 stays-ended : (h : Trace) (x : Sample) (e : Entry) → has_end_at (h ++ x ∷ []) (length h) e ≡ true
     → stays_in_flight h x e ≡ false
 unfolding stays_in_flight leaves has_end_at
-stays-ended h x e ends = (λ i. not (cancels x (length h) e.clock || ends i)) ∙ by (cancels x (length h) e.clock)
-  where
-    by : (b : Bool) → not (b || true) ≡ false
-    by true = refl
-    by false = refl
+stays-ended h x e ends = grind arith
 
 stays-settled : (h : Trace) (x : Sample) (o : Outcome) (e : Entry) → stays_in_flight h x e ≡ true
     → filter (stays_in_flight h x) (with_outcome o e ∷ []) ≡ with_outcome o e ∷ []
@@ -286,8 +272,7 @@ settled-next v hold choice b keeps =
 begun-unsettled : (bus : BusView) (clock : ℕ) (choice : Choice) (o : Option Starting)
     → filter is_settled (begun_list (option_map (λ starting. entry_started bus clock starting choice) o)) ≡ []
 unfolding begun_list
-begun-unsettled bus clock choice None = refl
-begun-unsettled bus clock choice (Some starting) = refl
+begun-unsettled bus clock choice o = grind arith
 
 queue-settled : (v : BenchView) (hold : Bool) (choice : Choice)
     → settled_entries (step_queue v hold choice)

@@ -1,5 +1,5 @@
 -- What a request serves that has its snoop end: it stays as the run grows, and it is what the bench hears of a new one.
-use Rattle.std.proofs.Common.{ℕ, ◌+◌, ◌<◌, ◌≡◌, false, Some, None, length, sym, ap, ◌∙◌, arith, inl, inr}
+use Rattle.std.proofs.Common.{ℕ, ◌+◌, ◌<◌, ◌≡◌, false, Some, None, length, sym, ap, ◌∙◌, arith}
 use Rattle.std.specs.Option.{option_and_then}
 use Rattle.fsb_agent_run.specs.AgentClocks.{number_asked}
 use Rattle.fsb_agent_run.proofs.Interface.{served-number}
@@ -23,7 +23,8 @@ use Rattle.fsb_trace.specs.Requests.{is_reply, is_reply_kind, live_clock_of, liv
 use Rattle.fsb_trace.specs.Snoop.{snoop_end_of}
 use Rattle.fsb_trace.specs.declared.who.Who.{Who}
 use Rattle.fsb_trace.specs.declared.who.Who.TheVariants.{Symmetric, Priority}
-use Rattle.fsb_trace.proofs.Interface.{live_clock_of-rises, live_clock_of-stays, snoop_end_of-clock, snoop_end_of-stays}
+use Rattle.fsb_trace.proofs.Interface.{live_clock_of-rises, live_clock_of-stays, snoop_end_of-clock}
+use Rattle.fsb_trace.proofs.Interface.{snoop_end_of-stays}
 use Rattle.fsb_bench_view.specs.declared.snoop.Served.{Served}
 use Rattle.fsb_bench_view.specs.declared.snoop.SnoopSettled.{SnoopSettled}
 use Rattle.fsb_bench_run.specs.BenchOf.{IsBegunAt, IsServed, clock_served}
@@ -78,10 +79,8 @@ stays-by r s i t e served end (Symmetric agent) grows h bounds tied first within
     let request : want.request ≡ e.request = one-request want.request e.request
     (sym want.begins ∙ begun-is r q (Symmetric agent) e.request (omega (arith, same)) begun) in
     let decoded = begun-request r q (Symmetric agent) e.request grows.timely bounds (omega (arith, same)) begun in
-    let plain : is_reply_kind e.request.kind ≡ false =
-    ap (λ (z : Request). is_reply_kind z.kind) (sym request) ∙ want.no_reply in
-    let mine : served.first ≡ q = one-of served.first q
-    (sym is.first ∙ serves-itself r i q old (ap (λ o. is_reply o) decoded ∙ plain)) in
+    let plain : is_reply_kind e.request.kind ≡ false = grind arith in
+    let mine : served.first ≡ q = grind (arith, serves-itself) in
     let now = live_clock_of-stays n r.trace s.trace i q (agree-grown r s grows) (omega (arith, same)) old in
     let shown = request-grown r s q grows (omega (arith, same)) ∙ decoded in
     record {
@@ -141,11 +140,4 @@ pub served-now : (s : Run) (n i : ℕ) (x : SnoopSettled) → Reaches s (n + 1) 
     → snoop_end_of s.trace i ≡ Some n → live_clock_of s.trace i ≡ Some x.entry.clock
     → clock_served s x.entry.clock ≡ Some x.served.first
 unfolding is_reply is_some_and
-served-now s n i x h k reached first = elim k.served [
-  | inl c ↦
-      let plain = ap (λ (z : Request). is_reply_kind z.kind) (sym c.itself) ∙ c.plain in
-      serves-itself s i x.entry.clock first (ap (λ o. is_reply o) k.decoded ∙ plain)
-      ∙ ap (λ q. Some q) (sym k.entry ∙ c.first)
-  | inr c ↦
-      serves-asked s n i x.entry.clock k.end c.grant h k.there c.unclaimed c.grants reached first ∙ c.asked
-]
+served-now s n i x h k reached first = grind (arith, serves-itself, serves-asked)

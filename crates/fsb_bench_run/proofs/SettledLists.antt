@@ -47,22 +47,7 @@ filter-has p (x ∷ xs) k y at = elim (cases_Bool (p x)) [
 -- two tests in either order
 pub filter-swap : {X : Type 0} (p q : X → Bool) (xs : List X) → filter p (filter q xs) ≡ filter q (filter p xs)
 filter-swap p q [] = refl
-filter-swap p q (x ∷ xs) = elim (cases_Bool (p x)) [
-  | inl t ↦ elim (cases_Bool (q x)) [
-    | inl u ↦
-        ap (filter p) (filter-yes q x xs u) ∙ filter-yes p x (filter q xs) t ∙ ap (λ ys. x ∷ ys) (filter-swap p q xs)
-        ∙ sym (ap (filter q) (filter-yes p x xs t) ∙ filter-yes q x (filter p xs) u)
-    | inr g ↦
-        ap (filter p) (filter-no q x xs g) ∙ filter-swap p q xs
-        ∙ sym (ap (filter q) (filter-yes p x xs t) ∙ filter-no q x (filter p xs) g)
-  ]
-  | inr f ↦ elim (cases_Bool (q x)) [
-    | inl u ↦
-        ap (filter p) (filter-yes q x xs u) ∙ filter-no p x (filter q xs) f ∙ filter-swap p q xs
-        ∙ sym (ap (filter q) (filter-no p x xs f))
-    | inr g ↦ ap (filter p) (filter-no q x xs g) ∙ filter-swap p q xs ∙ sym (ap (filter q) (filter-no p x xs f))
-  ]
-]
+filter-swap p q (x ∷ xs) = grind (arith, filter-swap p q xs)
 
 -- where what passes one test passes the other, this leaves all
 pub filter-kept : {X : Type 0} (p q : X → Bool) (xs : List X)
@@ -80,8 +65,7 @@ filter-kept p q (x ∷ xs) kept = elim (cases_Bool (p x)) [
 pub stay-all : {X : Type 0} (p q : X → Bool) (xs more : List X)
     → ((k : ℕ) (y : X) → slice_get xs k ≡ Some y → p y ≡ true → q y ≡ true) → filter q more ≡ more
     → filter q (filter p xs ++ more) ≡ filter p xs ++ more
-stay-all p q xs more kept rest =
-    filter-append q (filter p xs) more ∙ (λ i. filter-kept p q xs kept i ++ rest i)
+stay-all p q xs more kept rest = grind (arith, filter-append, filter-kept)
 
 -- all but the first one stay
 pub stay-later : {X : Type 0} (p q : X → Bool) (xs more : List X) (x : X) → slice_get xs 0 ≡ Some x → p x ≡ true
@@ -89,13 +73,7 @@ pub stay-later : {X : Type 0} (p q : X → Bool) (xs more : List X) (x : X) → 
     → ((k : ℕ) (y : X) → slice_get xs (suc k) ≡ Some y → p y ≡ true → q y ≡ true) → filter q more ≡ more
     → filter q (filter p xs ++ more) ≡ drop 1 (filter p xs ++ more)
 stay-later p q [] more x head t f kept rest = absurd (let no : ⊥ = cc in no)
-stay-later p q (y ∷ xs) more x head t f kept rest =
-    let same : x ≡ y = cc in
-    let list = filter-yes p y xs (ap p (sym same) ∙ t) in
-    filter-append q (filter p (y ∷ xs)) more
-    ∙ (λ i. filter q (list i) ++ rest i)
-    ∙ ap (λ ys. ys ++ more) (filter-no q y (filter p xs) (ap q (sym same) ∙ f) ∙ filter-kept p q xs kept)
-    ∙ sym (ap (λ ys. drop 1 (ys ++ more)) list)
+stay-later p q (y ∷ xs) more x head t f kept rest = grind (arith, filter-append, filter-kept)
 
 -- where each one stays as it is
 pub map-same : {X : Type 0} (f : X → X) (xs : List X) → ((k : ℕ) (y : X) → slice_get xs k ≡ Some y → f y ≡ y)
@@ -114,10 +92,7 @@ passes-now p f (y ∷ xs) zero x at shut now before after off =
     let same : x ≡ y = cc in
     let none = filter-none p xs (λ j z e. off (suc j) z (omega arith) e) in
     let rest = map-same f xs (λ j z e. after (suc j) z (omega arith) e) in
-    let left = filter-no p y xs (ap p (sym same) ∙ shut) ∙ none in
-    let right = filter-yes p (f y) (map f xs) (ap (λ z. p (f z)) (sym same) ∙ now) in
-    right ∙ ap (λ ys. f y ∷ filter p ys) rest ∙ ap (λ ys. f y ∷ ys) none ∙ ap (λ z. f z ∷ []) (sym same)
-    ∙ sym (ap (λ ys. ys ++ f x ∷ []) left)
+    grind arith
 passes-now p f (y ∷ xs) (suc k) x at shut now before after off =
     let more = passes-now p f xs k x at shut now (λ j z l e. before (suc j) z (omega arith) e)
     (λ j z l e. after (suc j) z (omega arith) e) (λ j z l e. off (suc j) z (omega arith) e) in

@@ -33,9 +33,7 @@ is_some_answer answers.Hit = true
 is_some_answer answers.Modified = true
 
 hit-by : (x : Answer) → is_hit_answer x ≡ (not (is_modified_answer x) && is_some_answer x)
-hit-by answers.Clean = refl
-hit-by answers.Hit = refl
-hit-by answers.Modified = refl
+hit-by x = grind arith
 
 -- of an agent's answer and the others'
 abbrev joined : Bool → Answer → Answer → Answer
@@ -43,34 +41,16 @@ joined skip own rest = if skip then rest else stronger own rest
 
 modified-joined : (skip dirty held : Bool) (rest : Answer)
     → is_modified_answer (joined skip (answer_told dirty held) rest) ≡ ((not skip && dirty) || is_modified_answer rest)
-modified-joined true dirty held rest = refl
-modified-joined false true held rest = refl
-modified-joined false false true answers.Clean = refl
-modified-joined false false true answers.Hit = refl
-modified-joined false false true answers.Modified = refl
-modified-joined false false false answers.Clean = refl
-modified-joined false false false answers.Hit = refl
-modified-joined false false false answers.Modified = refl
+modified-joined skip dirty held rest = grind arith
 
 some-joined : (skip dirty held : Bool) (rest : Answer)
     → is_some_answer (joined skip (answer_told dirty held) rest) ≡ (((not skip && dirty) ||
     (not skip && held)) || is_some_answer rest)
-some-joined true dirty held rest = refl
-some-joined false true held rest = refl
-some-joined false false true answers.Clean = refl
-some-joined false false true answers.Hit = refl
-some-joined false false true answers.Modified = refl
-some-joined false false false answers.Clean = refl
-some-joined false false false answers.Hit = refl
-some-joined false false false answers.Modified = refl
+some-joined skip dirty held rest = grind arith
 
 -- a test of four numbers
 to-left : (a b c d : Bool) → (a || (b || (c || (d || false)))) ≡ ((((false || a) || b) || c) || d)
-to-left true b c d = refl
-to-left false true c d = refl
-to-left false false true d = refl
-to-left false false false true = refl
-to-left false false false false = refl
+to-left a b c d = grind arith
 
 four-any : (f : ℕ → Bool) → (f 0 || (f 1 || (f 2 || (f 3 || false)))) ≡ any_where f 4
 four-any f =
@@ -79,14 +59,7 @@ four-any f =
     ∙ ap (λ b. b || f 1) (any_where-more f 0 ∙ ap (λ b. b || f 0) (any_where-off f 0 (λ k l. absurd (omega arith)))))))
 
 either-swap : (a b c d : Bool) → ((a || b) || (c || d)) ≡ ((a || c) || (b || d))
-either-swap true b c d = refl
-either-swap false true true d = refl
-either-swap false true false d = refl
-either-swap false false c d = refl
-
-not-either : (m h : Bool) → (not m && (m || h)) ≡ (not m && h)
-not-either true h = refl
-not-either false h = refl
+either-swap a b c d = grind arith
 
 -- what an agent answers of the line, by its number
 abbrev tells : (ℕ → Bool) → (ℕ → Bool) → ℕ → ℕ → AgentView → Type 0
@@ -98,9 +71,7 @@ besides-four : (a line : ℕ) (w0 w1 w2 w3 : AgentView) (dirty held : ℕ → Bo
     ≡ joined (nat_eq 0 a) (answer_told (dirty 0) (held 0)) (joined (nat_eq 1 a) (answer_told (dirty 1) (held 1))
     (joined (nat_eq 2 a) (answer_told (dirty 2) (held 2)) (joined (nat_eq 3 a) (answer_told (dirty 3)
     (held 3)) answers.Clean)))
-besides-four a line w0 w1 w2 w3 dirty held t0 t1 t2 t3 =
-    λ i. joined (nat_eq 0 a) (t0 i) (joined (nat_eq 1 a) (t1 i) (joined (nat_eq 2 a) (t2 i) (joined (nat_eq 3 a)
-    (t3 i) answers.Clean)))
+besides-four a line w0 w1 w2 w3 dirty held t0 t1 t2 t3 = grind arith
 
 -- another than a passes the test
 abbrev elsewhere : ℕ → (ℕ → Bool) → ℕ → Bool
@@ -180,8 +151,4 @@ besides-told v s a line k =
     (t 2 q.third (ap (λ xs. slice_get xs 2) q.same)) (t 3 q.fourth (ap (λ xs. slice_get xs 3) q.same)) in
     let modified = ap is_modified_answer all ∙ modified-four a dirty held in
     let some = ap is_some_answer all ∙ some-four a dirty held in
-    record {
-      modified = modified;
-      hit = hit-by (answer_besides a line 0 vs) ∙ (λ i. not (modified i) && some i)
-          ∙ not-either (any_where (elsewhere a dirty) 4) (any_where (elsewhere a held) 4);
-    }
+    grind (arith, hit-by)

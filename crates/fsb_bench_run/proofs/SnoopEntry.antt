@@ -1,6 +1,6 @@
 -- The entry whose snoop clock the next clock is: the oldest one without a snoop end.
-use Rattle.std.proofs.Common.{ℕ, ◌+◌, ◌<◌, ◌≡◌, ◌&&◌, true, false, not, Option, Some, None, List, [], ◌∷◌, ◌++◌, length}
-use Rattle.std.proofs.Common.{is_none, refl, sym, ap, ◌∙◌, arith, inl, inr}
+use Rattle.std.proofs.Common.{ℕ, ◌+◌, ◌<◌, ◌≡◌, ◌&&◌, true, false, not, Option, Some, None, List, [], ◌∷◌, ◌++◌}
+use Rattle.std.proofs.Common.{length, is_none, refl, sym, ap, ◌∙◌, arith, inl, inr}
 use Rattle.std.specs.List.{find, slice_get}
 use Rattle.std.specs.Option.{option_map}
 use Rattle.std.proofs.lemmas.Bool.{and_parts, both_ways, cases_order}
@@ -39,9 +39,7 @@ pub clock-there : (r : Run) (queue : List Entry) (k : ℕ) (e : Entry) → Holds
     → slice_get queue k ≡ Some e
     → Rattle.fsb_count.specs.Clocks.nth_where (is_in_flight r.trace (length r.trace)) k (length r.trace) ≡ Some e.clock
 unfolding in_flight Rattle.fsb_count.specs.Clocks.nth_where
-clock-there r queue k e f at =
-    ap (λ qs. slice_get qs k) (sym f.flight.clocks) ∙ slice_get-map (λ (x : Entry). x.clock) queue k
-    ∙ ap (option_map (λ (x : Entry). x.clock)) at
+clock-there r queue k e f at = grind (arith, slice_get-map)
 
 -- the request of an entry is live, and began below the next clock
 pub record IsHeldHere (r : Run) (e : Entry) : Type 0 where
@@ -92,11 +90,7 @@ snoop-rank r e t =
     elim (cases_order i s) [
       | inl same ↦ same
       | inr other ↦
-          let apart : i ≡ s → ⊥ = (λ (g : i ≡ s). elim other [
-            | inl less ↦ omega (arith, less, g)
-            | inr more ↦ omega
-                (arith, more, g)
-          ]) in
+          let apart : i ≡ s → ⊥ = grind arith in
           absurd (both_ways _ (snoop_elsewhere h s i (snoops_to h) apart) here)
     ]
 
@@ -113,14 +107,7 @@ snoops-now r queue f k =
     let before = λ (j : ℕ) (y : Entry) (l : j < k.place) (at : slice_get queue j ≡ Some y).
     let less = rank-rises r queue j k.place y k.item f l at k.at in
     outcome-none r queue j y f at ∙ reached_before h s (rank_of h y) to (omega arith) in
-    record {
-      place = k.place;
-      entry = k.item;
-      at = k.at;
-      snoops = k.passes;
-      first = find-place (λ (e : Entry). is_none e.outcome) queue k.place k.item k.at none before;
-      search = find-place (has_snoop h) queue k.place k.item k.at k.passes k.before;
-    }
+    grind (arith, find-place)
 
 -- the requests of a timely run keep their distance, where there is one
 pub spaced-here : (r : Run) (e : Entry) → Timely r → IsHeldHere r e → Spaced r.trace
@@ -165,8 +152,7 @@ ends-told r s queue k e grows f at t =
     record { end = tied.0; is_end = tied.1; first = sym (let same : e.clock ≡ tied.0.first = cc in same) }
 
 option-off : (f : SnoopEnd → ℕ) (o : Option SnoopEnd) → None ≡ option_map f o → o ≡ None
-option-off f None e = refl
-option-off f (Some s) e = absurd (let no : ⊥ = cc in no)
+option-off f o h1 = grind arith
 
 -- the next clock has no snoop end where no snoop of an entry ends
 pub no-end-told : (r s : Run) (queue : List Entry) → GrowsTo r s → HoldsRequests queue r

@@ -1,9 +1,8 @@
 -- The snoop end that a bench tells its agents is that of its run.
 use Rattle.std.proofs.Common.{ℕ, ◌+◌, ◌/◌, ◌<◌, ◌≡◌, ◌||◌, ◌⊎◌, Bool, true, false, Option, Some, None, List, length}
-use Rattle.std.proofs.Common.{is_some, if◌then◌else◌, refl, sym, ap, subst, ◌∙◌, arith, inl, inr}
+use Rattle.std.proofs.Common.{is_some, refl, sym, ap, subst, ◌∙◌, arith, inl, inr}
 use Rattle.std.specs.List.{slice_get}
-use Rattle.std.specs.Option.{option_and_then, option_map}
-use Rattle.std.proofs.lemmas.Bool.{and_parts}
+use Rattle.std.specs.Option.{option_and_then}
 use Rattle.fsb_access.specs.declared.log.Done.{Done}
 use Rattle.fsb_agent_run.specs.AgentClocks.{number_asked}
 use Rattle.fsb_agent_run.proofs.Interface.{served-number}
@@ -11,7 +10,7 @@ use Rattle.fsb_bridge.specs.Deferrals.{Bridged, deferral_of_id}
 use Rattle.fsb_bridge.specs.DeferralList.{IsThatOf}
 use Rattle.fsb_bridge.specs.declared.deferral.Deferral.{Deferral}
 use Rattle.fsb_bridge_run.proofs.Interface.{deferred-at}
-use Rattle.fsb_count.specs.Options.{is_at, is_some_and}
+use Rattle.fsb_count.specs.Options.{is_some_and}
 use Rattle.fsb_count.proofs.Interface.{first_where-found, is_at-some}
 use Rattle.fsb_encode.specs.declared.request.Request.{Request}
 use Rattle.fsb_hazard.specs.declared.choice.Choice.{Choice}
@@ -25,8 +24,8 @@ use Rattle.fsb_signal.specs.Samples.{line_at}
 use Rattle.fsb_tied.proofs.Interface.{IsPutOff, begun-want, live-request, reply-grants}
 use Rattle.fsb_timely.specs.Grants.{begun_at, snooped_at}
 use Rattle.fsb_timely.specs.Tied.{IsSnoopOf}
-use Rattle.fsb_timely.specs.Moments.{claim_at, gives_line, grant_for, grant_of, grant_to, is_answered_by}
-use Rattle.fsb_timely.specs.Moments.{is_owner_request, is_shared_at, live_claim_of, served_number, turns_in}
+use Rattle.fsb_timely.specs.Moments.{claim_at, grant_for, grant_of, grant_to, is_answered_by, is_owner_request}
+use Rattle.fsb_timely.specs.Moments.{is_shared_at, served_number, turns_in}
 use Rattle.fsb_timely.specs.Past.{Claim, Grant, Past, SnoopEnd}
 use Rattle.fsb_timely.specs.Runs.{Run, past_of}
 use Rattle.fsb_timely.specs.Snoops.{number_served_at}
@@ -42,7 +41,7 @@ use Rattle.fsb_trace.specs.declared.who.Who.TheVariants.{Symmetric, Priority}
 use Rattle.fsb_trace.proofs.Interface.{snoop_end_of-rises}
 use Rattle.fsb_bench_view.specs.declared.snoop.SnoopSettled.{SnoopSettled}
 use Rattle.fsb_bench_view.specs.BenchSteps.{step_decided, step_performed}
-use Rattle.fsb_bench_view.specs.BusSnooping.{snooped_entry, snooped_for, snooped_reply, snooping_of}
+use Rattle.fsb_bench_view.specs.BusSnooping.{snooped_entry, snooped_reply, snooping_of}
 use Rattle.fsb_bench_view.specs.BusViews.{BenchView, next_clock_of}
 use Rattle.fsb_bench_run.specs.BenchOf.{IsBegunAt}
 use Rattle.fsb_bench_run.proofs.BegunEvents.{begun-claim}
@@ -59,7 +58,6 @@ use Rattle.fsb_bench_run.proofs.SnoopCases.{SnoopsHere}
 use Rattle.fsb_bench_run.proofs.SnoopEntry.{held-here}
 use Rattle.fsb_bench_run.proofs.SnoopResult.{begun-reply-kind, deferral-started, hit-now, hitm-now}
 use Rattle.fsb_bench_run.proofs.SnoopTold.{snoop-told}
-use Rattle.fsb_bench_run.proofs.StartingNow.{and-some, mapped-some}
 use Rattle.fsb_bench_run.proofs.StepWith.{IsStepWith}
 
 -- the snoop end of an agent's request
@@ -100,31 +98,14 @@ shared-of : (p : Past) (w : Trace) (i q t : ℕ) (outcome : Outcome) (grant : Gr
     → grant_of p w i q t outcome ≡ Some grant
     → grant.shared ≡ is_shared_at w t
 unfolding grant_of grant_for grant_to
-shared-of p w i q t outcome grant e = by (gives_line p w q t outcome) e
-  where
-    by : (b : Bool)
-        → ◌≡◌ {A = Option Grant}
-        (elim b [
-          | true ↦ option_and_then (grant_for w q t) (served_number w (turns_in p.moments) i)
-          | false ↦ None
-        ]) (Some grant)
-        → grant.shared ≡ is_shared_at w t
-    by true f =
-        let j = and-some (grant_for w q t) (served_number w (turns_in p.moments) i) grant f in
-        let c = mapped-some (grant_to q (is_owner_request (live_request_of w j.0)) (is_shared_at w t))
-        (live_claim_of w j.0)
-        grant j.2 in
-        sym (ap (λ (g : Grant). g.shared) c.2)
-    by false f = absurd (let no : ⊥ = cc in no)
+shared-of p w i q t outcome grant e = grind arith
 
 some-there : {X : Type 0} (o : Option X) → is_some o ≡ true → (x : X) × (o ≡ Some x)
-some-there None e = absurd (let no : ⊥ = cc in no)
-some-there (Some x) e = (x, refl)
+some-there o h1 = grind arith
 
 pub claim-told : (s : Run) (q : ℕ) (claim : Claim) → q < length s.trace → line_at ADS s.trace q ≡ true
     → begun_at (past_of s) q ≡ Some claim → claim_at s.trace q ≡ Some claim
-claim-told s q claim l ads e =
-    sym (begun-told s q l ∙ ap (λ b. if b then claim_at s.trace q else None) ads) ∙ e
+claim-told s q claim l ads e = grind (arith, begun-told)
 
 -- what a reply serves that has its snoop end at n
 pub record IsReplyServed (s : Run) (n q : ℕ) (end : SnoopEnd) (request : Request) : Type 0 where
@@ -140,10 +121,7 @@ pub answered-of : (w : Trace) (turns : List ℕ) (m j : ℕ) → is_reply (live_
     → served_number w turns m ≡ Some j
     → (j < m) × (is_settled_deferred w turns j ≡ true) × (reply_number_of w j ≡ Some m)
 unfolding served_number is_answered_by
-answered-of w turns m j replies served =
-    let found = first_where-found (is_answered_by w turns m) m j (let f = rw (replies, served_number) at served in f) in
-    let parts = and_parts (is_settled_deferred w turns j) (is_at (reply_number_of w j) m) found.1 in
-    (found.0, parts.0, is_at-some (reply_number_of w j) m parts.1)
+answered-of w turns m j replies served = grind (arith, first_where-found, is_at-some)
 
 pub reply-serves : (s : Run) (n m j q : ℕ) (end : SnoopEnd) (request : Request) → Reaches s (n + 1)
     → IsSnoopOf s m n end
@@ -302,13 +280,11 @@ heard-by v hold choice entries k h c Priority e =
     let list = ap (λ (x : Bridged). deferral_of_id did x.waiting) (same-performed v).bridge ∙ some.1 in
     let started = ap (λ xs. slice_get xs d.number) (same-performed v).started ∙ at.1 in
     let x : SnoopSettled = snooped_reply y d at.0 in
-    let is : snooped_entry bus y Priority ≡ Some x =
-    ap (option_and_then (snooped_for bus y)) list ∙ ap (option_map (snooped_reply y d)) started in
+    let is : snooped_entry bus y Priority ≡ Some x = grind arith in
     let decided = c.decided ∙ ap (snooped_entry bus y) e ∙ is in
     let same : t.snooped ≡ x = one-settled t.snooped x (sym t.decided ∙ decided) in
     let number = number-found s.trace m n c.told.is_end.reached in
-    let served : served_number s.trace turns m ≡ Some one.0 =
-    sym (ap (option_and_then (served_number s.trace turns)) number) ∙ one.1 in
+    let served : served_number s.trace turns m ≡ Some one.0 = grind arith in
     let serves = reply-serves s n m one.0 at.0.clock c.told.end d.request h c.told.is_end
     (ap (λ o. is_reply o) decoded ∙ kind) served one.2.request at.2 in
     record {

@@ -1,6 +1,6 @@
 -- A bench may take the snoop end that it decides: each agent may see it, and there is room.
-use Rattle.std.proofs.Common.{ℕ, ◌+◌, ◌<◌, ◌≡◌, Bool, true, false, Option, Some, None, length, is_none, is_some, nat_eq}
-use Rattle.std.proofs.Common.{refl, sym, ap, subst, ◌∙◌, arith, inl, inr}
+use Rattle.std.proofs.Common.{ℕ, ◌+◌, ◌<◌, ◌≡◌, Bool, true, false, Option, Some, None, length, is_none, is_some}
+use Rattle.std.proofs.Common.{nat_eq, refl, sym, ap, subst, ◌∙◌, arith, inl, inr}
 use Rattle.fsb_bridge_run.proofs.Interface.{grown-room}
 use Rattle.fsb_encode.specs.declared.request.Request.{Request}
 use Rattle.fsb_hazard.specs.declared.choice.Choice.{Choice}
@@ -38,8 +38,7 @@ deferred-plain s n x h k deferred = elim k.served [
 
 -- of the requests in flight one at least has no snoop end yet
 open-one : (o : Option Outcome) → is_none o ≡ true → is_some o ≡ false
-open-one None e = refl
-open-one (Some x) e = absurd (let no : ⊥ = cc in no)
+open-one o h1 = grind arith
 
 few-served : (v : BenchView) (hold : Bool) (choice : Choice) → IsBenchOf v
     → SnoopsHere v hold choice (step_entries v hold) → length v.bus.served < 8

@@ -3,13 +3,12 @@ use Rattle.std.proofs.Common.{ℕ, ◌/◌, ◌<◌, ◌≤◌, ◌≡◌, ◌&&
 use Rattle.std.proofs.Common.{if◌then◌else◌, refl, sym, ap, ◌∙◌, arith, inl, inr, subst}
 use Rattle.std.specs.List.{slice_get}
 use Rattle.std.specs.Option.{option_and_then, option_map, option_map_or}
-use Rattle.std.proofs.lemmas.Bool.{and_from, cases_lt}
 use Rattle.std.proofs.lemmas.Option.{slice_get-map, slice_get_cases}
 use Rattle.fsb_access.specs.declared.log.Done.{Done}
 use Rattle.fsb_bridge.specs.Deferrals.{Bridged, deferral_of_id}
 use Rattle.fsb_bridge.specs.DeferralList.{IsDeferralOf, IsThatOf, request_number_of}
 use Rattle.fsb_bridge.specs.declared.deferral.Deferral.{Deferral}
-use Rattle.fsb_count.specs.Clocks.{count_where, first_where, nth_where}
+use Rattle.fsb_count.specs.Clocks.{count_where, nth_where}
 use Rattle.fsb_count.specs.Options.{is_some_and}
 use Rattle.fsb_count.proofs.Interface.{count_where-same, first_where-found, nth_where-at, nth_where-found}
 use Rattle.fsb_encode.specs.declared.request.Request.{Request}
@@ -22,13 +21,13 @@ use Rattle.fsb_signal.specs.Samples.{line_at}
 use Rattle.fsb_signal.specs.declared.sample.Sample.{Sample}
 use Rattle.fsb_trace.specs.At.{Trace, request_at}
 use Rattle.fsb_trace.specs.Winner.{winner_at}
-use Rattle.fsb_trace.specs.Requests.{is_live, is_reply, is_reply_kind, line_of, live_clock_of, live_request_of}
+use Rattle.fsb_trace.specs.Requests.{is_live, is_reply_kind, line_of, live_clock_of}
 use Rattle.fsb_trace.specs.declared.who.Who.{Who}
 use Rattle.fsb_trace.specs.declared.who.Who.TheVariants.{Symmetric, Priority}
 use Rattle.fsb_trace.proofs.Interface.{line_at-agree, live_clock_of-rises, snoop_end_of-clock}
 use Rattle.fsb_timely.specs.Grants.{snooped_at}
 use Rattle.fsb_timely.specs.Growth.{GrowsTo}
-use Rattle.fsb_timely.specs.Moments.{agent_at, claim_at, is_answered_by, served_number, turns_in}
+use Rattle.fsb_timely.specs.Moments.{agent_at, claim_at, served_number, turns_in}
 use Rattle.fsb_timely.specs.Past.{Claim, Past, SnoopEnd}
 use Rattle.fsb_timely.specs.Starts.{reply_to, would_begin}
 use Rattle.fsb_timely.specs.Runs.{Run, past_of}
@@ -40,14 +39,13 @@ use Rattle.fsb_tied.proofs.Interface.{begun-want}
 use Rattle.fsb_phase_run.proofs.Interface.{agree-grown}
 use Rattle.fsb_bench_view.specs.declared.beginning.Started.{Started}
 use Rattle.fsb_bench_view.specs.BenchSteps.{step_decided, step_performed}
-use Rattle.fsb_bench_view.specs.BusSnooping.{snooped_entry, snooped_for, snooped_reply}
+use Rattle.fsb_bench_view.specs.BusSnooping.{snooped_entry, snooped_for}
 use Rattle.fsb_bench_view.specs.BusViews.{BenchView, BusView, next_clock_of}
 use Rattle.fsb_bench_run.specs.BenchOf.{IsBegunAt, IsBenchOf}
 use Rattle.fsb_bench_run.proofs.BegunRequests.{begun-is}
 use Rattle.fsb_bench_run.proofs.DeferralsTold.{DeferralsTold}
 use Rattle.fsb_bench_run.proofs.DrivenLines.{hit-driven, hit_driven, hitm-driven, hitm_driven, line-with}
 use Rattle.fsb_bench_run.proofs.HazardsDriven.{decoded-now}
-use Rattle.fsb_bench_run.proofs.ResponsesDriven.{beq-from}
 use Rattle.fsb_bench_run.proofs.RunWith.{run_with}
 use Rattle.fsb_bench_run.proofs.SameBus.{same-performed}
 use Rattle.fsb_bench_run.proofs.SnoopAnswers.{AgentsAnswer, besides-told}
@@ -107,8 +105,7 @@ claimed-by v hold choice entries b grows k agent e =
 -- the requests that have begun, by their numbers
 started-by : (o : Option Started) (q : ℕ) → option_map (λ (x : Started). x.clock) o ≡ Some q
     → (begun : Started) × (o ≡ Some begun) × (begun.clock ≡ q)
-started-by None q e = absurd (let no : ⊥ = cc in no)
-started-by (Some begun) q e = (begun, refl, (let same : begun.clock ≡ q = cc in same))
+started-by o q h1 = grind arith
 
 pub started-there : (v : BenchView) (q : ℕ) → IsBenchOf v → line_at ADS v.run.trace q ≡ true → q < length v.run.trace
     → (begun : Started) × (slice_get v.bus.started (count_where (line_at ADS v.run.trace) q) ≡ Some begun)
@@ -125,31 +122,19 @@ started-there v q b ads l =
 -- the request that is served at a snoop end began before the clock
 served-le : (w : Trace) (turns : List ℕ) (k i : ℕ) → served_number w turns k ≡ Some i → i ≤ k
 unfolding served_number
-served-le w turns k i e = by (is_reply (live_request_of w k)) e
-  where
-    by : (c : Bool) → (elim c [ true ↦ first_where (is_answered_by w turns k) k | false ↦ Some k ]) ≡ Some i → i ≤ k
-    by true f = let found = first_where-found (is_answered_by w turns k) k i f in let low = found.0 in omega arith
-    by false f = let same : k ≡ i = cc in omega arith
+served-le w turns k i e = grind (arith, first_where-found)
 
 number-first : (w : Trace) (i m : ℕ) (o : Option ℕ) → live_clock_of w i ≡ o
     → option_map (count_where (line_at ADS w)) o ≡ Some m
     → (q : ℕ) × (live_clock_of w i ≡ Some q) × (count_where (line_at ADS w) q ≡ m)
-number-first w i m None e f = absurd (let no : ⊥ = cc in no)
-number-first w i m (Some q) e f = (q, e, (let same : count_where (line_at ADS w) q ≡ m = cc in same))
+number-first w i m o h1 h2 = grind arith
 
 clock-found : (w : Trace) (i q : ℕ) → live_clock_of w i ≡ Some q → nth_where (is_live w) i (length w) ≡ Some q
 unfolding live_clock_of
 clock-found w i q e = e
 
 clock-le : (w : Trace) (i k q c : ℕ) → i ≤ k → live_clock_of w i ≡ Some q → live_clock_of w k ≡ Some c → q ≤ c
-clock-le w i k q c l e f =
-    elim (cases_lt i k) [
-      | inl less ↦ let rises = live_clock_of-rises w i k q c less e f in omega arith
-      | inr more ↦
-          let same : i ≡ k = omega arith in
-          let one : Some q ≡ Some c = sym e ∙ ap (live_clock_of w) same ∙ f in
-          let eq : q ≡ c = cc in omega arith
-    ]
+clock-le w i k q c l e f = grind (arith, live_clock_of-rises)
 
 pub deferral-started : (v : BenchView) (hold : Bool) (choice : Choice) (entries : List Done) → IsBenchOf v
     → (grows : GrowsTo v.run (run_with v hold choice entries))
@@ -167,8 +152,7 @@ deferral-started v hold choice entries b grows k d i e that =
     let m = rank_of s.trace k.now.entry in
     let turns = turns_in (past_of s).moments in
     let number = number-found s.trace m n k.told.is_end.reached in
-    let served : served_number s.trace turns m ≡ Some i =
-    sym (ap (option_and_then (served_number s.trace turns)) number) ∙ e in
+    let served : served_number s.trace turns m ≡ Some i = grind arith in
     let low = served-le s.trace turns m i served in
     let p = number-first s.trace i d.number (live_clock_of s.trace i) refl that.number in
     let c = snoop_end_of-clock s.trace m n k.told.is_end.reached in
@@ -188,32 +172,24 @@ deferral-started v hold choice entries b grows k d i e that =
 reply-hit : (bus : BusView) (e : Entry) (o : Option Deferral)
     → ((d : Deferral) → o ≡ Some d → (begun : Started) × (slice_get bus.started d.number ≡ Some begun))
     → hit_driven (option_and_then (snooped_for bus e) o) false ≡ option_map_or (λ (d : Deferral). d.shared) o false
-reply-hit bus e None f = refl
-reply-hit bus e (Some d) f = let k = f d refl in ap (λ o. hit_driven (option_map (snooped_reply e d) o) false) k.1
+reply-hit bus e o h1 = grind arith
 
 reply-hitm : (bus : BusView) (e : Entry) (o : Option Deferral)
     → hitm_driven (option_and_then (snooped_for bus e) o) false ≡ false
-reply-hitm bus e None = refl
-reply-hitm bus e (Some d) = by (slice_get bus.started d.number)
-  where
-    by : (o : Option Started) → hitm_driven (option_map (snooped_reply e d) o) false ≡ false
-    by None = refl
-    by (Some begun) = refl
+reply-hitm bus e o = grind arith
 
 -- what makes a result right
 right-reply : (r : Run) (p : Past) (c : ℕ) (s : SnoopEnd) → is_reply_end s ≡ true
     → line_at HIT r.trace c ≡ was_hit_before r p c → line_at HITM r.trace c ≡ false → has_right_result r p c s ≡ true
 unfolding has_right_result
-right-reply r p c s e hit hitm =
-    rw (has_right_result, e) (and_from _ _ (beq-from _ _ hit) (ap not hitm))
+right-reply r p c s e hit hitm = grind arith
 
 right-other : (r : Run) (p : Past) (c : ℕ) (s : SnoopEnd) → is_reply_end s ≡ false
     → line_at HITM r.trace c ≡ is_dirty_for p c s
     → line_at HIT r.trace c ≡ (not (is_dirty_for p c s) && is_held_for p c s)
     → has_right_result r p c s ≡ true
 unfolding has_right_result
-right-other r p c s e hitm hit =
-    rw (has_right_result, e) (and_from _ _ (beq-from _ _ hitm) (beq-from _ _ hit))
+right-other r p c s e hitm hit = grind arith
 
 result-none : (r : Run) (p : Past) (c : ℕ) → snooped_at p c ≡ None → has_snoop_result r p c ≡ true
 unfolding has_snoop_result
@@ -267,9 +243,7 @@ held-by p c s claim e = rw (is_held_for, e) refl
 reply-begun : (o : Option Request) (request : Request) → option_map reply_to o ≡ Some request
     → is_reply_kind request.kind ≡ true
 unfolding reply_to is_reply_kind
-reply-begun None request e = absurd (let no : ⊥ = cc in no)
-reply-begun (Some x) request e =
-    let same : reply_to x ≡ request = cc in ap (λ (y : Request). is_reply_kind y.kind) (sym same)
+reply-begun o request h1 = grind arith
 
 pub begun-reply-kind : (r : Run) (q : ℕ) (request : Request) → IsBegunAt r q Priority request
     → is_reply_kind request.kind ≡ true

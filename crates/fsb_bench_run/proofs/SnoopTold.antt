@@ -1,5 +1,5 @@
 -- The snoop end that a bench decides is the one that the moment of the clock has.
-use Rattle.std.proofs.Common.{◌≡◌, Bool, true, false, Option, Some, None, List, is_some, refl, ap, ◌∙◌, subst}
+use Rattle.std.proofs.Common.{◌≡◌, Bool, true, false, Option, Some, List, is_some, refl, ap, ◌∙◌, subst, arith}
 use Rattle.std.specs.List.{slice_get}
 use Rattle.std.specs.Option.{option_and_then, option_map}
 use Rattle.fsb_access.specs.declared.log.Done.{Done}
@@ -9,11 +9,10 @@ use Rattle.fsb_bridge.specs.declared.deferral.Deferral.{Deferral}
 use Rattle.fsb_coherent.specs.Settled.{outcome_by_turn, outcome_under}
 use Rattle.fsb_coherent.proofs.Interface.{outcome-made}
 use Rattle.fsb_encode.specs.declared.request.Kind.{Kind}
-use Rattle.fsb_encode.specs.declared.request.Kind.TheVariants.{Reply, Invalidate, Read, WriteBack, Upgrade}
 use Rattle.fsb_encode.specs.declared.request.Request.{Request}
 use Rattle.fsb_hazard.specs.declared.choice.Choice.{Choice}
 use Rattle.fsb_hazard.specs.declared.choice.Turn.{Turn}
-use Rattle.fsb_hazard.specs.declared.choice.Turn.TheVariants.{Keep, Retry, Defer}
+use Rattle.fsb_hazard.specs.declared.choice.Turn.TheVariants.{Keep}
 use Rattle.fsb_signal.specs.declared.lines.TheConstants.Lines.{HITM}
 use Rattle.fsb_signal.specs.Samples.{line_at}
 use Rattle.fsb_trace.specs.At.{request_at}
@@ -54,19 +53,12 @@ pub record IsSnoopTold (v : BenchView) (hold : Bool) (choice : Choice) (entries 
 settled-under : (handed : Bool) (turn : Turn) (request : Request)
     → outcome_under handed turn (Some request) ≡ snoop_outcome handed turn request
 unfolding outcome_under outcome_by_turn
-settled-under true turn request = refl
-settled-under false Keep request = refl
-settled-under false Retry request = refl
-settled-under false (Defer later) request = refl
+settled-under handed turn request = grind arith
 
 reply-settled : (kind : Kind) (request : Request) → request.kind ≡ kind → is_reply_kind kind ≡ true
     → outcome_under false Keep (Some request) ≡ Replied
 unfolding outcome_under outcome_by_turn outcome_by_kind is_reply_kind
-reply-settled Reply request e f = rw (e, outcome_by_kind) refl
-reply-settled Invalidate request e f = absurd (let no : ⊥ = cc in no)
-reply-settled Read request e f = absurd (let no : ⊥ = cc in no)
-reply-settled WriteBack request e f = absurd (let no : ⊥ = cc in no)
-reply-settled Upgrade request e f = absurd (let no : ⊥ = cc in no)
+reply-settled kind request h1 h2 = grind arith
 
 -- the outcome of the snoop end
 outcome-told : (v : BenchView) (hold : Bool) (choice : Choice) (entries : List Done) → IsBenchOf v
@@ -82,8 +74,7 @@ outcome-told v hold choice entries b grows k =
     ∙ ap (outcome_under (line_at HITM s.trace n) k.told.end.turn) (decoded-now v hold choice entries b grows k)
 
 some-there : {X : Type 0} (o : Option X) → is_some o ≡ true → (x : X) × (o ≡ Some x)
-some-there None e = absurd (let no : ⊥ = cc in no)
-some-there (Some x) e = (x, refl)
+some-there o h1 = grind arith
 
 snoop-by : (v : BenchView) (hold : Bool) (choice : Choice) (entries : List Done) → IsBenchOf v
     → DeferralsTold v (run_with v hold choice entries)
@@ -147,5 +138,4 @@ pub snoop-told : (v : BenchView) (hold : Bool) (choice : Choice) (entries : List
     → DeferralsTold v (run_with v hold choice entries)
     → (grows : GrowsTo v.run (run_with v hold choice entries)) → (k : SnoopsHere v hold choice entries)
     → IsSnoopTold v hold choice entries k
-snoop-told v hold choice entries b told grows k =
-    snoop-by v hold choice entries b told grows k k.now.entry.who refl
+snoop-told v hold choice entries b told grows k = grind (arith, snoop-by)

@@ -38,9 +38,7 @@ some-lines v b =
     let four = b.agents.four in
     let u = get-there v.bus.agents 0 (omega arith) in
     let k = b.agents.each 0 u.0 u.1 in
-    let some = k.sound.some_lines in
-    let cache = k.view.agent.cache in
-    omega (arith, some, cache)
+    grind arith
 
 claimed-view : (s : Run) (n a : ℕ) (x : SnoopSettled) (w : AgentView) → Reaches s (n + 1) → 0 < s.plan.cache
     → (k : IsSnoopHeard s n x) → IsClaimHeard s n k.end x → IsViewBeforeSnoop (past_of s) a n w → (mine : Bool)
@@ -117,8 +115,7 @@ views-snooped v hold choice entries k h =
 
 pub answered-agents : (bus : BusView) (clock : ℕ) (o : Option Entry)
     → (option_map_or (bus_answered bus clock) o bus).agents ≡ bus.agents
-answered-agents bus clock None = refl
-answered-agents bus clock (Some e) = refl
+answered-agents bus clock o = grind arith
 
 -- the response changes none of them
 pub views-answered : (v : BenchView) (hold : Bool) (choice : Choice) (entries : List Done)
@@ -136,9 +133,7 @@ views-answered v hold choice entries k h =
 pub reaches-now : (v : BenchView) (hold : Bool) (choice : Choice) (entries : List Done)
     → IsStepWith v hold choice entries → Timely (run_with v hold choice entries)
     → Reaches (run_with v hold choice entries) (next_clock_of v + 1)
-reaches-now v hold choice entries k timely =
-    let size = longer v.run (run_with v hold choice entries) k.grows in
-    record { timely = timely; bounds = k.bench.bounds; long = omega (arith, size) }
+reaches-now v hold choice entries k timely = grind (arith, longer)
 
 -- what a request serves whose snoop end the clock is
 pub snoop-begun : (v : BenchView) (hold : Bool) (choice : Choice) (entries : List Done) (x : SnoopSettled)

@@ -1,8 +1,8 @@
 -- Whether a request may begin at a bench's clock: the distance, the room in the queue, and BNR# two clocks before.
-use Rattle.std.proofs.Common.{ℕ, ◌+◌, ◌-◌, ◌<◌, ◌≤◌, ◌≡◌, ◌&&◌, Bool, true, false, not, List, Option, Some, None}
-use Rattle.std.proofs.Common.{length, nat_le, nat_lt, slice_get, refl, sym, ap, ◌∙◌, inl, inr, arith}
+use Rattle.std.proofs.Common.{ℕ, ◌+◌, ◌-◌, ◌<◌, ◌≤◌, ◌≡◌, ◌&&◌, Bool, true, false, not, List, Option, length, nat_le}
+use Rattle.std.proofs.Common.{nat_lt, slice_get, sym, ap, ◌∙◌, arith}
 use Rattle.std.specs.Option.{option_map, option_map_or}
-use Rattle.std.proofs.lemmas.Bool.{and_parts, cases_lt, le-leb, leb-false, leb-true, or_parts}
+use Rattle.std.proofs.lemmas.Bool.{and_parts, leb-true}
 use Rattle.std.proofs.lemmas.List.{length-map}
 use Rattle.fsb_access.specs.declared.log.Done.{Done}
 use Rattle.fsb_count.specs.Clocks.{last_where}
@@ -10,14 +10,13 @@ use Rattle.fsb_hazard.specs.declared.choice.Choice.{Choice}
 use Rattle.fsb_lawful.proofs.Interface as lawful
 use Rattle.fsb_laws.proofs.Interface.{in_flight-now, one_more}
 use Rattle.fsb_phase_run.proofs.Interface.{agree-back}
-use Rattle.fsb_queue.specs.declared.entry.Entry.{Entry}
 use Rattle.fsb_signal.specs.declared.lines.Lines.{Lines}
 use Rattle.fsb_signal.specs.declared.lines.TheConstants.Lines.{ADS, BNR}
 use Rattle.fsb_signal.specs.Samples.{line_at}
 use Rattle.fsb_timely.specs.Growth.{GrowsTo}
 use Rattle.fsb_timely.specs.Runs.{Run, past_of, past_to, run_to}
-use Rattle.fsb_timely.specs.Snoops.{drives_aerr, drives_bnr, drives_defer, drives_hazards, drives_stalls, is_bnr_chosen}
-use Rattle.fsb_timely.specs.Snoops.{keeps_snoop_lines}
+use Rattle.fsb_timely.specs.Snoops.{drives_aerr, drives_bnr, drives_defer, drives_hazards, drives_stalls}
+use Rattle.fsb_timely.specs.Snoops.{is_bnr_chosen, keeps_snoop_lines}
 use Rattle.fsb_timely.specs.Starts.{has_room, is_spaced}
 use Rattle.fsb_timely.specs.Timely.{Timely, holds_at, holds_in}
 use Rattle.fsb_timely.proofs.Interface.{last_where-found, run_to-agrees}
@@ -35,66 +34,24 @@ use Rattle.fsb_bench_run.proofs.SampleSpaced.{not-soon}
 use Rattle.fsb_bench_run.proofs.StepWith.{IsStepWith}
 
 and-when : (b x y : Bool) → (b ≡ true → x ≡ y) → (b && x) ≡ (b && y)
-and-when true x y f = f refl
-and-when false x y f = refl
+and-when b x y h1 = grind arith
 
 -- a line some clocks before the next one is that of the run
 pub back-old : (line : Lines) (r s : Run) (d : ℕ) → GrowsTo r s → 0 < d
     → line_back line s.trace (length r.trace) d ≡ line_back line r.trace (length r.trace) d
 unfolding line_back
-back-old line r s d grows some =
-    let n = length r.trace in
-    and-when (nat_le d n) (line_at line s.trace (n - d)) (line_at line r.trace (n - d)) (λ e.
-    let low : d ≤ n = leb-true d n e in
-    line_at-agree line n s.trace r.trace (n - d) (agree-back r s grows) (omega arith))
+back-old line r s d grows some = grind (arith, line_at-agree, agree-back)
 
 -- where the request that began last is near, one began one or two clocks before
 near-back : (w : Trace) (n q : ℕ) → q < n → n < q + 3 → line_at ADS w q ≡ true
     → (not (line_back ADS w n 1) && not (line_back ADS w n 2)) ≡ false
 unfolding line_back
-near-back w n q below near ads = elim (cases_lt (q + 1) n) [
-  | inl far ↦
-      let two : n - 2 ≡ q = omega arith in
-      ap (λ b. not (line_back ADS w n 1) && not (b && line_at ADS w (n - 2))) (le-leb 2 n (omega arith))
-      ∙ ap (λ k. not (line_back ADS w n 1) && not (line_at ADS w k)) two
-      ∙ ap (λ b. not (line_back ADS w n 1) && not b) ads
-      ∙ never (not (line_back ADS w n 1))
-  | inr next ↦
-      let one : n - 1 ≡ q = omega arith in
-      ap (λ b. not (b && line_at ADS w (n - 1)) && not (line_back ADS w n 2)) (le-leb 1 n (omega arith))
-      ∙ ap (λ k. not (line_at ADS w k) && not (line_back ADS w n 2)) one
-      ∙ ap (λ b. not b && not (line_back ADS w n 2)) ads
-]
-  where
-    never : (b : Bool) → (b && false) ≡ false
-    never true = refl
-    never false = refl
+near-back w n q below near ads = grind arith
 
 spaced-by : (w : Trace) (o : Option Latest)
     → option_map (λ (last : Latest). last.clock) o ≡ last_where (line_at ADS w) (length w)
     → (not (line_back ADS w (length w) 1) && not (line_back ADS w (length w) 2)) ≡ is_spaced_by o (length w)
-spaced-by w o e = by (is_spaced_by o (length w)) refl
-  where
-    far : is_spaced_by o (length w) ≡ true
-        → (not (line_back ADS w (length w) 1) && not (line_back ADS w (length w) 2)) ≡ true
-    far t =
-        let parts = or_parts (line_back ADS w (length w) 1) (line_back ADS w (length w) 2) (not-soon w o e t) in
-        rw (parts.0, parts.1) refl
-
-    near : (o : Option Latest) → option_map (λ (last : Latest). last.clock) o ≡ last_where (line_at ADS w) (length w)
-        → is_spaced_by o (length w) ≡ false
-        → (not (line_back ADS w (length w) 1) && not (line_back ADS w (length w) 2)) ≡ false
-    near None e t = absurd (let no : ⊥ = cc in no)
-    near (Some last) e t =
-        let found = last_where-found (line_at ADS w) (length w) last.clock (sym e) in
-        let below : last.clock < length w = found.0 in
-        let close : length w < last.clock + 3 = leb-false (last.clock + 3) (length w) t in
-        near-back w (length w) last.clock below close found.1
-
-    by : (b : Bool) → is_spaced_by o (length w) ≡ b
-        → (not (line_back ADS w (length w) 1) && not (line_back ADS w (length w) 2)) ≡ is_spaced_by o (length w)
-    by true t = far t ∙ sym t
-    by false t = near o e t ∙ sym t
+spaced-by w o e = grind (arith, not-soon, last_where-found, near-back)
 
 -- the distance, by the request that began last
 pub spaced-told : (v : BenchView) (hold : Bool) (choice : Choice) (entries : List Done)
@@ -108,9 +65,7 @@ spaced-told v hold choice entries b =
     let n = next_clock_of v in
     let one = back-old ADS r s 1 b.grows (omega arith) in
     let two = back-old ADS r s 2 b.grows (omega arith) in
-    (λ i. not (one i) && not (two i))
-    ∙ spaced-by r.trace v.bus.latest b.bench.latest.clock
-    ∙ ap (λ o. is_spaced_by o n) (sym (same-performed v).latest)
+    grind (arith, spaced-by)
 
 -- the room in the queue: what is in flight at the clock shows below it
 pub room-told : (v : BenchView) (hold : Bool) (choice : Choice) (entries : List Done) → IsStepWith v hold choice entries
@@ -122,8 +77,7 @@ room-told v hold choice entries b =
     let n = next_clock_of v in
     let more = one_more r.trace (step_sample v hold) in
     let now = in_flight-now r.trace (step_sample v hold) s.trace more (orderly-run r b.bench.timely) in
-    let size : length (in_flight s.trace n) ≡ length v.bus.queue =
-    ap length now ∙ sym (ap length b.bench.requests.flight.clocks) ∙ length-map v.bus.queue (λ (x : Entry). x.clock) in
+    let size : length (in_flight s.trace n) ≡ length v.bus.queue = grind (arith, length-map) in
     ap (λ k. nat_lt k 8) (size ∙ sym (ap length (same-performed v).queue))
 
 chosen-held : (r : Run) (c : ℕ) → Timely r → c < length r.trace

@@ -1,20 +1,17 @@
 -- The requests that have begun, after the clock.
-use Rattle.std.proofs.Common.{ℕ, ◌<◌, ◌≡◌, Bool, true, false, Option, Some, None, List, [], ◌∷◌, ◌++◌, is_some, length}
-use Rattle.std.proofs.Common.{map, slice_get, nat_eq, if◌then◌else◌, append-nil, refl, sym, ap, subst, ◌∙◌, arith, inl}
-use Rattle.std.proofs.Common.{inr}
-use Rattle.std.specs.Option.{option_map}
+use Rattle.std.proofs.Common.{ℕ, ◌<◌, ◌≡◌, Bool, true, false, Option, Some, None, List, [], ◌∷◌, ◌++◌, is_some}
+use Rattle.std.proofs.Common.{length, map, slice_get, if◌then◌else◌, append-nil, refl, sym, ap, subst, ◌∙◌, arith}
+use Rattle.std.proofs.Common.{inl, inr}
 use Rattle.std.proofs.lemmas.Option.{slice_get-map}
 use Rattle.fsb_count.specs.Clocks.{nth_where}
 use Rattle.fsb_count.proofs.Interface.{nth_where-found, slice_get-push}
-use Rattle.fsb_count.specs.Options.{is_some_and}
 use Rattle.fsb_hazard.specs.declared.choice.Choice.{Choice}
 use Rattle.fsb_signal.specs.declared.lines.TheConstants.Lines.{ADS}
 use Rattle.fsb_signal.specs.Samples.{line_at}
-use Rattle.fsb_timely.specs.BusLock.{is_begun_by, is_locked_request, wants_lock}
+use Rattle.fsb_timely.specs.BusLock.{is_begun_by, is_locked_request}
 use Rattle.fsb_timely.specs.Grants.{begun_at}
 use Rattle.fsb_timely.specs.Growth.{GrowsTo}
 use Rattle.fsb_timely.specs.Moments.{claim_at}
-use Rattle.fsb_timely.specs.Past.{Claim}
 use Rattle.fsb_timely.specs.Runs.{Run, past_of}
 use Rattle.fsb_timely.proofs.Interface.{begun-told, claim_at-agree, past-same}
 use Rattle.fsb_trace.specs.Agree.{AgreeTo}
@@ -25,43 +22,32 @@ use Rattle.fsb_bench_view.specs.declared.beginning.Starting.{Starting}
 use Rattle.fsb_bench_view.specs.BenchSteps.{bench_stepped, step_decided, step_entries, step_run}
 use Rattle.fsb_bench_view.specs.BusViews.{BenchView}
 use Rattle.fsb_bench_run.specs.BenchOf.{HasStarted, IsBenchOf}
-use Rattle.fsb_bench_run.proofs.BegunStays.{before-growth}
 use Rattle.fsb_bench_run.proofs.AdsGrown.{all-more}
 use Rattle.fsb_bench_run.proofs.LockedStarts.{locked-start}
 use Rattle.fsb_bench_run.proofs.NextRun.{begins-now, grows-to}
 use Rattle.fsb_bench_run.proofs.StepEntries.{step-with}
 use Rattle.fsb_bench_run.proofs.StepFields.{started-stepped, started_after}
-use Rattle.fsb_phase_run.proofs.Interface.{agree-grown, longer}
+use Rattle.fsb_phase_run.proofs.Interface.{agree-grown}
 
 claim-same : (w v : Trace) (n q : ℕ) → AgreeTo n w v → q < n
     → (if line_at ADS w q then claim_at w q else None) ≡ (if line_at ADS v q then claim_at v q else None)
-claim-same w v n q agree l =
-    let line = line_at-agree ADS n w v q agree l in
-    let claim = claim_at-agree n w v q agree l in
-    λ i. if line i then claim i else None
+claim-same w v n q agree l = grind (arith, line_at-agree, claim_at-agree)
 
 -- what begins at a clock stays as a run grows
 pub begun-same : (r s : Run) (q : ℕ) → GrowsTo r s → q < length r.trace
     → begun_at (past_of s) q ≡ begun_at (past_of r) q
-begun-same r s q grows l =
-    let size = longer r s grows in
-    begun-told s q (omega arith)
-    ∙ sym (claim-same r.trace s.trace (length r.trace) q (agree-grown r s grows) l) ∙ sym (begun-told r q l)
+begun-same r s q grows l = grind (arith, begun-told, claim-same, agree-grown)
 
 -- whether a request is a locked one stays as a run grows
 begun_by-same : (r s : Run) (a q : ℕ) → GrowsTo r s → q < length r.trace
     → is_begun_by (past_of s) a q ≡ is_begun_by (past_of r) a q
 unfolding is_begun_by
-begun_by-same r s a q grows l = ap (λ o. is_some_and o (λ (claim : Claim). nat_eq claim.agent a))
-    (begun-same r s q grows l)
+begun_by-same r s a q grows l = grind (arith, begun-same)
 
 pub locked-same : (r s : Run) (a q : ℕ) → GrowsTo r s → q < length r.trace
     → is_locked_request (past_of s) a q ≡ is_locked_request (past_of r) a q
 unfolding is_locked_request
-locked-same r s a q grows l =
-    let begun = begun_by-same r s a q grows l in
-    let past = past-same r s q grows.next (before-growth r s grows) l in
-    λ i. elim (begun i) [ true ↦ wants_lock (past i) a q | false ↦ false ]
+locked-same r s a q grows l = grind (arith, begun_by-same, past-same)
 
 -- those that have begun have their clocks below the next one
 started-below : (started : List Started) (r : Run) (k : ℕ) (start : Started) → HasStarted started r
@@ -69,8 +55,7 @@ started-below : (started : List Started) (r : Run) (k : ℕ) (start : Started) �
 unfolding nth_where
 started-below started r k start h at =
     let there : nth_where (line_at ADS r.trace) k (length r.trace) ≡ Some start.clock =
-    ap (λ qs. slice_get qs k) (sym h.clocks) ∙ slice_get-map (λ (start : Started). start.clock) started k
-    ∙ ap (option_map (λ (start : Started). start.clock)) at in
+    grind (arith, slice_get-map) in
     (nth_where-found (line_at ADS r.trace) k (length r.trace) start.clock there).0
 
 map-push : {X Y : Type 0} (f : X → Y) (xs : List X) (x : X) → map f (xs ++ x ∷ []) ≡ map f xs ++ f x ∷ []

@@ -1,6 +1,6 @@
 -- What begins at the clock is what the winner of the run would begin there.
-use Rattle.std.proofs.Common.{ℕ, ◌≡◌, Bool, true, false, Option, Some, None, is_some, length, if◌then◌else◌, refl, sym}
-use Rattle.std.proofs.Common.{ap, subst, ◌∙◌, arith, List}
+use Rattle.std.proofs.Common.{ℕ, ◌≡◌, Bool, true, false, Option, Some, is_some, length, sym, ap, subst, ◌∙◌, arith}
+use Rattle.std.proofs.Common.{List}
 use Rattle.std.specs.Option.{option_and_then, option_map}
 use Rattle.fsb_agent_view.specs.declared.want.Want.{Want}
 use Rattle.fsb_bridge.specs.declared.deferral.Deferral.{Deferral}
@@ -14,7 +14,6 @@ use Rattle.fsb_timely.specs.Starts.{due_number, reply_to, would_begin}
 use Rattle.fsb_timely.specs.Wants.{want_of}
 use Rattle.fsb_timely.proofs.Interface.{run-ends}
 use Rattle.fsb_tied.proofs.Interface.{winner-four}
-use Rattle.fsb_trace.specs.Requests.{live_request_of}
 use Rattle.fsb_trace.specs.Winner.{winner_at}
 use Rattle.fsb_trace.specs.declared.who.Who.{Who}
 use Rattle.fsb_trace.specs.declared.who.Who.TheVariants.{Symmetric, Priority}
@@ -35,13 +34,11 @@ use Rattle.fsb_bench_run.proofs.StepWith.{IsStepWith, begins-with}
 
 pub and-some : {X Y : Type 0} (f : X → Option Y) (o : Option X) (y : Y) → option_and_then f o ≡ Some y
     → (x : X) × (o ≡ Some x) × (f x ≡ Some y)
-and-some f None y e = absurd (let no : ⊥ = cc in no)
-and-some f (Some x) y e = (x, refl, e)
+and-some f o y h1 = grind arith
 
 pub mapped-some : {X Y : Type 0} (f : X → Y) (o : Option X) (y : Y) → option_map f o ≡ Some y
     → (x : X) × (o ≡ Some x) × (f x ≡ y)
-mapped-some f None y e = absurd (let no : ⊥ = cc in no)
-mapped-some f (Some x) y e = (x, refl, (let same : f x ≡ y = cc in same))
+mapped-some f o y h1 = grind arith
 
 -- it begins only where it may, and there is a winner
 pub starting-parts : (bus : BusView) (winner : Option Who) (clock : ℕ) (asked : AskedFor) (held : Bool)
@@ -49,45 +46,18 @@ pub starting-parts : (bus : BusView) (winner : Option Who) (clock : ℕ) (asked 
     → starting_by bus winner clock asked held ≡ Some starting
     → (may_start bus clock held ≡ true) × (who : Who) × (winner ≡ Some who)
     × (starting_for bus asked who ≡ Some starting)
-starting-parts bus winner clock asked held starting e = by (may_start bus clock held) refl e
-  where
-    by : (b : Bool) → may_start bus clock held ≡ b
-        → (if may_start bus clock held then option_and_then (starting_for bus asked) winner else None) ≡ Some starting
-        → (may_start bus clock held ≡ true) × (who : Who) × (winner ≡ Some who)
-        × (starting_for bus asked who ≡ Some starting)
-    by true f e =
-        let g : option_and_then (starting_for bus asked) winner ≡ Some starting = rw f at e in
-        let k = and-some (starting_for bus asked) winner starting g in
-        (f, k.0, k.1, k.2)
-    by false f e = absurd (let g = rw f at e in let no : ⊥ = cc in no)
+starting-parts bus winner clock asked held starting e = grind arith
 
 -- an agent's want begins
 pub wanted-parts : (bus : BusView) (agent : ℕ) (o : Option Want) (starting : Starting)
     → option_and_then (starting_want bus agent) o ≡ Some starting
     → (want : Want) × (o ≡ Some want) × (is_kept_from bus agent want ≡ false)
     × (record { who = Symmetric agent; request = want.request; locked = want.locked } ≡ starting)
-wanted-parts bus agent None starting e = absurd (let no : ⊥ = cc in no)
-wanted-parts bus agent (Some want) starting e = by (is_kept_from bus agent want) refl e
-  where
-    by : (b : Bool) → is_kept_from bus agent want ≡ b
-        → (if is_kept_from bus agent want then None
-        else Some (record { who = Symmetric agent; request = want.request; locked = want.locked })) ≡ Some starting
-        → (x : Want) × (Some want ≡ Some x) × (is_kept_from bus agent x ≡ false)
-        × (record { who = Symmetric agent; request = x.request; locked = x.locked } ≡ starting)
-    by true f e = absurd (let g = rw f at e in let no : ⊥ = cc in no)
-    by false f e =
-        let g = rw f at e in (
-          want,
-          refl,
-          f,
-          (let same : record { who = Symmetric agent; request = want.request; locked = want.locked }
-              ≡ starting = cc in same),
-        )
+wanted-parts bus agent o starting h1 = grind arith
 
 -- the winner of the longer run is that of the run
 pub winner-grown : (r s : Run) → GrowsTo r s → winner_at s.trace (length r.trace) ≡ winner_at r.trace (length r.trace)
-winner-grown r s grows =
-    sym (winner_at-agree (length r.trace) r.trace s.trace (length r.trace) (agree-grown r s grows) (omega arith))
+winner-grown r s grows = grind (arith, winner_at-agree, agree-grown)
 
 -- what an agent would begin at the clock
 would-symmetric : (r s : Run) (a : ℕ) (request : Request) → GrowsTo r s
@@ -102,11 +72,7 @@ would-priority : (r s : Run) (i : ℕ) (deferral : Deferral) → GrowsTo r s
     → would_begin (run_to s (length r.trace)) (past_to (past_of s) (length r.trace)) (length r.trace) Priority
     ≡ Some (reply_to deferral.request)
 unfolding would_begin
-would-priority r s i deferral grows e k =
-    (λ j. option_map reply_to (option_and_then (live_request_of (run-ends r s grows j).trace)
-    (due_number (run-ends r s grows j) (past-now r s grows j) (length r.trace))))
-    ∙ ap (λ o. option_map reply_to (option_and_then (live_request_of s.trace) o)) e
-    ∙ ap (option_map reply_to) k.request
+would-priority r s i deferral grows e k = grind (arith, run-ends, past-now)
 
 -- the bench's due deferral is that of this request
 due-of : (v : BenchView) (hold : Bool) (choice : Choice) (entries : List Done) (deferral : Deferral)

@@ -1,8 +1,7 @@
 -- What a bench begins may begin: it is a lawful request, and its agent may send it.
-use Rattle.std.proofs.Common.{ℕ, ◌+◌, ◌≡◌, Bool, Some, List, length, subst, ◌∙◌, arith}
+use Rattle.std.proofs.Common.{ℕ, ◌+◌, ◌≡◌, Bool, Some, List, length, subst, arith}
 use Rattle.fsb_access.specs.declared.log.Done.{Done}
 use Rattle.fsb_agent_run.proofs.Interface.{send-may}
-use Rattle.fsb_agent_view.specs.AgentEvents.{Performed}
 use Rattle.fsb_encode.specs.declared.request.Request.{Request}
 use Rattle.fsb_hazard.specs.declared.choice.Choice.{Choice}
 use Rattle.fsb_run_laws.specs.Reaches.{Reaches}
@@ -11,12 +10,11 @@ use Rattle.fsb_timely.specs.Runs.{Run}
 use Rattle.fsb_trace.specs.declared.who.Who.{Who}
 use Rattle.fsb_trace.specs.declared.who.Who.TheVariants.{Symmetric}
 use Rattle.fsb_bench_view.specs.declared.beginning.Starting.{Starting}
-use Rattle.fsb_bench_view.specs.BenchSteps.{step_decided, step_fetched, step_performed}
+use Rattle.fsb_bench_view.specs.BenchSteps.{step_decided, step_performed}
 use Rattle.fsb_bench_view.specs.BusViews.{BenchView, next_clock_of}
 use Rattle.fsb_bench_view.specs.MaySteps.{MayStart}
-use Rattle.fsb_bench_view.specs.ToldAgents.{for_all}
 use Rattle.fsb_bench_run.specs.BenchOf.{IsBegunAt, IsBenchOf}
-use Rattle.fsb_bench_run.proofs.AgentsNow.{fetched-four, length-told}
+use Rattle.fsb_bench_run.proofs.AgentsNow.{length-told}
 use Rattle.fsb_bench_run.proofs.BegunEvents.{begun-claim}
 use Rattle.fsb_bench_run.proofs.BegunStays.{begun-lawful}
 use Rattle.fsb_bench_run.proofs.RunWith.{run_with}
@@ -24,8 +22,7 @@ use Rattle.fsb_bench_run.proofs.StartingNow.{starting-begins}
 use Rattle.fsb_bench_run.proofs.StepWith.{IsStepWith}
 
 pub performed-four : (v : BenchView) → IsBenchOf v → length (step_performed v).agents ≡ 4
-performed-four v b =
-    length-told (for_all (Performed (next_clock_of v))) 0 (step_fetched v).agents ∙ fetched-four v b.agents.four
+performed-four v b = grind (arith, length-told)
 
 pub own-begun : (s : Run) (n a : ℕ) (who : Who) (request : Request) → who ≡ Symmetric a → IsBegunAt s n who request
     → IsBegunAt s n (Symmetric a) request

@@ -1,8 +1,8 @@
 -- ADS# is at a bench's clock exactly where a request may begin.
-use Rattle.std.proofs.Common.{ℕ, ◌+◌, ◌-◌, ◌<◌, ◌≤◌, ◌≡◌, ◌&&◌, ◌||◌, Bool, true, false, not, is_some, if◌then◌else◌}
-use Rattle.std.proofs.Common.{nat_lt, Option, Some, None, List, length, refl, sym, ap, ◌∙◌, inl, inr, arith}
+use Rattle.std.proofs.Common.{ℕ, ◌+◌, ◌<◌, ◌≤◌, ◌≡◌, ◌&&◌, ◌||◌, Bool, true, false, not, is_some, if◌then◌else◌}
+use Rattle.std.proofs.Common.{nat_lt, Option, Some, None, List, length, refl, sym, ap, ◌∙◌, arith}
 use Rattle.std.specs.Option.{option_and_then, option_map}
-use Rattle.std.proofs.lemmas.Bool.{and_from, cases_lt, le-leb, or_parts}
+use Rattle.std.proofs.lemmas.Bool.{and_from}
 use Rattle.fsb_access.specs.declared.log.Done.{Done}
 use Rattle.fsb_agent_view.specs.declared.want.Want.{Want}
 use Rattle.fsb_bridge.specs.declared.deferral.Deferral.{Deferral}
@@ -49,17 +49,7 @@ use Rattle.fsb_bench_run.proofs.WinnersAsk.{winner-wants}
 quiet-by : (w : Trace) (q : ℕ) → (line_back ADS w (length w) 1 || line_back ADS w (length w) 2) ≡ false
     → length w ≤ q + 2 → q < length w → line_at ADS w q ≡ false
 unfolding line_back
-quiet-by w q e above below =
-    let n = length w in
-    let parts = or_parts (line_back ADS w n 1) (line_back ADS w n 2) e in
-    elim (cases_lt (q + 1) n) [
-      | inl far ↦
-          let two : n - 2 ≡ q = omega arith in
-          sym (ap (λ b. b && line_at ADS w (n - 2)) (le-leb 2 n (omega arith)) ∙ ap (line_at ADS w) two) ∙ parts.1
-      | inr next ↦
-          let one : n - 1 ≡ q = omega arith in
-          sym (ap (λ b. b && line_at ADS w (n - 1)) (le-leb 1 n (omega arith)) ∙ ap (line_at ADS w) one) ∙ parts.0
-    ]
+quiet-by w q e above below = grind arith
 
 pub quiet-before : (v : BenchView) (hold : Bool) (choice : Choice) (entries : List Done) (q : ℕ)
     → IsStepWith v hold choice entries
@@ -72,8 +62,7 @@ quiet-before v hold choice entries q b spaced above below =
     quiet-by v.run.trace q (not-soon v.run.trace v.bus.latest b.bench.latest.clock far) above below
 
 unless : (b : Bool) (x : Starting) → is_some (if b then None else Some x) ≡ not b
-unless true x = refl
-unless false x = refl
+unless b x = grind arith
 
 -- what an agent wants begins unless the agent is held back
 want-free : (v : BenchView) (hold : Bool) (choice : Choice) (entries : List Done) (a : ℕ)
@@ -102,8 +91,7 @@ want-free v hold choice entries a b (Some want) told wants =
     && is_open_to_other p a n request.line)) told)
 
 some-reply : (o : Option Deferral) → is_some (option_map starting_reply o) ≡ is_some o
-some-reply None = refl
-some-reply (Some deferral) = refl
+some-reply o = grind arith
 
 -- where the distance is kept, something begins exactly where there is a winner that is not held back
 free-winner : (v : BenchView) (hold : Bool) (choice : Choice) (entries : List Done) → IsStepWith v hold choice entries
@@ -136,12 +124,7 @@ free-winner v hold choice entries b spaced (Some Priority) won =
 
 starts-if : (spaced room held free : Bool) (o : Option Starting) → (spaced ≡ true → is_some o ≡ free)
     → is_some (if (not held && (spaced && room)) then o else None) ≡ (spaced && room && not held && free)
-starts-if true true true free o f = refl
-starts-if true true false free o f = f refl
-starts-if true false true free o f = refl
-starts-if true false false free o f = refl
-starts-if false room true free o f = refl
-starts-if false room false free o f = refl
+starts-if spaced room held free o h1 = grind arith
 
 -- so ADS# is as it must be
 pub ads-now : (v : BenchView) (hold : Bool) (choice : Choice) (entries : List Done) → IsStepWith v hold choice entries

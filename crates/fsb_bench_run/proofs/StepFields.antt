@@ -1,21 +1,16 @@
 -- What a clock leaves of the request that began last, and of those that have begun.
-use Rattle.std.proofs.Common.{ℕ, ◌≡◌, Bool, Option, Some, None, List, [], ◌∷◌, ◌++◌, refl, ap, ◌∙◌}
+use Rattle.std.proofs.Common.{ℕ, ◌≡◌, Bool, Option, Some, List, [], ◌∷◌, ◌++◌, refl, ap, ◌∙◌, arith}
 use Rattle.std.specs.Option.{option_map_or}
 use Rattle.fsb_hazard.specs.declared.choice.Choice.{Choice}
 use Rattle.fsb_queue.specs.declared.entry.Entry.{Entry}
 use Rattle.fsb_bench_view.specs.declared.beginning.Latest.{Latest}
 use Rattle.fsb_bench_view.specs.declared.beginning.Started.{Started}
 use Rattle.fsb_bench_view.specs.declared.beginning.Starting.{Starting}
-use Rattle.fsb_bench_view.specs.declared.decided.BytesFrom.{BytesFrom}
-use Rattle.fsb_bench_view.specs.declared.decided.BytesFrom.TheVariants.{Memory, Agents}
 use Rattle.fsb_bench_view.specs.declared.decided.Ending.{Ending}
 use Rattle.fsb_bench_view.specs.declared.snoop.SnoopSettled.{SnoopSettled}
-use Rattle.fsb_bench_view.specs.BenchSteps.{bench_stepped, step_answered, step_cancelled, step_decided, step_drive}
-use Rattle.fsb_bench_view.specs.BenchSteps.{step_ended, step_ending, step_performed, step_snooped, step_started}
-use Rattle.fsb_bench_view.specs.BusEvents.{answered_by, bus_answered, bus_cancelled, bus_ended, bus_snooped}
-use Rattle.fsb_bench_view.specs.BusEvents.{bus_started}
+use Rattle.fsb_bench_view.specs.BenchSteps.{bench_stepped, step_decided, step_ended, step_performed, step_started}
+use Rattle.fsb_bench_view.specs.BusEvents.{bus_answered, bus_ended, bus_snooped, bus_started}
 use Rattle.fsb_bench_view.specs.BusViews.{BenchView, BusView, next_clock_of}
-use Rattle.fsb_bench_view.specs.BytesFetched.{bus_fetched, bytes_source}
 
 -- the request that began last, after this one began, if one did
 abbrev pub latest_after : ℕ → Option Starting → Option Latest → Option Latest
@@ -34,71 +29,39 @@ pub record HasSameBegun (a b : BusView) : Type 0 where
   pub kept : a.kept ≡ b.kept
   pub queue : a.queue ≡ b.queue
 
-begun-then : (a b c : BusView) → HasSameBegun a b → HasSameBegun b c → HasSameBegun a c
-begun-then a b c h k = record {
-  latest = h.latest ∙ k.latest;
-  started = h.started ∙ k.started;
-  kept = h.kept ∙ k.kept;
-  queue = h.queue ∙ k.queue;
-}
-
 same : (a : BusView) → HasSameBegun a a
 same a = record { latest = refl; started = refl; kept = refl; queue = refl }
 
-fetched-same : (bus : BusView) (o : Option BytesFrom) → HasSameBegun (bus_fetched bus o) bus
-fetched-same bus None = same bus
-fetched-same bus (Some (Memory line)) = record { latest = refl; started = refl; kept = refl; queue = refl }
-fetched-same bus (Some (Agents number)) = record { latest = refl; started = refl; kept = refl; queue = refl }
-
-cancelled-same : (bus : BusView) (o : Option Entry) → HasSameBegun (option_map_or (bus_cancelled bus) o bus) bus
-cancelled-same bus None = same bus
-cancelled-same bus (Some e) = record { latest = refl; started = refl; kept = refl; queue = refl }
-
 snooped-same : (bus : BusView) (o : Option SnoopSettled) → HasSameBegun (option_map_or (bus_snooped bus) o bus) bus
-snooped-same bus None = same bus
-snooped-same bus (Some s) = record { latest = refl; started = refl; kept = refl; queue = refl }
+snooped-same bus o = grind arith
 
 answered-same : (bus : BusView) (clock : ℕ) (o : Option Entry)
     → HasSameBegun (option_map_or (bus_answered bus clock) o bus) bus
-answered-same bus clock None = same bus
-answered-same bus clock (Some e) = record { latest = refl; started = refl; kept = refl; queue = refl }
+answered-same bus clock o = grind arith
 
 ended-same : (bus : BusView) (clock : ℕ) (o : Option Ending)
     → HasSameBegun (option_map_or (bus_ended bus clock) o bus) bus
-ended-same bus clock None = same bus
-ended-same bus clock (Some e) = record { latest = refl; started = refl; kept = refl; queue = refl }
+ended-same bus clock o = grind arith
 
 -- the hits change nothing of it
 pub performed-begun : (v : BenchView) → HasSameBegun (step_performed v) v.bus
-performed-begun v =
-    let k = fetched-same v.bus (bytes_source v.bus (step_drive v)) in
-    record { latest = k.latest; started = k.started; kept = k.kept; queue = k.queue }
+performed-begun v = grind arith
 
 -- nor does what comes after the request that begins
 pub ended-begun : (v : BenchView) (hold : Bool) → HasSameBegun (step_ended v hold) (step_started v hold)
-ended-begun v hold =
-    begun-then (step_ended v hold) (step_answered v hold) (step_started v hold)
-    (ended-same (step_answered v hold) (next_clock_of v) (step_ending v hold))
-    (begun-then (step_answered v hold) (step_snooped v hold) (step_started v hold)
-    (answered-same (step_snooped v hold) (next_clock_of v) (answered_by (step_snooped v hold) (step_drive v)))
-    (begun-then (step_snooped v hold) (step_cancelled v hold) (step_started v hold)
-    (snooped-same (step_cancelled v hold) (step_decided v hold).snooped)
-    (cancelled-same (step_started v hold) (step_decided v hold).cancelled)))
+ended-begun v hold = grind (arith, ended-same, answered-same)
 
 started-latest : (bus : BusView) (clock : ℕ) (o : Option Starting)
     → (option_map_or (bus_started bus clock) o bus).latest ≡ latest_after clock o bus.latest
-started-latest bus clock None = refl
-started-latest bus clock (Some s) = refl
+started-latest bus clock o = grind arith
 
 started-started : (bus : BusView) (clock : ℕ) (o : Option Starting)
     → (option_map_or (bus_started bus clock) o bus).started ≡ started_after clock o bus.started
-started-started bus clock None = refl
-started-started bus clock (Some s) = refl
+started-started bus clock o = grind arith
 
 started-kept : (bus : BusView) (clock : ℕ) (o : Option Starting)
     → (option_map_or (bus_started bus clock) o bus).kept ≡ bus.kept
-started-kept bus clock None = refl
-started-kept bus clock (Some s) = refl
+started-kept bus clock o = grind arith
 
 -- the request that began last, after the clock
 pub latest-stepped : (v : BenchView) (hold : Bool) (choice : Choice)

@@ -1,7 +1,7 @@
 -- The run with one more clock of a bench is timely, where its log has the completions of the clock.
-use Rattle.std.proofs.Common.{◌≡◌, Bool, true, List, [], ◌∷◌, ◌++◌, refl}
+use Rattle.std.proofs.Common.{◌≡◌, Bool, true, List, [], ◌∷◌, ◌++◌, refl, arith}
 use Rattle.std.specs.List.{list_all}
-use Rattle.std.proofs.lemmas.Bool.{and_from, and_parts}
+use Rattle.std.proofs.lemmas.Bool.{and_from}
 use Rattle.fsb_access.specs.declared.log.Done.{Done}
 use Rattle.fsb_hazard.specs.declared.choice.Choice.{Choice}
 use Rattle.fsb_signal.specs.declared.sample.Sample.{Sample}
@@ -28,9 +28,7 @@ use Rattle.fsb_bench_run.proofs.StepWith.{IsStepWith}
 known-more : (w : List Sample) (x : Sample) → list_all is_known w ≡ true → is_known x ≡ true
     → list_all is_known (w ++ x ∷ []) ≡ true
 known-more [] x e f = and_from (is_known x) true f refl
-known-more (y ∷ w) x e f =
-    let parts = and_parts (is_known y) (list_all is_known w) e in
-    and_from (is_known y) (list_all is_known (w ++ x ∷ [])) parts.0 (known-more w x parts.1 f)
+known-more (y ∷ w) x e f = grind (arith, known-more w x)
 
 -- nor in the sample of a bench's clock
 known-sample : (v : BenchView) (hold : Bool) → is_known (step_sample v hold) ≡ true

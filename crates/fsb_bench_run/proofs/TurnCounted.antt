@@ -1,6 +1,6 @@
 -- The turn that counts at the snoop end of a clock.
-use Rattle.std.proofs.Common.{ℕ, suc, ◌+◌, ◌≡◌, Bool, true, Option, Some, None, List, [], ◌∷◌, ◌++◌, length, refl, sym}
-use Rattle.std.proofs.Common.{ap, ◌∙◌, arith}
+use Rattle.std.proofs.Common.{ℕ, suc, ◌+◌, ◌≡◌, Bool, true, Option, Some, List, [], ◌∷◌, ◌++◌, length, refl, sym, ap}
+use Rattle.std.proofs.Common.{◌∙◌, arith}
 use Rattle.std.specs.Option.{option_map}
 use Rattle.std.proofs.lemmas.List.{length-append}
 use Rattle.fsb_bridge.specs.Deferrals.{is_covered}
@@ -14,7 +14,6 @@ use Rattle.fsb_queue.specs.declared.entry.Entry.{Entry}
 use Rattle.fsb_script.specs.declared.plan.Window.{Window}
 use Rattle.fsb_trace.specs.At.{Trace, request_at}
 use Rattle.fsb_trace.specs.Deferral.{is_pending}
-use Rattle.fsb_trace.specs.Requests.{live_clock_of}
 use Rattle.fsb_trace.specs.declared.who.Who.TheVariants.{Priority}
 use Rattle.fsb_timely.specs.Growth.{GrowsTo}
 use Rattle.fsb_timely.specs.Moments.{choice_at, effective_choice, is_in_window, snoop_end_with, turns_in}
@@ -33,9 +32,7 @@ front-same [] (z ∷ ys) x y e =
     let size = ap length e in absurd (omega (arith, length-append ys (y ∷ []), size))
 front-same (z ∷ xs) [] x y e =
     let size = ap length e in absurd (omega (arith, length-append xs (x ∷ []), size))
-front-same (z ∷ xs) (w ∷ ys) x y e =
-    let rest = front-same xs ys x y (let behind : xs ++ x ∷ [] ≡ ys ++ y ∷ [] = cc in behind) in
-    let head : z ≡ w = cc in λ i. head i ∷ rest i
+front-same (z ∷ xs) (w ∷ ys) x y e = grind (arith, front-same xs ys x y)
 
 pub moments-before : (r s : Run) → GrowsTo r s → moments_below s (length r.trace) ≡ (past_of r).moments
 unfolding past_of moments_below
@@ -49,17 +46,7 @@ moments-before r s grows =
 -- the snoop end of an entry is what the moment makes of it
 end-as : (r s : Run) (e : Entry) → GrowsTo r s → (told : IsSnoopedNow s (length r.trace) e)
     → told.end ≡ snoop_of s (length r.trace) (rank_of s.trace e) e.clock
-end-as r s e grows told =
-    let n = length r.trace in
-    let size = longer r s grows in
-    let i = rank_of s.trace e in
-    let first : live_clock_of s.trace i ≡ Some e.clock = told.is_end.first ∙ ap (λ q. Some q) told.first in
-    let made = sym told.is_end.there ∙ snooped-there s n (omega arith)
-    ∙ moment-snooped s i n e.clock told.is_end.reached first in
-    same-end told.end (snoop_of s n i e.clock) made
-  where
-    same-end : (a b : SnoopEnd) → Some a ≡ Some b → a ≡ b
-    same-end a b f = cc
+end-as r s e grows told = grind (arith, longer, snooped-there, moment-snooped)
 
 effective-of : (bridge : Option Window) (choices : List Choice) (w : Trace) (turns : List ℕ) (q n : ℕ)
     (request : Request) → request_at w q ≡ Some request
@@ -93,9 +80,7 @@ kept-turn turn request inside pending e = rw e refl
 reply-kind : (o : Option Request) (request : Request) → option_map reply_to o ≡ Some request
     → is_never_held_up request.kind ≡ true
 unfolding reply_to
-reply-kind None request e = absurd (let no : ⊥ = cc in no)
-reply-kind (Some x) request e =
-    let same : reply_to x ≡ request = cc in ap (λ (y : Request). is_never_held_up y.kind) (sym same)
+reply-kind o request h1 = grind arith
 
 pub begun-reply : (r : Run) (q : ℕ) (request : Request) → IsBegunAt r q Priority request
     → is_never_held_up request.kind ≡ true
@@ -105,5 +90,4 @@ begun-reply r q request k = reply-kind _ request k.wanted
 -- the window
 pub window-same : (o : Option Window) (line : ℕ) → is_covered o line ≡ is_in_window o line
 unfolding is_in_window
-window-same None line = refl
-window-same (Some window) line = refl
+window-same o line = grind arith

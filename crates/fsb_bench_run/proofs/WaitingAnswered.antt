@@ -1,9 +1,8 @@
 -- What the response of a clock makes of the deferrals of a bench.
-use Rattle.std.proofs.Common.{ℕ, ◌+◌, ◌≡◌, Bool, true, false, if◌then◌else◌, nat_eq, List, Option, Some, None, length}
-use Rattle.std.proofs.Common.{map, slice_get, refl, sym, ap, ◌∙◌, arith, inl, inr}
+use Rattle.std.proofs.Common.{ℕ, ◌+◌, ◌≡◌, Bool, if◌then◌else◌, nat_eq, List, Option, Some, None, length, slice_get}
+use Rattle.std.proofs.Common.{refl, sym, ap, ◌∙◌, arith, inl, inr}
 use Rattle.std.specs.List.{find}
 use Rattle.std.specs.Option.{option_and_then, option_map, option_map_or}
-use Rattle.fsb_bridge.specs.Deferrals.{with_answer}
 use Rattle.fsb_bridge.specs.declared.deferral.Waiting.{Waiting}
 use Rattle.fsb_bridge_run.specs.DeferralSteps.{after_response, was_deferred}
 use Rattle.fsb_coherent.specs.Awaits.{responded_in, snoop_end_below}
@@ -27,7 +26,6 @@ use Rattle.fsb_timely.proofs.Interface.{snoop-tied}
 use Rattle.fsb_trace.specs.Outcome.{is_deferral, response_code_of, settled_outcome_of}
 use Rattle.fsb_trace.specs.Requests.{live_clock_of}
 use Rattle.fsb_trace.specs.declared.outcome.Outcome.{Outcome}
-use Rattle.fsb_trace.specs.declared.outcome.Outcome.TheVariants as outcomes
 use Rattle.fsb_trace.proofs.Interface.{live_clock_of-stays, snoop_end_of-clock, snoop_end_of-stays}
 use Rattle.fsb_bench_view.specs.BenchSteps.{step_answered, step_drive, step_entries, step_run, step_snooped}
 use Rattle.fsb_bench_view.specs.BusEvents.{answered_by, bus_answered}
@@ -55,15 +53,7 @@ answered_at rs o = if nat_eq rs 0 then None else option_and_then deferred_by o
 code-deferred : (e : Entry) (o : Option Outcome) → e.outcome ≡ o
     → (if nat_eq (option_map_or response_code_of o 0) 0 then None else deferred_by e) ≡ deferred_by e
 unfolding response_code_of is_some_and is_deferral
-code-deferred e None f = rw f refl
-code-deferred e (Some outcomes.Granted) f = rw f refl
-code-deferred e (Some outcomes.Handed) f = rw f refl
-code-deferred e (Some outcomes.Retried) f = rw f refl
-code-deferred e (Some outcomes.Deferred) f = rw f refl
-code-deferred e (Some outcomes.Written) f = rw f refl
-code-deferred e (Some outcomes.Replied) f = rw f refl
-code-deferred e (Some outcomes.Failed) f = rw f refl
-code-deferred e (Some outcomes.Upgraded) f = rw f refl
+code-deferred e o h1 = grind arith
 
 head-answers : (e : Entry) → answered_at (settled_code e) (Some e) ≡ deferred_by e
 unfolding settled_code
@@ -113,29 +103,13 @@ deferred-told r s k queue e grows h f at responds =
 after-quiet : (s : Run) (n : ℕ) (list : List Waiting) → responded_in (past_of s) n ≡ None
     → after_response s n list ≡ list
 unfolding after_response
-after-quiet s n list none =
-    ap (λ o. elim o [
-      | None ↦ list
-      | Some q ↦ if was_deferred (past_of s) n q then map (with_answer (requests_below s.trace q) n) list else list
-    ]) none
+after-quiet s n list none = grind arith
 
 after-answer : (s : Run) (n : ℕ) (e : Entry) (bus : BusView) → responded_in (past_of s) n ≡ Some e.clock
     → was_deferred (past_of s) n e.clock ≡ is_some_and e.outcome is_deferral → e.number ≡ requests_below s.trace e.clock
     → (option_map_or (bus_answered bus n) (deferred_by e) bus).bridge.waiting ≡ after_response s n bus.bridge.waiting
 unfolding after_response
-after-answer s n e bus responds deferred number =
-    let list = bus.bridge.waiting in
-    by (is_some_and e.outcome is_deferral)
-    ∙ sym (ap (λ o. elim o [
-      | None ↦ list
-      | Some q ↦ if was_deferred (past_of s) n q then map (with_answer (requests_below s.trace q) n) list else list
-    ]) responds
-    ∙ (λ i. if deferred i then map (with_answer (sym number i) n) list else list))
-  where
-    by : (b : Bool) → (option_map_or (bus_answered bus n) (if b then Some e else None) bus).bridge.waiting
-        ≡ (if b then map (with_answer e.number n) bus.bridge.waiting else bus.bridge.waiting)
-    by true = refl
-    by false = refl
+after-answer s n e bus responds deferred number = grind arith
 
 -- the response that is driven
 answers-with : (v : BenchView) (hold : Bool) (o : Option Entry) → find (has_response v.run.trace) v.bus.queue ≡ o

@@ -1,9 +1,9 @@
 -- What a request that begins, and one that is cancelled, make of the deferrals of a bench.
-use Rattle.std.proofs.Common.{ℕ, ◌+◌, ◌<◌, ◌≡◌, ◌&&◌, Bool, true, false, Option, Some, None, List, length, refl, sym}
-use Rattle.std.proofs.Common.{ap, ◌∙◌, arith}
+use Rattle.std.proofs.Common.{ℕ, ◌+◌, ◌<◌, ◌≡◌, ◌&&◌, Bool, true, false, Option, Some, None, List, length, refl}
+use Rattle.std.proofs.Common.{arith}
 use Rattle.std.specs.Option.{option_map, option_map_or}
 use Rattle.fsb_bridge.specs.declared.deferral.Waiting.{Waiting}
-use Rattle.fsb_bridge_run.specs.DeferralSteps.{after_cancellation, after_reply, reply_at, reply_begun}
+use Rattle.fsb_bridge_run.specs.DeferralSteps.{after_cancellation, after_reply, reply_begun}
 use Rattle.fsb_bridge_run.proofs.Interface.{reply-shown}
 use Rattle.fsb_coherent.specs.Awaits.{cancelled_in}
 use Rattle.fsb_count.specs.Options.{is_some_and}
@@ -19,7 +19,7 @@ use Rattle.fsb_trace.specs.At.{Trace}
 use Rattle.fsb_trace.specs.Winner.{begins_at, is_agent, is_same_agent, winner_at}
 use Rattle.fsb_trace.specs.declared.who.Who.{Who}
 use Rattle.fsb_trace.specs.declared.who.Who.TheVariants.{Symmetric, Priority}
-use Rattle.fsb_trace.proofs.Interface.{AgreeTo-sym, line_at-agree, winner_at-agree}
+use Rattle.fsb_trace.proofs.Interface.{line_at-agree, winner_at-agree}
 use Rattle.fsb_bench_view.specs.declared.beginning.Starting.{Starting}
 use Rattle.fsb_bench_view.specs.BusEvents.{bus_cancelled, bus_started, waiting_cancelled, waiting_started}
 use Rattle.fsb_bench_view.specs.BusViews.{BusView}
@@ -44,43 +44,29 @@ reply-by : (s : Run) (n : ℕ) (who : Who) (request : Request)
     → begins_at (run_to s n).trace n Priority ≡ is_same_agent Priority who
     → would_begin (run_to s n) (past_to (past_of s) n) n who ≡ Some request → reply_begun s n ≡ reply_of who request
 unfolding reply_begun is_same_agent
-reply-by s n (Symmetric agent) request begins wanted =
-    λ i. elim (begins i) [ true ↦ would_begin (run_to s n) (past_to (past_of s) n) n Priority | false ↦ None ]
-reply-by s n Priority request begins wanted =
-    (λ i. elim (begins i) [ true ↦ would_begin (run_to s n) (past_to (past_of s) n) n Priority | false ↦ None ])
-    ∙ wanted
+reply-by s n who request h1 h2 = grind arith
 
 pub reply-begun : (s : Run) (n : ℕ) (who : Who) (request : Request) → n < length s.trace → IsBegunAt s n who request
     → reply_begun s n ≡ reply_of who request
-reply-begun s n who request l k =
-    let agree = AgreeTo-sym (n + 1) s.trace (run_to s n).trace (run_to-agrees s n l) in
-    let ads = line_at-agree ADS (n + 1) (run_to s n).trace s.trace n agree (omega arith) ∙ k.begins in
-    let won = winner_at-agree (n + 1) (run_to s n).trace s.trace n agree (omega arith) ∙ k.winner in
-    reply-by s n who request (begins-by (run_to s n).trace n who ads won) k.wanted
+reply-begun s n who request l k = grind (arith, run_to-agrees, line_at-agree, winner_at-agree, reply-by, begins-by)
 
 reply-off : (s : Run) (n : ℕ) → begins_at (run_to s n).trace n Priority ≡ false → reply_begun s n ≡ None
 unfolding reply_begun
-reply-off s n begins =
-    λ i. elim (begins i) [ true ↦ would_begin (run_to s n) (past_to (past_of s) n) n Priority | false ↦ None ]
+reply-off s n begins = grind arith
 
 -- and none where nothing begins
 pub reply-none : (s : Run) (n : ℕ) → n < length s.trace → line_at ADS s.trace n ≡ false → reply_begun s n ≡ None
-reply-none s n l off =
-    let agree = AgreeTo-sym (n + 1) s.trace (run_to s n).trace (run_to-agrees s n l) in
-    let ads = line_at-agree ADS (n + 1) (run_to s n).trace s.trace n agree (omega arith) ∙ off in
-    reply-off s n (begins-off (run_to s n).trace n ads)
+reply-none s n l off = grind (arith, run_to-agrees, line_at-agree, reply-off, begins-off)
 
 started-told : (who : Who) (request : Request) (list : List Waiting)
     → waiting_started request.did who list ≡ after_reply (reply_of who request) true list
 unfolding after_reply
-started-told (Symmetric agent) request list = refl
-started-told Priority request list = refl
+started-told who request list = grind arith
 
 cancelled-told : (who : Who) (request : Request) (list : List Waiting)
     → waiting_cancelled request.did who list ≡ after_reply (reply_of who request) false list
 unfolding after_reply
-cancelled-told (Symmetric agent) request list = refl
-cancelled-told Priority request list = refl
+cancelled-told who request list = grind arith
 
 unreplied : (begun : Bool) (list : List Waiting) → after_reply None begun list ≡ list
 unfolding after_reply
@@ -90,12 +76,7 @@ unreplied begun list = refl
 pub waiting-begun : (s : Run) (n : ℕ) (bus : BusView) (o : Option Starting) → n < length s.trace
     → (o ≡ None → line_at ADS s.trace n ≡ false) → ((x : Starting) → o ≡ Some x → IsBegunAt s n x.who x.request)
     → (option_map_or (bus_started bus n) o bus).bridge.waiting ≡ after_reply (reply_begun s n) true bus.bridge.waiting
-waiting-begun s n bus None l none begun =
-    sym (ap (λ o. after_reply o true bus.bridge.waiting) (reply-none s n l (none refl))
-    ∙ unreplied true bus.bridge.waiting)
-waiting-begun s n bus (Some x) l none begun =
-    started-told x.who x.request bus.bridge.waiting
-    ∙ sym (ap (λ o. after_reply o true bus.bridge.waiting) (reply-begun s n x.who x.request l (begun x refl)))
+waiting-begun s n bus o h1 h2 h3 = grind (arith, reply-none, unreplied, started-told, reply-begun)
 
 -- and after what is cancelled
 pub waiting-cancelled : (s : Run) (n : ℕ) (bus : BusView) (o : Option Entry) → Reaches s (n + 1)
@@ -103,16 +84,4 @@ pub waiting-cancelled : (s : Run) (n : ℕ) (bus : BusView) (o : Option Entry) �
     → ((e : Entry) → o ≡ Some e → (e.clock < n) × IsBegunAt s e.clock e.who e.request)
     → (option_map_or (bus_cancelled bus) o bus).bridge.waiting ≡ after_cancellation s n bus.bridge.waiting
 unfolding after_cancellation
-waiting-cancelled s n bus None h is begun =
-    let list = bus.bridge.waiting in
-    sym (ap (λ o. elim o [ None ↦ list | Some q ↦ after_reply (reply_at s.trace q) false list ]) is)
-waiting-cancelled s n bus (Some e) h is begun =
-    let list = bus.bridge.waiting in
-    let long = h.long in
-    let b = begun e refl in
-    let low = b.0 in
-    let early : Reaches s (e.clock + 2) = record { timely = h.timely; bounds = h.bounds; long = omega arith } in
-    let reply = reply-shown s e.clock early ∙ reply-begun s e.clock e.who e.request (omega arith) b.1 in
-    cancelled-told e.who e.request list
-    ∙ sym (ap (λ o. after_reply o false list) reply)
-    ∙ sym (ap (λ o. elim o [ None ↦ list | Some q ↦ after_reply (reply_at s.trace q) false list ]) is)
+waiting-cancelled s n bus o h1 h2 h3 = grind (arith, reply-shown, reply-begun, cancelled-told)

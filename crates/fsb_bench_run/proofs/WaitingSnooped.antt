@@ -1,23 +1,21 @@
 -- What the snoop end of a clock makes of the deferrals of a bench.
 use Rattle.std.proofs.Common.{ℕ, ◌+◌, ◌<◌, ◌≡◌, Bool, true, false, Some, None, List, [], ◌∷◌, ◌++◌, length}
 use Rattle.std.proofs.Common.{if◌then◌else◌, refl, sym, ap, subst, ◌∙◌, arith, inl, inr}
-use Rattle.std.specs.List.{slice_get}
 use Rattle.std.specs.Option.{option_map_or}
 use Rattle.fsb_access.specs.declared.log.Done.{Done}
-use Rattle.fsb_bridge.specs.Deferrals.{deferral_of_id, new_waiting, waiting_without}
+use Rattle.fsb_bridge.specs.Deferrals.{new_waiting, waiting_without}
 use Rattle.fsb_bridge.specs.declared.deferral.Waiting.{Waiting}
 use Rattle.fsb_bridge_run.specs.DeferralSteps.{after_snoop_end, after_snoop_end_of, deferral_made}
 use Rattle.fsb_count.proofs.Interface.{count_where-same}
 use Rattle.fsb_encode.specs.declared.request.Kind.{Kind}
-use Rattle.fsb_encode.specs.declared.request.Kind.TheVariants.{Reply, Invalidate, Read, WriteBack, Upgrade}
 use Rattle.fsb_encode.specs.declared.request.Request.{Request}
 use Rattle.fsb_hazard.specs.declared.choice.Choice.{Choice}
 use Rattle.fsb_hazard.specs.declared.choice.Turn.{Turn}
-use Rattle.fsb_hazard.specs.declared.choice.Turn.TheVariants.{Keep, Retry, Defer}
+use Rattle.fsb_hazard.specs.declared.choice.Turn.TheVariants.{Defer}
 use Rattle.fsb_phase_run.proofs.Interface.{agree-grown}
 use Rattle.fsb_queue.specs.declared.entry.Entry.{Entry}
 use Rattle.fsb_run_laws.specs.Reaches.{Reaches}
-use Rattle.fsb_signal.specs.declared.lines.TheConstants.Lines.{ADS, HIT}
+use Rattle.fsb_signal.specs.declared.lines.TheConstants.Lines.{HIT}
 use Rattle.fsb_signal.specs.Samples.{line_at}
 use Rattle.fsb_timely.specs.Grants.{snooped_at}
 use Rattle.fsb_timely.specs.Growth.{GrowsTo}
@@ -33,9 +31,8 @@ use Rattle.fsb_trace.specs.declared.who.Who.TheVariants.{Symmetric, Priority}
 use Rattle.fsb_trace.proofs.Interface.{line_at-agree}
 use Rattle.fsb_bench_view.specs.declared.snoop.SnoopSettled.{SnoopSettled}
 use Rattle.fsb_bench_view.specs.BenchSteps.{step_cancelled, step_decided, step_performed, step_snooped}
-use Rattle.fsb_bench_view.specs.BusEvents.{bus_snooped, waiting_snooped, waiting_with}
-use Rattle.fsb_bench_view.specs.BusSnooping.{answer_besides, is_modified_answer, snoop_outcome, snooped_entry}
-use Rattle.fsb_bench_view.specs.BusSnooping.{snooped_for, snooped_reply, snooping_of}
+use Rattle.fsb_bench_view.specs.BusEvents.{bus_snooped, waiting_snooped}
+use Rattle.fsb_bench_view.specs.BusSnooping.{snoop_outcome, snooped_entry, snooping_of}
 use Rattle.fsb_bench_view.specs.BusViews.{BenchView, BusView, next_clock_of}
 use Rattle.fsb_bench_run.specs.BenchOf.{IsBegunAt}
 use Rattle.fsb_bench_run.proofs.RunWith.{run_with}
@@ -43,7 +40,6 @@ use Rattle.fsb_bench_run.proofs.SnoopCases.{SnoopsHere, snoop-cases}
 use Rattle.fsb_bench_run.proofs.SnoopEntry.{held-here}
 use Rattle.fsb_bench_run.proofs.SnoopHeard.{IsSnoopHeard, hears-snoop}
 use Rattle.fsb_bench_run.proofs.SnoopResult.{begun-reply-kind, claimed-by}
-use Rattle.fsb_bench_run.proofs.StartingNow.{and-some, mapped-some}
 use Rattle.fsb_bench_run.proofs.StepWith.{IsStepWith}
 
 -- the deferrals after a snoop end, by the kind of its request, its outcome and its turn
@@ -60,20 +56,12 @@ later-there later = omega arith
 by-kind : (x : SnoopSettled) (list : List Waiting) (kind : Kind) (request : Request) → request.kind ≡ kind
     → is_reply_kind kind ≡ false → waiting_snooped x (outcome_by_kind (Some request)) list ≡ list
 unfolding outcome_by_kind is_reply_kind
-by-kind x list Reply request e f = absurd (let no : ⊥ = cc in no)
-by-kind x list Invalidate request e f = rw (e, outcome_by_kind) refl
-by-kind x list Read request e f = rw (e, outcome_by_kind) refl
-by-kind x list WriteBack request e f = rw (e, outcome_by_kind) refl
-by-kind x list Upgrade request e f = rw (e, outcome_by_kind) refl
+by-kind x list kind request h1 h2 = grind arith
 
 not-deferred : (kind : Kind) (request : Request) → request.kind ≡ kind
     → is_deferral (outcome_by_kind (Some request)) ≡ false
 unfolding outcome_by_kind is_deferral
-not-deferred Reply request e = rw (e, outcome_by_kind) refl
-not-deferred Invalidate request e = rw (e, outcome_by_kind) refl
-not-deferred Read request e = rw (e, outcome_by_kind) refl
-not-deferred WriteBack request e = rw (e, outcome_by_kind) refl
-not-deferred Upgrade request e = rw (e, outcome_by_kind) refl
+not-deferred kind request h1 = grind arith
 
 -- what the snoop end of an agent's request makes of them
 plain-by : (x : SnoopSettled) (list : List Waiting) (request : Request) (handed : Bool) (turn : Turn) → x.turn ≡ turn
@@ -82,16 +70,7 @@ plain-by : (x : SnoopSettled) (list : List Waiting) (request : Request) (handed 
     ≡ (if is_deferral (snoop_outcome handed turn request)
     then list ++ new_waiting x.entry.number x.entry.request x.hit (later_of (number_of_turn turn)) ∷ [] else list)
 unfolding is_deferral
-plain-by x list request true turn e plain = refl
-plain-by x list request false Keep e plain =
-    by-kind x list request.kind request refl plain
-    ∙ sym (ap (λ b. if b
-    then list ++ new_waiting x.entry.number x.entry.request x.hit (later_of (number_of_turn Keep)) ∷ [] else list)
-    (not-deferred request.kind request refl))
-plain-by x list request false Retry e plain = refl
-plain-by x list request false (Defer later) e plain =
-    ap (λ t. waiting_with x t list) e
-    ∙ ap (λ k. list ++ new_waiting x.entry.number x.entry.request x.hit k ∷ []) (later-there later)
+plain-by x list request handed turn h1 h2 = grind (arith, by-kind, not-deferred, later-there)
 
 -- the snoop end that is decided of an entry, and what it makes of the deferrals
 pub record IsToldOf (x : SnoopSettled) (y : Entry) (list : List Waiting) : Type 0 where
@@ -100,29 +79,11 @@ pub record IsToldOf (x : SnoopSettled) (y : Entry) (list : List Waiting) : Type 
 
 told-own : (bus : BusView) (agent : ℕ) (y : Entry) (list : List Waiting) → is_reply_kind y.request.kind ≡ false
     → IsToldOf (snooping_of bus agent y) y list
-told-own bus agent y list plain =
-    let x = snooping_of bus agent y in
-    record {
-      entry = refl;
-      told = plain-by x list y.request
-          (is_modified_answer (answer_besides agent y.request.line 0 bus.agents)) x.turn refl plain
-          ∙ sym (ap (λ b. if b then waiting_without y.request.did list
-          else (if is_deferral x.outcome
-          then list ++ new_waiting y.number y.request x.hit (later_of (number_of_turn x.turn)) ∷ [] else list)) plain);
-    }
+told-own bus agent y list plain = grind (arith, plain-by)
 
 told-reply : (bus : BusView) (y : Entry) (x : SnoopSettled) (list : List Waiting) → is_reply_kind y.request.kind ≡ true
     → snooped_entry bus y Priority ≡ Some x → IsToldOf x y list
-told-reply bus y x list reply e =
-    let d = and-some (snooped_for bus y) (deferral_of_id y.request.did bus.bridge.waiting) x e in
-    let b = mapped-some (snooped_reply y d.0) (slice_get bus.started d.0.number) x d.2 in
-    let z = snooped_reply y d.0 b.0 in
-    subst (λ x. IsToldOf x y list) b.2 (record {
-      entry = refl;
-      told = sym (ap (λ b. if b then waiting_without y.request.did list
-          else (if is_deferral z.outcome
-          then list ++ new_waiting y.number y.request z.hit (later_of (number_of_turn z.turn)) ∷ [] else list)) reply);
-    })
+told-reply bus y x list reply e = grind arith
 
 pub told-of : (v : BenchView) (hold : Bool) (choice : Choice) (entries : List Done) → IsStepWith v hold choice entries
     → (c : SnoopsHere v hold choice entries) (x : SnoopSettled) (list : List Waiting) (who : Who)
@@ -146,43 +107,25 @@ told-of v hold choice entries k c x list Priority e is =
 pub number-stays : (r s : Run) (q : ℕ) → GrowsTo r s → q < length r.trace
     → requests_below r.trace q ≡ requests_below s.trace q
 unfolding requests_below
-number-stays r s q grows l =
-    count_where-same (line_at ADS r.trace) (line_at ADS s.trace) q
-    (record {
-      same = λ t low. line_at-agree ADS (length r.trace) r.trace s.trace t (agree-grown r s grows)
-          (omega arith);
-    })
+number-stays r s q grows l = grind (arith, count_where-same, line_at-agree, agree-grown)
 
 -- what the run makes of them at this snoop end
 run-by : (w : Trace) (n : ℕ) (end : SnoopEnd) (x : SnoopSettled) (list : List Waiting) → end.outcome ≡ x.outcome
     → end.turn ≡ x.turn → line_at HIT w n ≡ x.hit → x.entry.number ≡ requests_below w end.first
     → waiting_by x list ≡ after_snoop_end_of w n end x.entry.request list
 unfolding after_snoop_end_of deferral_made
-run-by w n end x list outcome turn hit number =
-    λ i. if is_reply_kind x.entry.request.kind then waiting_without x.entry.request.did list
-    else (if is_deferral (sym outcome i)
-    then list ++ new_waiting (number i) x.entry.request (sym hit i) (later_of (number_of_turn (sym turn i))) ∷ []
-    else list)
+run-by w n end x list outcome turn hit number = grind arith
 
 after-some : (s : Run) (n : ℕ) (end : SnoopEnd) (request : Request) (list : List Waiting)
     → snooped_at (past_of s) n ≡ Some end
     → request_at s.trace end.first ≡ Some request
     → after_snoop_end s n list ≡ after_snoop_end_of s.trace n end request list
 unfolding after_snoop_end
-after-some s n end request list there decoded =
-    ap (λ o. elim o [
-      | None ↦ list
-      | Some x ↦ elim (request_at s.trace x.first) [ None ↦ list | Some q ↦ after_snoop_end_of s.trace n x q list ]
-    ]) there
-    ∙ ap (λ o. elim o [ None ↦ list | Some q ↦ after_snoop_end_of s.trace n end q list ]) decoded
+after-some s n end request list there decoded = grind arith
 
 after-none : (s : Run) (n : ℕ) (list : List Waiting) → snooped_at (past_of s) n ≡ None → after_snoop_end s n list ≡ list
 unfolding after_snoop_end
-after-none s n list quiet =
-    ap (λ o. elim o [
-      | None ↦ list
-      | Some x ↦ elim (request_at s.trace x.first) [ None ↦ list | Some q ↦ after_snoop_end_of s.trace n x q list ]
-    ]) quiet
+after-none s n list quiet = grind arith
 
 -- the deferrals after the snoop end of the clock
 pub waiting-snooped : (v : BenchView) (hold : Bool) (choice : Choice) (entries : List Done)

@@ -1,9 +1,8 @@
 -- Who wins the bus two clocks after nothing began has something to begin: it asked two clocks before, and still
 -- wants it.
-use Rattle.std.proofs.Common.{ℕ, ◌+◌, ◌-◌, ◌%◌, ◌<◌, ◌≤◌, ◌≡◌, ◌&&◌, ◌||◌, Bool, true, false, not, List, [], Option}
-use Rattle.std.proofs.Common.{Some, None, is_some, if◌then◌else◌, length, nat_eq, nat_le, nat_lt, refl, sym, ap, subst}
-use Rattle.std.proofs.Common.{◌∙◌, arith}
-use Rattle.std.specs.List.{find, list_any}
+use Rattle.std.proofs.Common.{ℕ, ◌+◌, ◌-◌, ◌<◌, ◌≤◌, ◌≡◌, ◌&&◌, ◌||◌, Bool, true, false, not, List, [], Option, Some}
+use Rattle.std.proofs.Common.{None, is_some, length, nat_le, nat_lt, refl, sym, ap, subst, ◌∙◌, arith}
+use Rattle.std.specs.List.{find}
 use Rattle.std.specs.Option.{option_map}
 use Rattle.std.proofs.lemmas.Bool.{and_parts, ltb-false}
 use Rattle.fsb_count.specs.Clocks.{each_where, first_where}
@@ -19,7 +18,7 @@ use Rattle.fsb_timely.specs.Starts.{asks_for_bus, asks_for_priority, began_befor
 use Rattle.fsb_timely.specs.Starts.{reply_before}
 use Rattle.fsb_timely.specs.Staying.{OwesNoMore}
 use Rattle.fsb_timely.specs.Timely.{Timely, holds_at, holds_in}
-use Rattle.fsb_timely.specs.Wants.{is_asked_for, is_missing, is_same_set, is_set_taken, owed, want_for, want_of}
+use Rattle.fsb_timely.specs.Wants.{is_asked_for, is_missing, is_same_set, is_set_taken, owed, want_of}
 use Rattle.fsb_timely.specs.Grants.{set_of}
 use Rattle.fsb_timely.proofs.Interface.{below_le, done_below, going-alike, is_idling-alike, is_met-alike, owed-same}
 use Rattle.fsb_timely.proofs.Interface.{past-begins, run_to-agrees, timely-want-stays, want_of-alike, window-alike}
@@ -35,13 +34,7 @@ use Rattle.fsb_trace.proofs.Interface.{line_at-agree}
 last-asks : (w : Trace) (d : ℕ) (o : Option Who) (who : Who) → last_if_asking w d o ≡ Some who
     → line_at (request_line_of who) w d ≡ true
 unfolding last_if_asking
-last-asks w d None who e = absurd (let no : ⊥ = cc in no)
-last-asks w d (Some x) who e = by (line_at (request_line_of x) w d) refl e
-  where
-    by : (b : Bool) → line_at (request_line_of x) w d ≡ b → (if b then Some x else None) ≡ Some who
-        → line_at (request_line_of who) w d ≡ true
-    by true f e = let same : x ≡ who = cc in ap (λ y. line_at (request_line_of y) w d) (sym same) ∙ f
-    by false f e = absurd (let no : ⊥ = cc in no)
+last-asks w d o who h1 = grind arith
 
 first-asks : (w : Trace) (d first : ℕ) (who : Who) → option_map Symmetric (first_asking w d first) ≡ Some who
     → line_at (request_line_of who) w d ≡ true
@@ -88,8 +81,7 @@ winner-asks w c who e = by (nat_lt c 2) refl e
     by false f e = (ltb-false c 2 f, winner-asks-by w (c - 2) (requesters_before w c) who e)
 
 asked-by : (a b : Bool) → (a && not b) ≡ true → a ≡ true
-asked-by true b e = refl
-asked-by false b e = absurd (let no : ⊥ = cc in no)
+asked-by a b h1 = grind arith
 
 -- who asks for the bus wants something
 asks-wants : (r : Run) (c a : ℕ) → Timely r → c < length r.trace → a < 4 → line_at (bus_request_of a) r.trace c ≡ true
@@ -117,8 +109,7 @@ asks-due r c h l e =
     (sym told ∙ sym (line_at-agree BPRI (c + 1) r.trace u.trace c (run_to-agrees r c l) (omega arith)) ∙ e)
 
 some-is : {A : Type 0} (o : Option A) → is_some o ≡ true → (x : A) × (o ≡ Some x)
-some-is None e = absurd (let no : ⊥ = cc in no)
-some-is (Some x) e = (x, refl)
+some-is o h1 = grind arith
 
 none-begins : (r : Run) (c : ℕ) (who : Who) → c < length r.trace → line_at ADS r.trace c ≡ false
     → begins_at (run_to r c).trace c who ≡ false
@@ -144,8 +135,7 @@ want-last r a c h l off some =
     ap (λ o. is_some o) (timely-want-stays r a c want.0 h l owes want.1).1
 
 some-mapped : {A B : Type 0} (f : A → B) (o : Option A) → is_some (option_map f o) ≡ is_some o
-some-mapped f None = refl
-some-mapped f (Some x) = refl
+some-mapped f o = grind arith
 
 -- whether an agent wants something, by what it misses
 abbrev misses_with : Past → ℕ → ℕ → List Owing → Bool
@@ -157,29 +147,12 @@ misses_with p a c owings =
 
 wants-missing : (p : Past) (a c : ℕ) → is_some (want_of p a c) ≡ misses_with p a c (owed p a c)
 unfolding want_of
-wants-missing p a c = by (is_idling p a c || nat_le p.plan.ahead (length (owed p a c)))
-  where
-    by : (b : Bool) → is_some (elim b [
-      | true ↦ None
-      | false ↦ option_map (want_for p a c (owed p a c))
-          (find (is_missing p a c (owed p a c)) (needs_from [] (window p a c)))
-    ])
-        ≡ (elim b [
-          | true ↦ false
-          | false ↦
-              is_some (find (is_missing p a c (owed p a c)) (needs_from [] (window p a c)))
-        ])
-    by true = refl
-    by false = some-mapped (want_for p a c (owed p a c))
-        (find (is_missing p a c (owed p a c)) (needs_from [] (window p a c)))
+wants-missing p a c = grind arith
 
 taken-alike : (n : ℕ) (p q : Past) (owings : List Owing) (lines : List ℕ) (line : ℕ) → GoesOn n p q
     → is_set_taken p owings lines line ≡ is_set_taken q owings lines line
 unfolding is_set_taken is_same_set set_of
-taken-alike n p q owings lines line h =
-    let plan = h.same_plan in
-    λ i. list_any (λ (owing : Owing). nat_eq (line % (plan i).cache) (owing.claim.line % (plan i).cache)) owings
-    || list_any (λ other. nat_eq (line % (plan i).cache) (other % (plan i).cache)) lines
+taken-alike n p q owings lines line h = grind arith
 
 missing-alike : (n : ℕ) (p q : Past) (a : ℕ) (owings : List Owing) (need : Need) → GoesOn n p q
     → is_missing p a n owings need ≡ is_missing q a n owings need

@@ -1,10 +1,7 @@
 -- The words that a bench has for its next clock come from lawful requests.
-use Rattle.std.proofs.Common.{ℕ, ◌^◌, ◌<◌, ◌≡◌, ◌&&◌, Bool, true, not, Some, nat_eq, nat_lt, slice_get, sym, ap, ◌∙◌}
-use Rattle.std.proofs.Common.{arith}
-use Rattle.std.proofs.lemmas.Bool.{and_parts, eqb-true, ltb-true}
+use Rattle.std.proofs.Common.{ℕ, ◌<◌, ◌≡◌, Bool, true, Some, slice_get, sym, ap, ◌∙◌, arith}
 use Rattle.std.proofs.lemmas.Option.{slice_get_within}
 use Rattle.fsb_encode.specs.declared.request.Kind.{Kind}
-use Rattle.fsb_encode.specs.declared.request.Kind.TheVariants.{Invalidate, Read, Reply, Upgrade, WriteBack}
 use Rattle.fsb_encode.specs.declared.request.Request.{Request}
 use Rattle.fsb_encode.specs.Request.{are_lawful_fields, is_lawful_request}
 use Rattle.fsb_lawful.proofs.Interface.{get-there}
@@ -21,25 +18,11 @@ use Rattle.fsb_bench_run.proofs.SameBus.{same-performed}
 -- the chunk of a lawful request has two bits
 fields-chunk : (kind : Kind) (line chunk : ℕ) (den : Bool) → are_lawful_fields kind line chunk den ≡ true → chunk < 4
 unfolding are_lawful_fields
-fields-chunk Reply line chunk den e =
-    let none = eqb-true chunk 0 (and_parts (nat_eq line 0) (nat_eq chunk 0)
-    (and_parts (nat_eq line 0 && nat_eq chunk 0) (not den) e).0).1 in
-    omega arith
-fields-chunk Invalidate line chunk den e = ltb-true chunk 4 (and_parts (nat_lt line (2 ^ 31)) (nat_lt chunk 4) e).1
-fields-chunk Read line chunk den e = ltb-true chunk 4 (and_parts (nat_lt line (2 ^ 31)) (nat_lt chunk 4) e).1
-fields-chunk WriteBack line chunk den e =
-    let none = eqb-true chunk 0 (and_parts (nat_lt line (2 ^ 31)) (nat_eq chunk 0)
-    (and_parts (nat_lt line (2 ^ 31) && nat_eq chunk 0) (not den) e).0).1 in
-    omega arith
-fields-chunk Upgrade line chunk den e =
-    ltb-true chunk 4 (and_parts (nat_lt line (2 ^ 31)) (nat_lt chunk 4)
-    (and_parts (nat_lt line (2 ^ 31) && nat_lt chunk 4) (not den) e).0).1
+fields-chunk kind line chunk den h1 = grind arith
 
 lawful-chunk : (request : Request) → is_lawful_request request ≡ true → request.chunk < 4
 unfolding is_lawful_request
-lawful-chunk request e =
-    fields-chunk request.kind request.line request.chunk request.den
-    (and_parts (are_lawful_fields request.kind request.line request.chunk request.den) (nat_lt request.did (2 ^ 8)) e).0
+lawful-chunk request e = grind (arith, fields-chunk)
 
 -- what is served first has begun
 served-lawful : (v : BenchView) (served : Served) → IsBenchOf v → slice_get v.bus.served 0 ≡ Some served

@@ -1,7 +1,7 @@
 -- The agents of a bench from the hits of its clock to what ends there: each has its lines from before, as far as
 -- they have come.
-use Rattle.std.proofs.Common.{ℕ, ◌+◌, ◌≡◌, ◌||◌, Bool, true, false, Option, Some, None, List, [], ◌∷◌, fold}
-use Rattle.std.proofs.Common.{if◌then◌else◌, sym, ap, subst, ◌∙◌, arith}
+use Rattle.std.proofs.Common.{ℕ, ◌+◌, ◌≡◌, ◌||◌, Bool, Option, Some, None, List, [], ◌∷◌, fold, if◌then◌else◌, sym}
+use Rattle.std.proofs.Common.{ap, subst, ◌∙◌, arith}
 use Rattle.std.specs.Prelude.{◌==◌}
 use Rattle.std.specs.List.{slice_get}
 use Rattle.std.specs.Option.{option_map_or}
@@ -69,8 +69,7 @@ told-lowered events agents leads = record {
 -- an event of one agent alone
 for-one : (event : AgentEvent) (b : Bool) (w : AgentView) → IsLowered w (agent_after w event)
     → IsLowered w (fold agent_after w (if b then event ∷ [] else []))
-for-one event true w k = k
-for-one event false w k = lowered-same w
+for-one event b w h1 = grind arith
 
 -- what is handed on
 fetched : (bus : BusView) (o : Option BytesFrom) → AreLowered bus.agents (bus_fetched bus o).agents

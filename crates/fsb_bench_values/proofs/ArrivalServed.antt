@@ -1,7 +1,7 @@
 -- An agent whose line comes with the bytes of the one byte memory: what that completes is served, and the agent has
 -- the bytes of the one byte memory behind it.
 use Rattle.std.proofs.Common.{ℕ, ◌<◌, ◌%◌, ◌≡◌, ◌≢◌, Bool, true, false, ◌&&◌, ◌||◌, not, List, [], length}
-use Rattle.std.proofs.Common.{if◌then◌else◌, refl, sym, ap, subst, ◌∙◌, ⊎_elim}
+use Rattle.std.proofs.Common.{if◌then◌else◌, refl, sym, ap, subst, ◌∙◌, ⊎_elim, arith}
 use Rattle.std.specs.Prelude.{◌==◌, is_none}
 use Rattle.std.specs.List.{list_all}
 use Rattle.std.specs.Option.{option_map_or}
@@ -26,10 +26,10 @@ use Rattle.fsb_agent_view.specs.AgentViews.{next_item_by}
 use Rattle.fsb_agent_view.specs.Arriving.{are_met_with, arrived_for, is_arrival_by, landed, met_by, met_entries}
 use Rattle.fsb_agent_view.specs.Arriving.{with_bytes}
 use Rattle.fsb_agent_view.specs.Completing.{completed_by, completed_entries, hand_of, next_steps}
-use Rattle.fsb_agent_view.specs.Serving.{hand_after_steps}
 use Rattle.fsb_agent_view.specs.Snooping.{kind_asks}
 use Rattle.fsb_bench_values.proofs.HandServed.{AreServed, IsServedTo, Serves, hand-served, is_served_on}
-use Rattle.fsb_bench_values.proofs.ItemsServed.{IsAgentAt, alone_by, item-next, next-steps-are, served-ready, steps-on}
+use Rattle.fsb_bench_values.proofs.ItemsServed.{IsAgentAt, alone_by, item-next, next-steps-are, served-ready}
+use Rattle.fsb_bench_values.proofs.ItemsServed.{steps-on}
 use Rattle.fsb_bench_values.proofs.NeedsMet.{is_met_on, needs-met}
 use Rattle.fsb_bench_values.proofs.SetCopies.{WasHeld, filled-apart, filled-bytes, filled-other, filled-some}
 use Rattle.fsb_bench_values.proofs.SetCopies.{filled-state, lowers-without}
@@ -238,11 +238,8 @@ arrival-made state a clock w out bytes number lawful k some now e =
     ap (list_all (λ (step : Step). is_served_on ready alone step.access)) steps ∙ on in
     let serves = there-serves state a w line bytes k some now in
     let h = hand-served ready alone w.number clock (hand_of there) state (next_steps there)
-    (subst (λ b. Serves ready b (hand_of there) state) (sym number) serves) all in (
-      h.0,
-      subst (λ b. IsServedTo ready alone b (hand_of there) (hand_after_steps (hand_of there) (next_steps there)) state
-          (replay state (completed_entries there clock))) number h.1,
-    )
+    (subst (λ b. Serves ready b (hand_of there) state) (sym number) serves) all in
+    grind arith
 
 pub arrival-served : (state : ReplayState) (a clock : ℕ) (w : AgentView) (out : OwnRequest) (bytes : List ℕ)
     → w.number ≡ a → list_all (is_lawful_item (length w.lines)) w.items ≡ true → IsAgentAt state a w
@@ -255,10 +252,8 @@ arrival-served state a clock w out bytes number lawful k some now = by (is_arriv
 
     by : (b : Bool) → is_arrival_by w clock out ≡ b → ArrivalServed state a clock w out bytes
     by false e =
-        let none : met_entries w clock out bytes ≡ [] =
-        (λ i. elim (e i) [ true ↦ completed_entries there clock | false ↦ [] ]) in
-        let is : met_by w clock out bytes ≡ there =
-        (λ i. elim (e i) [ true ↦ completed_by there clock | false ↦ there ]) in
+        let none : met_entries w clock out bytes ≡ [] = grind arith in
+        let is : met_by w clock out bytes ≡ there = grind arith in
         record {
           served = subst (AreServed state) (sym none) refl;
           arrives = subst (λ es. ArrivesTo state (replay state es) a clock w out bytes) (sym none)
@@ -272,10 +267,8 @@ arrival-served state a clock w out bytes number lawful k some now = by (is_arriv
         }
     by true e =
         let h = arrival-made state a clock w out bytes number lawful k some now e in
-        let some_entries : met_entries w clock out bytes ≡ completed_entries there clock =
-        (λ i. elim (e i) [ true ↦ completed_entries there clock | false ↦ [] ]) in
-        let is : met_by w clock out bytes ≡ completed_by there clock =
-        (λ i. elim (e i) [ true ↦ completed_by there clock | false ↦ there ]) in
+        let some_entries : met_entries w clock out bytes ≡ completed_entries there clock = grind arith in
+        let is : met_by w clock out bytes ≡ completed_by there clock = grind arith in
         record {
           served = subst (AreServed state) (sym some_entries) h.0;
           arrives = subst (λ es. ArrivesTo state (replay state es) a clock w out bytes) (sym some_entries)

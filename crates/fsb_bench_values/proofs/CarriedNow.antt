@@ -1,6 +1,6 @@
 -- At each clock of a bench the data lines have the chunk that is due.
-use Rattle.std.proofs.Common.{ℕ, ◌<◌, ◌≡◌, Bool, true, false, List, Option, Some, None, length, nat_eq, slice_index}
-use Rattle.std.proofs.Common.{refl, sym, ap, ◌∙◌, inl, inr, arith}
+use Rattle.std.proofs.Common.{ℕ, ◌<◌, ◌≡◌, Bool, true, false, List, Some, length, nat_eq, slice_index, refl, sym, ap}
+use Rattle.std.proofs.Common.{◌∙◌, inl, inr, arith}
 use Rattle.std.specs.List.{slice_get}
 use Rattle.std.specs.Option.{option_map_or}
 use Rattle.std.proofs.lemmas.Bool.{cases_lt, eq-eqb, or_left, or_right}
@@ -11,9 +11,7 @@ use Rattle.fsb_bench_run.proofs.Interface.{run_with, timely-now}
 use Rattle.fsb_bench_view.specs.BenchSteps.{step_drive, step_entries, step_fetched, step_performed, step_run}
 use Rattle.fsb_bench_view.specs.BenchSteps.{step_sample}
 use Rattle.fsb_bench_view.specs.BusViews.{BenchView, BusView, next_clock_of}
-use Rattle.fsb_bench_view.specs.BytesFetched.{bus_fetched, bytes_source, chunk_in, chunk_moved, data_driven}
-use Rattle.fsb_bench_view.specs.declared.decided.BytesFrom.{BytesFrom}
-use Rattle.fsb_bench_view.specs.declared.decided.BytesFrom.TheVariants.{Memory, Agents}
+use Rattle.fsb_bench_view.specs.BytesFetched.{chunk_in, chunk_moved, data_driven}
 use Rattle.fsb_bench_view.specs.declared.snoop.Served.{Served}
 use Rattle.fsb_coherent.specs.Facts.{does_respond_on}
 use Rattle.fsb_coherent.specs.Relation.{is_moved_below}
@@ -30,10 +28,10 @@ use Rattle.fsb_phase_run.proofs.Interface.{agree-back, agree-grown, snooped-same
 use Rattle.fsb_signal.specs.Samples.{data_at, known_word}
 use Rattle.fsb_signal.specs.declared.sample.Sample.{Sample}
 use Rattle.fsb_tied.specs.RunBytes.{bytes_below, machine_line}
-use Rattle.fsb_tied.proofs.Interface.{IsMoved, answers-in-order, awaited-there, bytes-at-end, ended-number, ended-parts}
-use Rattle.fsb_tied.proofs.Interface.{moved-below-run, moved-from, moves-from, not-so, number-responded}
-use Rattle.fsb_timely.specs.Carried.{Carried, carried_value, carries_chunk, carries_data, carries_from, carries_if_due}
-use Rattle.fsb_timely.specs.Carried.{memory_below, served_request}
+use Rattle.fsb_tied.proofs.Interface.{IsMoved, answers-in-order, awaited-there, bytes-at-end, ended-number}
+use Rattle.fsb_tied.proofs.Interface.{ended-parts, moved-below-run, moved-from, moves-from, not-so, number-responded}
+use Rattle.fsb_timely.specs.Carried.{Carried, carried_value, carries_chunk, carries_data, carries_from}
+use Rattle.fsb_timely.specs.Carried.{carries_if_due, memory_below, served_request}
 use Rattle.fsb_timely.specs.Grants.{is_ended, snooped_at}
 use Rattle.fsb_timely.specs.Growth.{GrowsTo}
 use Rattle.fsb_timely.specs.Kept.{bytes_now, line_bytes}
@@ -89,8 +87,7 @@ due-bytes v hold choice i k b h x =
         let w = awaits-data r x.d.snoop end b.timely b.bounds near x.d.tied.there x.moves x.serves.reply in
         let names = x.serves.awaits w.awaited w.awaits in
         let back = response_clock_of-stays n s.trace r.trace i x.response (agree-back r s grows) less x.is_response in
-        let answer : response_clock_of r.trace x.d.number ≡ Some x.response = ap (response_clock_of r.trace) x.number
-        ∙ back in
+        let answer : response_clock_of r.trace x.d.number ≡ Some x.response = grind arith in
         let responds = number-responded r x.d.number x.response end.first less (orderly-run r b.timely)
         (record { response = answer; first = x.d.tied.first }) in
         let unended : is_ended (past_of r) n end.first ≡ false = not-so (is_ended (past_of r) n end.first) (λ ended.
@@ -158,19 +155,9 @@ data-new v hold choice entries =
     let more = one_more v.run.trace (step_sample v hold) in
     ap (λ o. (option_map_or (λ (s : Sample). s.dbus) o (known_word 0)).bits) more.last
 
--- what is fetched leaves what is served
-fetched-served : (bus : BusView) (o : Option BytesFrom) → (bus_fetched bus o).served ≡ bus.served
-fetched-served bus None = refl
-fetched-served bus (Some (Memory line)) = refl
-fetched-served bus (Some (Agents number)) = refl
-
 driven-is : (bus : BusView) (drive : Drive) (number k : ℕ) (served : Served) → drive.chunk ≡ Some (number, k)
     → slice_get bus.served 0 ≡ Some served → data_driven bus drive ≡ chunk_moved bus.moved k served
-driven-is bus drive number k served chunk first =
-    ap (λ (o : Option (ℕ × ℕ)). option_map_or (λ c. option_map_or (chunk_moved bus.moved c.1)
-    (slice_get bus.served 0) 0) o 0)
-    chunk
-    ∙ ap (λ o. option_map_or (chunk_moved bus.moved k) o 0) first
+driven-is bus drive number k served chunk first = grind arith
 
 -- the data are the chunk that is due
 value-now : (v : BenchView) (hold : Bool) (choice : Choice) (i k : ℕ) → IsBenchOf v → HasBytesOf v
@@ -180,8 +167,7 @@ value-now : (v : BenchView) (hold : Bool) (choice : Choice) (i k : ℕ) → IsBe
 unfolding carried_value
 value-now v hold choice i k b h x =
     let chunk : ℕ = slice_index (burst_order x.served.request.chunk) k in
-    let first : slice_get (step_performed v).served 0 ≡ Some x.served =
-    ap (λ xs. slice_get xs 0) (fetched-served v.bus (bytes_source v.bus (step_drive v))) ∙ x.first in
+    let first : slice_get (step_performed v).served 0 ≡ Some x.served = grind arith in
     data-new v hold choice (step_entries v hold)
     ∙ driven-is (step_performed v) (step_drive v) x.entry.number k x.served x.chunk first
     ∙ ap (λ bytes. chunk_in bytes chunk) (due-bytes v hold choice i k b h x)

@@ -1,9 +1,6 @@
 -- The chunk that a bench drives at a data clock: that of the oldest request, which the clock is due of.
-use Rattle.std.proofs.Common.{ℕ, zero, suc, ◌<◌, ◌≤◌, ◌≡◌, Bool, true, not, if◌then◌else◌, List, Some, None, is_some}
-use Rattle.std.proofs.Common.{length, refl, sym, ap, ◌∙◌, arith}
+use Rattle.std.proofs.Common.{ℕ, zero, suc, ◌<◌, ◌≤◌, ◌≡◌, Bool, true, List, Some, length, refl, sym, ap, ◌∙◌, arith}
 use Rattle.std.specs.List.{slice_get}
-use Rattle.std.specs.Option.{option_and_then, option_map}
-use Rattle.std.proofs.lemmas.Bool.{and_parts, both_ways, lt-ltb}
 use Rattle.std.proofs.lemmas.Option.{slice_get_within}
 use Rattle.fsb_bench_run.specs.BenchOf.{IsBenchOf, IsServed}
 use Rattle.fsb_bench_run.proofs.Interface.{clock-there, code-now, grows-to, head-settled, orderly-run, rank-rises}
@@ -14,14 +11,14 @@ use Rattle.fsb_bench_view.specs.declared.snoop.Served.{Served}
 use Rattle.fsb_count.specs.Options.{is_before, is_some_and}
 use Rattle.fsb_count.proofs.Interface.{nth_where-found}
 use Rattle.fsb_hazard.specs.declared.choice.Choice.{Choice}
-use Rattle.fsb_lawful.proofs.Interface.{get-there, not-true}
+use Rattle.fsb_lawful.proofs.Interface.{get-there}
 use Rattle.fsb_laws.proofs.Interface.{is_in_flight-end}
 use Rattle.fsb_phase.specs.Due.{due_chunk, is_moving, rank_of, response_to_now}
 use Rattle.fsb_phase.specs.Drive.{drive_of, numbered_chunk}
 use Rattle.fsb_phase.proofs.Interface.{find-place}
 use Rattle.fsb_phase_run.specs.Holds.{HoldsRequests}
-use Rattle.fsb_phase_run.proofs.Interface.{agree-back, chunk-way, code-shown, live-same, settled-same, shown, shown-now}
-use Rattle.fsb_phase_run.proofs.Interface.{way-entry}
+use Rattle.fsb_phase_run.proofs.Interface.{agree-back, chunk-way, code-shown, live-same, settled-same, shown}
+use Rattle.fsb_phase_run.proofs.Interface.{shown-now, way-entry}
 use Rattle.fsb_queue.specs.declared.entry.Entry.{Entry}
 use Rattle.fsb_signal.specs.Samples.{response_of}
 use Rattle.fsb_tied.proofs.Interface.{answered, ended-before}
@@ -34,7 +31,6 @@ use Rattle.fsb_timely.specs.Transfers.{has_data_at, settled_of, settles_to_move}
 use Rattle.fsb_timely.proofs.Interface.{run-ends, snoop-tied}
 use Rattle.fsb_trace.specs.Flight.{is_in_flight}
 use Rattle.fsb_trace.specs.Outcome.{does_move, response_clock_of}
-use Rattle.fsb_trace.specs.Requests.{is_live, live_number_of}
 use Rattle.fsb_trace.specs.Response.{data_clock_of, end_of}
 use Rattle.fsb_trace.specs.Timing.{chunk_from}
 use Rattle.fsb_trace.proofs.Interface.{end_of-response, end_of-stays, snoop_end_of-clock}
@@ -52,12 +48,7 @@ unfolding is_before is_some_and
 flying r queue k e end f at ended low =
     let n = length r.trace in
     let there = nth_where-found (is_in_flight r.trace n) k n e.clock (clock-there r queue k e f at) in
-    let parts = and_parts (is_live r.trace e.clock)
-    (not (is_before (end_of r.trace (live_number_of r.trace e.clock)) n))
-    (sym (is_in_flight-end r.trace e.clock there.0) ∙ there.1) in
-    both_ways (is_before (end_of r.trace (rank_of r.trace e)) n)
-    (not-true (is_before (end_of r.trace (rank_of r.trace e)) n) parts.1)
-    (ap (λ o. is_before o n) ended ∙ lt-ltb end n low)
+    grind (arith, is_in_flight-end)
 
 -- the entry whose request has responded is the first one
 answered-first : (r s : Run) (queue : List Entry) (k : ℕ) (e : Entry) (i t : ℕ) → GrowsTo r s → Timely s
@@ -69,8 +60,7 @@ answered-first r s queue (suc k) e i t grows timely f at rank response upto =
     let inside = slice_get_within queue (suc k) e at in
     let first = get-there queue 0 (omega arith) in
     let y : Entry = first.0 in
-    let less : rank_of r.trace y < rank_of r.trace e =
-    rank-rises r queue 0 (suc k) y e f (omega arith) first.1 at in
+    let less : rank_of r.trace y < rank_of r.trace e = grind (arith, rank-rises) in
     let ended = ended-before s.trace (rank_of r.trace y) i t orderly (omega (arith, rank, less)) response in
     let answer = end_of-response s.trace (rank_of r.trace y) ended.0 ended.1 in
     let early = answer.2 in
@@ -104,21 +94,14 @@ due-of : (r : Run) (e : Entry) (gap response k : ℕ) → is_moving e ≡ true �
     → response_to_now r.trace e ≡ Some response → chunk_from gap (length r.trace) response ≡ Some k
     → due_chunk r.trace e ≡ Some k
 unfolding due_chunk
-due-of r e gap response k moves same now due =
-    ap (λ b. if b then option_and_then (chunk_from e.choice.gap (length r.trace))
-    (response_to_now r.trace e) else None) moves
-    ∙ ap (option_and_then (chunk_from e.choice.gap (length r.trace))) now
-    ∙ ap (λ g. chunk_from g (length r.trace) response) same ∙ due
+due-of r e gap response k moves same now due = grind arith
 
 -- so it is driven
 driven-of : (r : Run) (queue : List Entry) (e : Entry) (k : ℕ) → slice_get queue 0 ≡ Some e → due_chunk r.trace e
     ≡ Some k
     → (drive_of r.trace queue).chunk ≡ Some (e.number, k)
 unfolding drive_of numbered_chunk
-driven-of r queue e k head due =
-    let test : Entry → Bool = λ y. is_some (due_chunk r.trace y) in
-    let found = find-place test queue 0 e head (ap is_some due) (λ j y low at. absurd (omega (arith, low))) in
-    ap (option_and_then (numbered_chunk r.trace)) found ∙ ap (option_map (λ (n : ℕ). (e.number, n))) due
+driven-of r queue e k head due = grind (arith, find-place)
 
 pub due-at : (v : BenchView) (hold : Bool) (choice : Choice) (i k : ℕ) → IsBenchOf v
     → data_clock_of (step_run v hold choice).trace i k ≡ Some (next_clock_of v) → HasDue v hold choice i k
@@ -136,18 +119,15 @@ due-at v hold choice i k b e =
     let code = code-shown r s queue grows f shows in
     let ends : run_to s n ≡ s = run-ends r s grows in
     let x = data-clock s n i k h.timely (omega (arith, size)) (ap (λ (u : Run). data_clock_of u.trace i k) ends ∙ e) in
-    let response : response_clock_of s.trace i ≡ Some x.response =
-    ap (λ (u : Run). response_clock_of u.trace i) (sym ends) ∙ x.is_response in
-    let has : has_data_at s (past_of s) n i ≡ true = ap (λ (u : Run). has_data_at u (past_of u) n i) (sym ends)
-    ∙ x.has in
+    let response : response_clock_of s.trace i ≡ Some x.response = grind arith in
+    let has : has_data_at s (past_of s) n i ≡ true = grind arith in
     let way = chunk-way r s i (response_clock_of s.trace i) refl has in
     let y = way-entry r s queue i way grows f code in
     let a = shown r s i x.response grows code response in
     let c = snoop_end_of-clock r.trace i a.snoop a.is_snoop in
     let tied = snoop-tied r i a.snoop a.is_snoop in
     let end : SnoopEnd = tied.0 in
-    let told : y.entry.outcome ≡ Some end.outcome =
-    f.flight.settled y.place y.entry y.at ∙ ap (settled_of r (past_of r)) y.rank ∙ tied.1.outcome in
+    let told : y.entry.outcome ≡ Some end.outcome = grind arith in
     let place = answered-first r s queue y.place y.entry i x.response grows h.timely f y.at y.rank response x.upto in
     let head : slice_get queue 0 ≡ Some y.entry = ap (slice_get queue) (sym place) ∙ y.at in
     let settled = head-settled queue y.entry end.outcome head told in

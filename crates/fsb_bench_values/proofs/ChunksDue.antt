@@ -1,8 +1,7 @@
 -- Which chunk a data clock of a timely run is: that which the wait of its request has due there.
-use Rattle.std.proofs.Common.{ℕ, zero, suc, ◌+◌, ◌*◌, ◌<◌, ◌≤◌, ◌≡◌, Bool, true, false, ◌&&◌, if◌then◌else◌, Option}
-use Rattle.std.proofs.Common.{Some, None, is_some, length, nat_eq, nat_le, nat_lt, refl, sym, ap, ◌∙◌, arith, inl, inr}
-use Rattle.std.specs.Option.{option_and_then}
-use Rattle.std.proofs.lemmas.Bool.{and_parts, cases_lt, eq-eqb, eqb-true, leb-true, le-leb, lt-leb, ltb-true}
+use Rattle.std.proofs.Common.{ℕ, zero, suc, ◌+◌, ◌*◌, ◌<◌, ◌≤◌, ◌≡◌, Bool, true, ◌&&◌, if◌then◌else◌, Option, Some}
+use Rattle.std.proofs.Common.{None, is_some, length, nat_eq, nat_le, nat_lt, refl, sym, ap, ◌∙◌, arith, inl, inr}
+use Rattle.std.proofs.lemmas.Bool.{and_parts, cases_lt, eq-eqb, leb-true, le-leb, ltb-true}
 use Rattle.fsb_count.specs.Options.{is_some_and}
 use Rattle.fsb_count.specs.Clocks.{count_where, from_clock, nth_where}
 use Rattle.fsb_count.proofs.Interface.{count_where-above, count_where-mono, count_where-passed, count_where-same}
@@ -20,9 +19,9 @@ use Rattle.fsb_laws.proofs.Interface.{clear_parts, has_answer, response_counted,
 use Rattle.fsb_timely.specs.Runs.{Run, past_of, run_to}
 use Rattle.fsb_timely.specs.Snoops.{live_choice}
 use Rattle.fsb_timely.specs.Timely.{Timely}
-use Rattle.fsb_timely.specs.Transfers.{has_data_at, settled_of, settles_to_move}
-use Rattle.fsb_lawful.proofs.Interface.{LastMoves, and-then, chunk-bounds, chunks-few, cuts-agree, is_chunk, last-moves}
-use Rattle.fsb_lawful.proofs.Interface.{length-cut, live_choice-same, orderly-at, told-as-settled}
+use Rattle.fsb_timely.specs.Transfers.{has_data_at, settles_to_move}
+use Rattle.fsb_lawful.proofs.Interface.{LastMoves, and-then, chunk-bounds, chunks-few, cuts-agree, is_chunk}
+use Rattle.fsb_lawful.proofs.Interface.{last-moves, length-cut, live_choice-same, orderly-at, told-as-settled}
 
 -- the clocks between the chunks of live request i
 abbrev pub wait_of : Run → ℕ → ℕ
@@ -38,21 +37,13 @@ unfolding has_data_at settles_to_move moves_data
 data-form r t i p h l e =
     let v = run_to r t in
     let told = told-as-settled r t i p h l e in
-    let choice = live_choice-same r t i told.snoop l told.is_snoop in
-    ap (λ o. is_some_and (settled_of v (past_of v) i) does_move && is_some
-    (option_and_then (chunk_from (live_choice v i).gap t) o)) e
-    ∙ ap (λ x. is_some_and (settled_of v (past_of v) i) does_move && is_some (chunk_from x.gap t p)) choice
-    ∙ ap (λ o. is_some_and o does_move && is_some (chunk_from (live_choice r i).gap t p)) (sym told.outcome)
+    grind (arith, live_choice-same)
 
 -- how many responded up to a clock
 counted : (r : Run) (u t : ℕ) → u ≤ t → t < length r.trace
     → response_count (run_to r u).trace ≡ count_where (responds_at (run_to r t).trace) (u + 1)
 unfolding response_count
-counted r u t l m =
-    let agree = cuts-agree r u t l m in
-    ap (count_where (responds_at (run_to r u).trace)) (length-cut r u (omega arith))
-    ∙ count_where-same (responds_at (run_to r u).trace) (responds_at (run_to r t).trace) (u + 1)
-    (record { same = λ d k. responds_at-agree (u + 1) (run_to r u).trace (run_to r t).trace d agree k })
+counted r u t l m = grind (arith, cuts-agree, length-cut, count_where-same, responds_at-agree)
 
 -- from its response up to before the next one a request is the one that responded last
 last-between : (r : Run) (u t j p q : ℕ) → u ≤ t → t < length r.trace
@@ -87,8 +78,7 @@ chunk-there r u t j p h l m k e low moves =
 chunk-before : (gap p u : ℕ) (test : ℕ → Bool) (b : Bool) → u < p → is_chunk gap p u ≡ b
     → from_clock p test u ≡ is_chunk gap p u
 unfolding from_clock
-chunk-before gap p u test true l e = let k = chunk-bounds gap p u e in let low = k.0 in absurd (omega arith)
-chunk-before gap p u test false l e = rw (lt-leb p u l) (sym e)
+chunk-before gap p u test b h1 h2 = grind (arith, chunk-bounds)
 
 -- what is told of a request that responded up to u is told later
 same-moves : (r : Run) (u t j p : ℕ) → Timely r → u ≤ t → t < length r.trace
@@ -147,9 +137,7 @@ chunks-below gap p n l = by n l
         → count_where (is_chunk gap p) (p + 2 * (1 + gap)) < count_where (is_chunk gap p) (p + 3 * (1 + gap))
         → count_where (is_chunk gap p) (p + 3 * (1 + gap)) ≤ 3
         → count_where (is_chunk gap p) (p + k * (1 + gap)) ≡ k
-    which zero low one two three few =
-        let start : p + 0 * (1 + gap) ≡ p = omega arith in
-        ap (count_where (is_chunk gap p)) start ∙ omega (arith, one, two, three, few)
+    which zero low one two three few = grind arith
     which (suc zero) low one two three few = omega (arith, one, two, three, few)
     which (suc (suc zero)) low one two three few = omega (arith, one, two, three, few)
     which (suc (suc (suc zero))) low one two three few = omega (arith, one, two, three, few)
@@ -171,14 +159,7 @@ chunks-below gap p n l = by n l
 due-place : (gap p t : ℕ) → is_chunk gap p t ≡ true
     → (n : ℕ) × (chunk_from gap t p ≡ Some n) × (n < 4) × (t ≡ p + n * (1 + gap))
 unfolding chunk_from
-due-place gap p t e = by (chunk_from gap t p) refl e
-  where
-    by : (o : Option ℕ) → chunk_from gap t p ≡ o → is_some o ≡ true
-        → (n : ℕ) × (chunk_from gap t p ≡ Some n) × (n < 4) × (t ≡ p + n * (1 + gap))
-    by None f some = absurd (let no : ⊥ = cc in no)
-    by (Some n) f some =
-        let k = first_where-found (λ m. nat_eq t (p + m * (1 + gap))) 4 n f in
-        (n, f, k.0, eqb-true t (p + n * (1 + gap)) k.1)
+due-place gap p t e = grind (arith, first_where-found)
 
 -- ---- a data clock
 
@@ -191,8 +172,7 @@ pub record IsDataClock (r : Run) (n i k : ℕ) : Type 0 where
   pub has : has_data_at (run_to r n) (past_of (run_to r n)) n i ≡ true
 
 if-some : (b : Bool) (o : Option ℕ) (n : ℕ) → (if b then o else None) ≡ Some n → (b ≡ true) × (o ≡ Some n)
-if-some true o n e = (refl, e)
-if-some false o n e = absurd (let no : ⊥ = cc in no)
+if-some b o n h1 = grind arith
 
 -- the request is the one that responded last
 is-last : (r : Run) (n i k p : ℕ) → Timely r → n < length r.trace → k < 4 → response_clock_of (run_to r n).trace i
@@ -221,8 +201,7 @@ is-last r n i k p h l few e moves f =
                 absurd (omega (arith, rises, under, inside, size))
             | inr all ↦
                 let three : k ≡ 3 = omega (arith, few, all) in
-                let same : Some c.0 ≡ Some n =
-                sym last ∙ ap (λ j. nth_where test j (length v)) (sym three) ∙ f in
+                let same : Some c.0 ≡ Some n = grind arith in
                 let at : c.0 ≡ n = cc in
                 absurd (omega (arith, at, under, inside, size))
           ]
@@ -254,10 +233,4 @@ data-clock r n i k h l e =
     let below = chunks-below (wait_of r i) p place.0 place.2 in
     let same : place.0 ≡ k =
     sym below ∙ ap (count_where (is_chunk (wait_of r i) p)) (sym place.3) ∙ sym came ∙ nth.2 in
-    record {
-      response = p;
-      is_response = x.1;
-      upto = upto;
-      due = place.1 ∙ ap Some same;
-      has = has;
-    }
+    grind arith

@@ -1,7 +1,7 @@
 -- The log of a bench's clock is served, and each agent has the bytes of the one byte memory behind it, where what
 -- comes with the end of the clock has the bytes of its line.
-use Rattle.std.proofs.Common.{ℕ, ◌+◌, ◌<◌, ◌≡◌, ◌≢◌, Bool, true, false, Option, Some, None, List, ◌++◌, length, is_some}
-use Rattle.std.proofs.Common.{refl, sym, ap, subst, ◌∙◌, inl, inr, ⊎_elim, arith}
+use Rattle.std.proofs.Common.{ℕ, ◌+◌, ◌<◌, ◌≡◌, ◌≢◌, Bool, true, false, Option, Some, None, List, ◌++◌, length}
+use Rattle.std.proofs.Common.{is_some, refl, sym, ap, subst, ◌∙◌, inl, inr, ⊎_elim, arith}
 use Rattle.std.specs.List.{list_all, slice_get}
 use Rattle.std.proofs.lemmas.Bool.{and_parts, both_ways, cases_eq, eq-eqb, ne_eqb}
 use Rattle.fsb_access.specs.declared.access.Setting.{Setting}
@@ -111,14 +111,7 @@ pub record EndBrings (v : BenchView) (hold : Bool) : Type 0 where
 deferred-none : (w : AgentView) (number : ℕ) (moved : List ℕ) (o : Outcome) → is_deferral o ≡ true
     → (out : OwnRequest) (bytes : List ℕ) → Comes w number moved o out bytes → ⊥
 unfolding is_deferral
-deferred-none w number moved outcomes.Granted e out bytes c = let no : ⊥ = cc in no
-deferred-none w number moved outcomes.Handed e out bytes c = let no : ⊥ = cc in no
-deferred-none w number moved outcomes.Retried e out bytes c = c
-deferred-none w number moved outcomes.Deferred e out bytes c = c
-deferred-none w number moved outcomes.Written e out bytes c = c
-deferred-none w number moved outcomes.Replied e out bytes c = let no : ⊥ = cc in no
-deferred-none w number moved outcomes.Failed e out bytes c = c
-deferred-none w number moved outcomes.Upgraded e out bytes c = let no : ⊥ = cc in no
+deferred-none w number moved o h1 out bytes h2 = grind arith
 
 -- the line that comes to an agent is one that is granted to it
 comes-granted : (s : Run) (a n number : ℕ) (moved : List ℕ) (w : AgentView) (end : SnoopEnd) (o : Outcome)

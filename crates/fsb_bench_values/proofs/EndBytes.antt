@@ -1,6 +1,6 @@
 -- The end of a bench's clock: the data that it brings are on the bus, and memory takes them where it does in the run.
 use Rattle.std.proofs.Common.{ℕ, suc, ◌+◌, ◌<◌, ◌≡◌, Bool, true, false, if◌then◌else◌, List, [], ◌∷◌, Option, Some}
-use Rattle.std.proofs.Common.{None, is_some, length, nat_eq, refl, sym, ap, ◌∙◌, inl, inr, arith}
+use Rattle.std.proofs.Common.{None, is_some, length, sym, ap, ◌∙◌, inl, inr, arith}
 use Rattle.std.specs.Prelude.{◌==◌, cond, unwrap_or}
 use Rattle.std.specs.Option.{option_map_or}
 use Rattle.std.proofs.lemmas.Bool.{both_ways, cases_Bool, cases_eq, eq-eqb, eqb-true, ne_eqb}
@@ -9,22 +9,19 @@ use Rattle.fsb_coherent.specs.Awaits.{Awaited, awaited_at, awaited_by}
 use Rattle.fsb_coherent.specs.Facts.{does_end_on, does_respond_on}
 use Rattle.fsb_coherent.specs.Relation.{is_moved_below}
 use Rattle.fsb_hazard.specs.declared.choice.Choice.{Choice}
-use Rattle.fsb_line.specs.Coherence.{Valued}
 use Rattle.fsb_line.specs.declared.link.Link.{Link}
 use Rattle.fsb_line.specs.Line.{Bytes, MemoryLine, brought}
 use Rattle.fsb_line.specs.Links.{carries, feeds_memory}
 use Rattle.fsb_tied.specs.RunBytes.{HasValues, machine_line}
-use Rattle.fsb_tied.proofs.Interface.{EndsLine, answers-in-order, awaited-there, between-data, clock-facts, end-memory}
-use Rattle.fsb_tied.proofs.Interface.{end-on, ending_link, ends-line, ends-on, line_before_end, memory-kept, moved-from}
-use Rattle.fsb_tied.proofs.Interface.{no-end-memory, no-response, not-so, puts-line, ungiven}
+use Rattle.fsb_tied.proofs.Interface.{EndsLine, answers-in-order, awaited-there, between-data, clock-facts}
+use Rattle.fsb_tied.proofs.Interface.{end-memory, end-on, ending_link, ends-line, ends-on, line_before_end}
+use Rattle.fsb_tied.proofs.Interface.{memory-kept, moved-from, no-end-memory, no-response, not-so, puts-line, ungiven}
 use Rattle.fsb_timely.specs.Grants.{ended_requests, is_end_at, snooped_at}
 use Rattle.fsb_timely.specs.Kept.{bytes_now, bytes_put}
 use Rattle.fsb_timely.specs.Past.{Past, SnoopEnd}
 use Rattle.fsb_timely.specs.Runs.{Run, past_of}
 use Rattle.fsb_trace.specs.Outcome.{does_move, does_take}
 use Rattle.fsb_trace.specs.declared.outcome.Outcome.{Outcome}
-use Rattle.fsb_trace.specs.declared.outcome.Outcome.TheVariants.{Granted, Handed, Retried, Deferred, Written, Replied}
-use Rattle.fsb_trace.specs.declared.outcome.Outcome.TheVariants.{Failed, Upgraded}
 use Rattle.fsb_bench_view.specs.declared.decided.Ending.{Ending}
 use Rattle.fsb_bench_view.specs.BenchSteps.{bench_stepped, step_answered, step_ending, step_run}
 use Rattle.fsb_bench_view.specs.BusEvents.{bus_ended, memory_ended}
@@ -70,10 +67,7 @@ same-end v hold choice line b k x =
     one-of x.end k.end (sym x.tied.there ∙ ap (snooped_at p) at ∙ k.there)
   where
     listed : (p : Past) (n q x : ℕ) → ended_requests p n ≡ q ∷ [] → is_end_at p n x ≡ true → x ≡ q
-    listed p n q x e f = elim (cases_Bool (nat_eq x q)) [
-      | inl same ↦ eqb-true x q same
-      | inr other ↦ absurd (let no : ⊥ = (let g = rw (e, other) at f in cc) in no)
-    ]
+    listed p n q x e f = grind (arith, eqb-true)
 
 -- the line to which an end brings data has them on the bus
 pub ends-moved : (v : BenchView) (hold : Bool) (choice : Choice) → IsBenchOf v → (k : EndsNow v hold choice)
@@ -107,8 +101,7 @@ moved-answered v hold choice ending b h e moves = elim (ends-cases v hold choice
   | inl k ↦
       let same = one-ending (record { served = k.served; outcome = k.end.outcome }) ending (sym k.ending ∙ e) in
       let outcome : k.end.outcome ≡ ending.outcome = ap (λ (x : Ending). x.outcome) same in
-      let served : k.served.request.line ≡ ending.served.request.line =
-      ap (λ (x : Ending). x.served.request.line) same in
+      let served : k.served.request.line ≡ ending.served.request.line = grind arith in
       let s = step_run v hold choice in
       let n = next_clock_of v in
       let size = within v hold choice b in
@@ -124,22 +117,11 @@ moved-answered v hold choice ending b h e moves = elim (ends-cases v hold choice
 -- what an end puts into memory: what it brings, if its link has a giver
 fed : (y : MemoryLine) (link : Link) (bytes before : Bytes) → is_some link.giver ≡ true → carries link ≡ true
     → y.moved ≡ Some bytes → cond (feeds_memory link) (unwrap_or (brought y link) []) before ≡ bytes
-fed y link bytes before gives carried moved =
-    ap (λ b. cond b (unwrap_or (brought y link) []) before) gives
-    ∙ ap (λ b. unwrap_or (cond b y.moved (Some (y.copy link.agent))) []) carried
-    ∙ ap (λ o. unwrap_or o []) moved
+fed y link bytes before gives carried moved = grind arith
 
 unfed : (y : MemoryLine) (link : Link) (before : Bytes) → link.giver ≡ None
     → cond (feeds_memory link) (unwrap_or (brought y link) []) before ≡ before
 unfed y link before none = ap (λ o. cond (is_some o) (unwrap_or (brought y link) []) before) none
-
--- data that are on the bus are those of the line
-moved-is : (x : MemoryLine) → Valued x → is_some x.moved ≡ true → x.moved ≡ Some x.now
-moved-is x valued there = by x.moved refl there
-  where
-    by : (o : Option Bytes) → x.moved ≡ o → is_some o ≡ true → x.moved ≡ Some x.now
-    by None e f = absurd (let no : ⊥ = cc in no)
-    by (Some bytes) e f = e ∙ ap Some (valued.carried bytes e)
 
 -- an end that puts its line into memory puts there the bytes of the line
 end-puts : (v : BenchView) (hold : Bool) (choice : Choice) (line : ℕ) → IsBenchOf v → HasBytesOf v
@@ -160,9 +142,7 @@ end-puts v hold choice line b k h x takes =
     let none = not-so (does_respond_on p line n) (λ t. both_ways (is_moved_below p line n)
     (facts.responds.unmoved t) there) in
     let tied = line-tied v hold choice line b in
-    let moved : y.moved ≡ Some before.now =
-    (between-data before p line n).moved ∙ ap (λ (z : MemoryLine). z.moved) (no-response before p line n none)
-    ∙ moved-is before tied.valued (tied.tied.moved ∙ there) in
+    let moved : y.moved ≡ Some before.now = grind (arith, between-data, no-response) in
     end-memory s line n x h l ∙ fed y (ending_link s line n x) before.now before.memory put.gives put.carried moved
     ∙ line-now v hold choice line b k
 
@@ -192,37 +172,16 @@ no-end-leaves v hold choice line b k h none =
 taken : (memory : ℕ → List ℕ) (line other : ℕ) (bytes : List ℕ) (o : Outcome) → does_take o ≡ true
     → memory_ended memory line bytes o other ≡ (if other == line then bytes else memory other)
 unfolding does_take
-taken memory line other bytes Handed e = refl
-taken memory line other bytes Written e = refl
-taken memory line other bytes Granted e = absurd (let no : ⊥ = cc in no)
-taken memory line other bytes Retried e = absurd (let no : ⊥ = cc in no)
-taken memory line other bytes Deferred e = absurd (let no : ⊥ = cc in no)
-taken memory line other bytes Replied e = absurd (let no : ⊥ = cc in no)
-taken memory line other bytes Failed e = absurd (let no : ⊥ = cc in no)
-taken memory line other bytes Upgraded e = absurd (let no : ⊥ = cc in no)
+taken memory line other bytes o h1 = grind arith
 
 untaken : (memory : ℕ → List ℕ) (line other : ℕ) (bytes : List ℕ) (o : Outcome) → does_take o ≡ false
     → memory_ended memory line bytes o other ≡ memory other
 unfolding does_take
-untaken memory line other bytes Handed e = absurd (let no : ⊥ = cc in no)
-untaken memory line other bytes Written e = absurd (let no : ⊥ = cc in no)
-untaken memory line other bytes Granted e = refl
-untaken memory line other bytes Retried e = refl
-untaken memory line other bytes Deferred e = refl
-untaken memory line other bytes Replied e = refl
-untaken memory line other bytes Failed e = refl
-untaken memory line other bytes Upgraded e = refl
+untaken memory line other bytes o h1 = grind arith
 
 takes-move : (outcome : Outcome) → does_take outcome ≡ true → does_move outcome ≡ true
 unfolding does_take does_move
-takes-move Handed e = refl
-takes-move Written e = refl
-takes-move Granted e = absurd (let no : ⊥ = cc in no)
-takes-move Retried e = absurd (let no : ⊥ = cc in no)
-takes-move Deferred e = absurd (let no : ⊥ = cc in no)
-takes-move Replied e = absurd (let no : ⊥ = cc in no)
-takes-move Failed e = absurd (let no : ⊥ = cc in no)
-takes-move Upgraded e = absurd (let no : ⊥ = cc in no)
+takes-move outcome h1 = grind arith
 
 -- with this end
 memory-by-end : (v : BenchView) (hold : Bool) (choice : Choice) (line : ℕ) → IsBenchOf v → HasBytesOf v

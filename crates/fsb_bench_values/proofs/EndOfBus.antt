@@ -4,19 +4,18 @@ use Rattle.std.proofs.Common.{ℕ, ◌+◌, ◌≡◌, ◌≢◌, Option, Some, 
 use Rattle.std.proofs.Common.{arith}
 use Rattle.std.specs.List.{slice_get}
 use Rattle.std.specs.Option.{option_map_or}
-use Rattle.std.proofs.lemmas.Bool.{cases_eq, eq-eqb, ne_eqb}
+use Rattle.std.proofs.lemmas.Bool.{cases_eq}
 use Rattle.fsb_access.specs.declared.log.Done.{Done}
 use Rattle.fsb_access.specs.Replay.{ReplayState, replay}
 use Rattle.fsb_cache.specs.Sets.{copies}
 use Rattle.fsb_timely.specs.Kept.{line_bytes}
 use Rattle.fsb_agent_view.specs.declared.want.OwnRequest.{OwnRequest}
-use Rattle.fsb_agent_view.specs.AgentEvents.{AgentEvent, agent_after}
+use Rattle.fsb_agent_view.specs.AgentEvents.{agent_after}
 use Rattle.fsb_agent_view.specs.AgentViews.{AgentView}
 use Rattle.fsb_agent_view.specs.Arriving.{met_by}
 use Rattle.fsb_bench_view.specs.declared.decided.Ending.{Ending}
-use Rattle.fsb_bench_view.specs.BusEvents.{agent_ended, bus_ended, end_entries, end_event, ended_event, entries_ended}
+use Rattle.fsb_bench_view.specs.BusEvents.{agent_ended, bus_ended, end_entries, ended_event, entries_ended}
 use Rattle.fsb_bench_view.specs.BusViews.{BusView}
-use Rattle.fsb_bench_view.specs.ToldAgents.{for_one}
 use Rattle.fsb_bench_run.proofs.Interface.{some-of, told-at}
 use Rattle.fsb_bench_values.proofs.EndServed.{BringsNow, Comes, EndsServed, IsBeside, IsReadyFor, end-served}
 use Rattle.fsb_bench_values.proofs.HandServed.{AreServed}
@@ -26,22 +25,11 @@ use Rattle.fsb_bench_values.proofs.ItemsServed.{IsAgentAt}
 ended-own : (clock : ℕ) (moved : List ℕ) (ending : Ending) (u : AgentView) (m : ℕ) → m ≡ ending.served.agent
     → fold agent_after u (ended_event clock moved ending m)
     ≡ agent_ended clock ending.served.first moved ending.outcome u
-ended-own clock moved ending u m e = by (end_event clock ending.served.first moved ending.outcome)
-  where
-    by : (o : Option AgentEvent)
-        → fold agent_after u (option_map_or (λ event. for_one ending.served.agent event m) o [])
-        ≡ option_map_or (agent_after u) o u
-    by None = refl
-    by (Some event) = rw (eq-eqb m ending.served.agent e) refl
+ended-own clock moved ending u m e = grind arith
 
 ended-other : (clock : ℕ) (moved : List ℕ) (ending : Ending) (u : AgentView) (m : ℕ) → m ≢ ending.served.agent
     → fold agent_after u (ended_event clock moved ending m) ≡ u
-ended-other clock moved ending u m other = by (end_event clock ending.served.first moved ending.outcome)
-  where
-    by : (o : Option AgentEvent)
-        → fold agent_after u (option_map_or (λ event. for_one ending.served.agent event m) o []) ≡ u
-    by None = refl
-    by (Some event) = rw (ne_eqb m ending.served.agent other) refl
+ended-other clock moved ending u m other = grind arith
 
 -- the lines that come to an agent with the end
 abbrev pub ComesWith : BusView → Ending → AgentView → OwnRequest → List ℕ → Type 0

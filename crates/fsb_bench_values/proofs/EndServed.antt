@@ -1,7 +1,7 @@
 -- The end of an agent's request, whatever its outcome: what that completes is served, and each agent has the bytes
 -- of the one byte memory behind it.
-use Rattle.std.proofs.Common.{ℕ, ◌<◌, ◌≡◌, ◌≢◌, Bool, true, false, Option, Some, None, List, [], length, refl, sym, ap}
-use Rattle.std.proofs.Common.{subst, ◌∙◌}
+use Rattle.std.proofs.Common.{ℕ, ◌<◌, ◌≡◌, ◌≢◌, Bool, true, false, Option, Some, None, List, [], length, refl, sym}
+use Rattle.std.proofs.Common.{ap, subst, ◌∙◌, arith}
 use Rattle.std.specs.List.{list_all}
 use Rattle.std.specs.Option.{option_map_or}
 use Rattle.fsb_access.specs.declared.log.Done.{Done}
@@ -57,12 +57,7 @@ pub record EndsServed (state : ReplayState) (a clock : ℕ) (comes : Coming) (w 
 nothing-served : (state : ReplayState) (a clock : ℕ) (comes : Coming) (w next : AgentView)
     → ((out : OwnRequest) (bytes : List ℕ) → comes out bytes → ⊥) → IsAgentAt state a next
     → EndsServed state a clock comes w next []
-nothing-served state a clock comes w next none k = record {
-  served = refl;
-  agent = k;
-  others = λ b u beside other h. h;
-  came = λ out bytes c. absurd (none out bytes c);
-}
+nothing-served state a clock comes w next none k = grind arith
 
 -- the line of a request comes
 met-served : (state : ReplayState) (a clock : ℕ) (comes : Coming) (w : AgentView) (out : OwnRequest) (bytes : List ℕ)

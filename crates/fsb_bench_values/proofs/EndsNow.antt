@@ -17,20 +17,17 @@ use Rattle.fsb_run_laws.specs.Reaches.{Reaches}
 use Rattle.fsb_tied.proofs.Interface.{ended-number, live-at, number-ended, orderly-whole}
 use Rattle.fsb_timely.specs.Grants.{is_end_at, snooped_at}
 use Rattle.fsb_timely.specs.Growth.{GrowsTo}
-use Rattle.fsb_timely.specs.Moments.{turns_in}
 use Rattle.fsb_timely.specs.Past.{SnoopEnd}
 use Rattle.fsb_timely.specs.Runs.{Run, past_of, requests_below}
 use Rattle.fsb_timely.specs.Tied.{IsSnoopOf}
 use Rattle.fsb_timely.proofs.Interface.{snoop-tied}
-use Rattle.fsb_trace.specs.Outcome.{settled_outcome_of}
 use Rattle.fsb_trace.specs.declared.outcome.Outcome.{Outcome}
 use Rattle.fsb_bench_view.specs.declared.beginning.Starting.{Starting}
 use Rattle.fsb_bench_view.specs.declared.snoop.Served.{Served}
 use Rattle.fsb_bench_view.specs.declared.snoop.SnoopSettled.{SnoopSettled}
-use Rattle.fsb_bench_view.specs.BenchSteps.{step_answered, step_cancelled, step_decided, step_drive, step_ending}
-use Rattle.fsb_bench_view.specs.BenchSteps.{step_performed, step_phased, step_run, step_snooped, step_started}
-use Rattle.fsb_bench_view.specs.BusEvents.{answered_by, bus_answered, bus_cancelled, bus_snooped, bus_started}
-use Rattle.fsb_bench_view.specs.BusEvents.{ending_by}
+use Rattle.fsb_bench_view.specs.BenchSteps.{step_answered, step_decided, step_ending, step_performed, step_phased}
+use Rattle.fsb_bench_view.specs.BenchSteps.{step_run, step_started}
+use Rattle.fsb_bench_view.specs.BusEvents.{bus_answered, bus_cancelled, bus_snooped, bus_started, ending_by}
 use Rattle.fsb_bench_view.specs.BusViews.{BenchView, BusView, next_clock_of}
 use Rattle.fsb_bench_view.specs.BytesFetched.{head_outcome}
 use Rattle.fsb_bench_run.specs.BenchOf.{IsBenchOf}
@@ -44,12 +41,10 @@ one-of a b e = cc
 -- what is served before an end: what was, and that of the snoop end
 started-served : (bus : BusView) (clock : ℕ) (o : Option Starting)
     → (option_map_or (bus_started bus clock) o bus).served ≡ bus.served
-started-served bus clock None = refl
-started-served bus clock (Some x) = refl
+started-served bus clock o = grind arith
 
 cancelled-served : (bus : BusView) (o : Option Entry) → (option_map_or (bus_cancelled bus) o bus).served ≡ bus.served
-cancelled-served bus None = refl
-cancelled-served bus (Some x) = refl
+cancelled-served bus o = grind arith
 
 snooped-served : (bus : BusView) (x : Served) (o : Option SnoopSettled) → slice_get bus.served 0 ≡ Some x
     → slice_get (option_map_or (bus_snooped bus) o bus).served 0 ≡ Some x
@@ -62,17 +57,14 @@ snooped-served bus x (Some y) e = by bus.served e
 
 answered-served : (bus : BusView) (clock : ℕ) (o : Option Entry)
     → (option_map_or (bus_answered bus clock) o bus).served ≡ bus.served
-answered-served bus clock None = refl
-answered-served bus clock (Some x) = refl
+answered-served bus clock o = grind arith
 
 served-answered : (v : BenchView) (hold : Bool) (x : Served) → slice_get v.bus.served 0 ≡ Some x
     → slice_get (step_answered v hold).served 0 ≡ Some x
 served-answered v hold x e =
     let before = cancelled-served (step_started v hold) (step_decided v hold).cancelled
     ∙ started-served (step_performed v) (next_clock_of v) (step_decided v hold).starting ∙ (same-performed v).served in
-    ap (λ xs. slice_get xs 0)
-    (answered-served (step_snooped v hold) (next_clock_of v) (answered_by (step_snooped v hold) (step_drive v)))
-    ∙ snooped-served (step_cancelled v hold) x (step_decided v hold).snooped (ap (λ xs. slice_get xs 0) before ∙ e)
+    grind (arith, answered-served, snooped-served)
 
 ending-there : (bus : BusView) (phased : Phased) (served : Served) (outcome : Outcome) → is_none phased.ended ≡ false
     → slice_get bus.served 0 ≡ Some served → head_outcome bus ≡ Some outcome
@@ -131,9 +123,7 @@ ends-now v hold choice e b head d some =
     let tied = snoop-tied r d.number d.snoop d.settled in
     let first = one-of tied.0.first e.clock (sym tied.1.first ∙ d.old) in
     let there = sym (snooped-same r s d.snoop grows (omega arith)) ∙ tied.1.there in
-    let told : e.outcome ≡ Some tied.0.outcome =
-    b.requests.flight.settled 0 e head ∙ ap (settled_outcome_of r.trace (turns_in (past_of r).moments)) d.rank
-    ∙ tied.1.outcome in
+    let told : e.outcome ≡ Some tied.0.outcome = grind arith in
     let place = head-settled v.bus.queue e tied.0.outcome head told in
     let low = place.1 in
     let count = b.served.count in

@@ -1,11 +1,9 @@
 -- The bytes that a bench has on the bus at a clock, behind its response: those of the line whose data move there.
-use Rattle.std.proofs.Common.{ℕ, ◌+◌, ◌<◌, ◌≤◌, ◌≡◌, Bool, true, not, ◌&&◌, if◌then◌else◌, List, Option, Some, None}
-use Rattle.std.proofs.Common.{is_some, length, nat_eq, refl, sym, ap, subst, ◌∙◌, inl, inr, arith}
-use Rattle.std.specs.Prelude.{cond}
+use Rattle.std.proofs.Common.{ℕ, ◌+◌, ◌<◌, ◌≤◌, ◌≡◌, Bool, true, if◌then◌else◌, List, Option, Some, None, is_some}
+use Rattle.std.proofs.Common.{length, nat_eq, refl, sym, ap, ◌∙◌, inl, inr, arith}
 use Rattle.std.specs.List.{slice_get}
 use Rattle.std.specs.Option.{option_and_then, option_map, option_map_or}
 use Rattle.std.proofs.lemmas.Bool.{both_ways, cases_lt, eq-eqb}
-use Rattle.fsb_count.specs.Clocks.{first_where}
 use Rattle.fsb_count.specs.Options.{is_at, is_some_and}
 use Rattle.fsb_count.proofs.Interface.{any_where-at, first_where-found}
 use Rattle.fsb_agent_run.specs.BytesOwed.{claim_given_at, gives_claim, is_given_below}
@@ -31,7 +29,6 @@ use Rattle.fsb_tied.proofs.Interface.{answers-in-order, begun-want, carries-awai
 use Rattle.fsb_tied.proofs.Interface.{first-link, link_of, moved-parts, moves-parts, unended-at-response, winner-four}
 use Rattle.fsb_tied.proofs.Interface.{written-await}
 use Rattle.fsb_timely.specs.Grants.{begun_at, is_ended, snooped_at}
-use Rattle.fsb_timely.specs.Hits.{is_dirty}
 use Rattle.fsb_timely.specs.Kept.{bytes_now}
 use Rattle.fsb_timely.specs.Past.{Claim, Grant, Past, SnoopEnd}
 use Rattle.fsb_timely.specs.Runs.{Run, past_of, past_to}
@@ -48,8 +45,9 @@ use Rattle.fsb_bench_view.specs.BusViews.{BenchView, BusView, next_clock_of}
 use Rattle.fsb_bench_view.specs.BytesFetched.{bus_fetched, bytes_source, from_for, head_outcome}
 use Rattle.fsb_bench_view.specs.ToldAgents.{bytes_owed}
 use Rattle.fsb_bench_run.specs.BenchOf.{IsBenchOf}
-use Rattle.fsb_bench_run.proofs.Interface.{IsResponding, code-now, grows-to, head-settled, reaches-step, responding-of}
-use Rattle.fsb_bench_run.proofs.Interface.{responding-settled, responds-first, sample-grown, timely-now}
+use Rattle.fsb_bench_run.proofs.Interface.{IsResponding, code-now, grows-to, head-settled, reaches-step}
+use Rattle.fsb_bench_run.proofs.Interface.{responding-of, responding-settled, responds-first, sample-grown}
+use Rattle.fsb_bench_run.proofs.Interface.{timely-now}
 use Rattle.fsb_bench_values.specs.BytesOf.{HasBytesOf}
 use Rattle.fsb_bench_values.proofs.OwedFound.{OweBytes, owed-found, push-found}
 use Rattle.fsb_bench_values.proofs.RunsValues.{begun-old, line-memory, line-now, line-tied, moved-old, within}
@@ -81,8 +79,7 @@ moved-silent r line n q h l moved responds =
         | inr equal ↦
             let at : k.at ≡ s.at = omega (arith, more, equal) in
             let one : k.end ≡ s.end = one-of k.end s.end (sym k.there ∙ ap (snooped_at p) at ∙ s.there) in
-            let same : k.response ≡ n = a.one_response k.response n s.end.first (omega arith) l
-            (k.responds ∙ ap (λ (x : SnoopEnd). Some x.first) one) answers in
+            let same : k.response ≡ n = grind arith in
             omega (arith, same, before)
       ]
     ]
@@ -98,31 +95,20 @@ gives-there : (p : Past) (t giver : ℕ) (end : SnoopEnd) (claim : Claim) → sn
     → claim_given_at p giver t ≡ Some claim
 unfolding gives_claim is_at is_some_and
 gives-there p t giver end claim there claims e =
-    let gives : gives_claim p giver t end claim ≡ true =
-    ap (λ o. is_at o giver) e ∙ eq-eqb giver giver refl in
+    let gives : gives_claim p giver t end claim ≡ true = grind arith in
     claim-given p giver t end claim there claims ∙ ap (λ b. if b then Some claim else None) gives
 
 some-owner : (p : Past) (a line t : ℕ) → is_some (owner_at p a line t) ≡ true
     → (b : ℕ) × (b < 4) × (owner_at p a line t ≡ Some b)
 unfolding owner_at
-some-owner p a line t e = by (first_where test 4) refl e
-  where
-    test : ℕ → Bool
-    test b = not (nat_eq b a) && is_dirty p b line t
-
-    by : (o : Option ℕ) → first_where test 4 ≡ o → is_some o ≡ true
-        → (b : ℕ) × (b < 4) × (first_where test 4 ≡ Some b)
-    by None f g = absurd (let no : ⊥ = cc in no)
-    by (Some b) f g = (b, (first_where-found test 4 b f).0, f)
+some-owner p a line t e = grind (arith, first_where-found)
 
 -- a request begins before its snoop end
 pub first-early : (r : Run) (t : ℕ) (end : SnoopEnd) → snooped_at (past_of r) t ≡ Some end → end.first + 4 ≤ t
 first-early r t end there =
     let tied = tied-snoop r t end there in
     let c = snoop_end_of-clock r.trace tied.0 t tied.1.reached in
-    let above = c.above in
-    let same : c.clock ≡ end.first = one-of c.clock end.first (sym c.is_clock ∙ tied.1.first) in
-    omega arith
+    grind arith
 
 giver-handed : (p : Past) (line t a : ℕ) (end : SnoopEnd) → end.outcome ≡ Handed
     → giver_at p line t a end ≡ owner_at (past_to p t) a line t
@@ -152,9 +138,7 @@ given-at r t end claim h bounds l there claims takes = by end.outcome refl
         let fits = ((clock-facts r claim.line t h bounds l).settles.settled end claim there claims refl).fits in
         let owner = some-owner (past_to (past_of r) t) fits.agent claim.line t (fits.owned e) in
         let agent : claim.agent ≡ fits.agent = (same-first (past_of r) claim.line t end claim claims fits).1 in
-        let is : giver_at (past_of r) claim.line t claim.agent end ≡ Some owner.0 =
-        giver-handed (past_of r) claim.line t claim.agent end e
-        ∙ ap (λ a. owner_at (past_to (past_of r) t) a claim.line t) agent ∙ owner.2 in
+        let is : giver_at (past_of r) claim.line t claim.agent end ≡ Some owner.0 = grind (arith, giver-handed) in
         record { giver = owner.0; few = owner.1; given = gives-there (past_of r) t owner.0 end claim there claims is }
     by Written e =
         let begun : begun_at (past_of r) end.first ≡ Some claim =
@@ -186,17 +170,7 @@ given-below p a n t claim low there =
 source-by : (bus : BusView) (drive : Drive) (served : Served) (o : Outcome) → drive.rs ≡ response_code_of o
     → slice_get bus.served 0 ≡ Some served → head_outcome bus ≡ Some o → bytes_source bus drive ≡ from_for served o
 unfolding response_code_of
-source-by bus drive served Granted code first head = rw (code, first, head) refl
-source-by bus drive served Handed code first head = rw (code, first, head) refl
-source-by bus drive served Retried code first head = rw (code, first, head) refl
-source-by bus drive served Deferred code first head = rw (code, first, head) refl
-source-by bus drive served Written code first head = rw (code, first, head) refl
-source-by bus drive served Replied code first head = rw (code, first, head) refl
-source-by bus drive served Failed code first head = rw (code, first, head) refl
-source-by bus drive served Upgraded code first head = rw (code, first, head) refl
-
-source-none : (bus : BusView) (drive : Drive) → drive.rs ≡ 0 → bytes_source bus drive ≡ None
-source-none bus drive code = rw code refl
+source-by bus drive served o h1 h2 h3 = grind arith
 
 -- the oldest request responds at the clock, and its bytes come from where its outcome says
 pub record RespondsNow (v : BenchView) (hold : Bool) (choice : Choice) (q : ℕ) : Type 0 where
@@ -280,14 +254,7 @@ silent-now v hold choice b silent =
     let grows = grows-to v hold choice b in
     let shown = ap response_of (sample-grown v hold choice (step_entries v hold) grows) ∙ code-now v hold in
     let responds = responded-now r s queue grows f (code-shown r s queue grows f shown) in
-    elim (find-cases (has_response r.trace) queue) [
-      | inr g ↦
-          let none = find-off (has_response r.trace) queue g in
-          source-none v.bus (step_drive v) (ap (λ o. option_map_or settled_code o 0) none)
-      | inl k ↦
-          let found = find-place (has_response r.trace) queue k.place k.item k.at k.passes k.before in
-          absurd (silent k.item.clock (responds ∙ ap (option_map (λ (x : Entry). x.clock)) found))
-    ]
+    grind arith
 
 -- data that were on the bus are there still
 pub moved-fetched : (v : BenchView) (hold : Bool) (choice : Choice) (line : ℕ) → IsBenchOf v → HasBytesOf v
@@ -303,8 +270,7 @@ moved-fetched v hold choice line b k moved =
 
 -- memory gives what it has where the oldest link has no giver
 from-memory : (x : MemoryLine) (link : Link) → link.giver ≡ None → source x link ≡ Some x.now → x.memory ≡ x.now
-from-memory x link none e =
-    one-of x.memory x.now (sym (ap (λ o. cond (is_some o) x.pushed (Some x.memory)) none) ∙ e)
+from-memory x link none e = grind arith
 
 -- the response of the clock puts data of this line on the bus
 record Puts (v : BenchView) (hold : Bool) (choice : Choice) (line : ℕ) : Type 0 where
@@ -419,8 +385,7 @@ responded-fetched v hold choice line b k e = by k0.now.is.end.outcome refl
         let early : end.first < n = omega (arith, above, is_first, near) in
         let want = begun-want s end.first claim timely b.bounds (omega (arith, early, l)) begun in
         let number : claim.first ≡ k0.q = want.first ∙ is_first ∙ k0.now.clock in
-        let gives : is_given_below p g.giver n k0.q ≡ true =
-        subst (λ q. is_given_below p g.giver n q ≡ true) number (given-below p g.giver n t claim near g.given) in
+        let gives : is_given_below p g.giver n k0.q ≡ true = grind (arith, given-below) in
         let few = g.few in
         let four = b.agents.four in
         let w = get-there v.bus.agents g.giver (omega (arith, few, four)) in

@@ -1,10 +1,10 @@
 -- Accesses on lines that have the bytes of the one byte memory: they find and make the same values and bytes as the
 -- replay.
-use Rattle.std.proofs.Common.{ℕ, ◌+◌, ◌*◌, ◌/◌, ◌%◌, ◌≤◌, ◌≡◌, ◌≢◌, ◌⊎◌, Bool, true, false, ◌&&◌, ◌||◌, List, [], ◌∷◌}
-use Rattle.std.proofs.Common.{map, refl, sym, ap, ◌∙◌, inl, inr, ⊎_elim, arith, if◌then◌else◌}
+use Rattle.std.proofs.Common.{ℕ, ◌+◌, ◌/◌, ◌%◌, ◌≤◌, ◌≡◌, ◌≢◌, ◌⊎◌, Bool, true, false, ◌&&◌, ◌||◌, List, [], ◌∷◌, map}
+use Rattle.std.proofs.Common.{refl, sym, ap, ◌∙◌, inl, inr, ⊎_elim, arith, if◌then◌else◌}
 use Rattle.std.specs.Prelude.{◌==◌}
 use Rattle.std.specs.List.{list_all}
-use Rattle.std.proofs.lemmas.Bool.{and_parts, cases_eq, cases_lt, eq-eqb, ne_eqb}
+use Rattle.std.proofs.lemmas.Bool.{and_parts, cases_eq, eq-eqb, ne_eqb}
 use Rattle.fsb_access.specs.Access.{accessed_line, addr_of, is_place, size_of}
 use Rattle.fsb_access.specs.ByteMemory.{ByteMemory, put_value, value_at}
 use Rattle.fsb_access.specs.declared.access.Access.{Access}
@@ -53,10 +53,7 @@ pub record IsServedTo (ready alone : ℕ → Bool) (a : ℕ) (hand next : AtHand
 line-beside : (memory : ByteMemory) (addr size value line : ℕ) → line ≢ addr / 32 → addr % 32 + size ≤ 32
     → line_bytes (put_value memory addr size value) line ≡ line_bytes memory line
 unfolding line_bytes
-line-beside memory addr size value line other within = bytes_at-beside memory addr size value (line * 32) 32 apart
-  where
-    apart : (line * 32 + 32 ≤ addr) ⊎ (addr + size ≤ line * 32)
-    apart = elim (cases_lt (addr / 32) line) [ inl below ↦ inr (omega arith) | inr above ↦ inl (omega (arith, other)) ]
+line-beside memory addr size value line other within = grind (arith, bytes_at-beside)
 
 line-loads : (memory : ByteMemory) (addr size : ℕ) → addr % 32 + size ≤ 32
     → value_in_line (line_bytes memory (addr / 32)) addr size ≡ value_at memory addr size
@@ -162,22 +159,14 @@ access-served ready alone a hand state (Store size addr value) s e =
 chained : (ready alone : ℕ → Bool) (a : ℕ) (hand next last : AtHand) (state after end : ReplayState)
     → IsServedTo ready alone a hand next state after → IsServedTo ready alone a next last after end
     → IsServedTo ready alone a hand last state end
-chained ready alone a hand next last state after end j k = record {
-  serves = k.serves;
-  others = λ b apart. k.others b apart ∙ j.others b apart;
-  beside = λ line off. k.beside line off ∙ j.beside line off;
-  lower = λ line e. j.lower line (k.lower line e);
-}
+chained ready alone a hand next last state after end j k = grind arith
 
 pub hand-served : (ready alone : ℕ → Bool) (a clock : ℕ) (hand : AtHand) (state : ReplayState) (steps : List Step)
     → Serves ready a hand state → list_all (λ (step : Step). is_served_on ready alone step.access) steps ≡ true
     → AreServed state (entries_at_hand a clock hand steps)
     × IsServedTo ready alone a hand (hand_after_steps hand steps) state
     (replay state (entries_at_hand a clock hand steps))
-hand-served ready alone a clock hand state [] s all = (
-  refl,
-  record { serves = s; others = λ b apart. refl; beside = λ line off. refl; lower = λ line e. e },
-)
+hand-served ready alone a clock hand state [] s all = grind arith
 hand-served ready alone a clock hand state (step ∷ steps) s all =
     let parts = and_parts (is_served_on ready alone step.access)
     (list_all (λ (x : Step). is_served_on ready alone x.access) steps) all in

@@ -1,9 +1,8 @@
 -- The hits of agents, one after the other, where nobody else holds what one of them holds alone: their entries are
 -- served, and each agent has the bytes of the one byte memory behind them.
-use Rattle.std.proofs.Common.{ℕ, zero, suc, ◌+◌, ◌≡◌, ◌≢◌, true, false, List, [], ◌∷◌, ◌++◌, Some, refl, sym, ap, subst}
-use Rattle.std.proofs.Common.{◌∙◌, inl, inr, arith}
+use Rattle.std.proofs.Common.{ℕ, zero, suc, ◌+◌, ◌≡◌, ◌≢◌, true, false, List, [], ◌∷◌, ◌++◌, Some, refl, sym, ap}
+use Rattle.std.proofs.Common.{subst, ◌∙◌, arith}
 use Rattle.std.specs.List.{slice_get}
-use Rattle.std.proofs.lemmas.Bool.{cases_Bool}
 use Rattle.std.proofs.lemmas.List.{map-append}
 use Rattle.fsb_access.specs.declared.log.Done.{Done}
 use Rattle.fsb_access.specs.Replay.{ReplayState, replay, served_state}
@@ -15,7 +14,8 @@ use Rattle.fsb_agent_view.specs.AgentViews.{AgentView, line_state_by}
 use Rattle.fsb_agent_view.specs.Completing.{performed, performed_entries}
 use Rattle.fsb_bench_view.specs.ToldAgents.{agents_told, for_all, hit_entries}
 use Rattle.fsb_bench_values.proofs.HandServed.{AreServed}
-use Rattle.fsb_bench_values.proofs.ItemsServed.{CompletesTo, HasLawfulItems, HitServed, IsAgentAt, alone_by, hit-served}
+use Rattle.fsb_bench_values.proofs.ItemsServed.{CompletesTo, HasLawfulItems, HitServed, IsAgentAt, alone_by}
+use Rattle.fsb_bench_values.proofs.ItemsServed.{hit-served}
 
 -- the agents, the first of which has this number, have the bytes of the state
 abbrev pub AreAgentsAt : ReplayState → ℕ → List AgentView → Type 0
@@ -45,13 +45,7 @@ pub beside-kept : (state after : ReplayState) (a b : ℕ) (w next u : AgentView)
     → CompletesTo state after a (alone_by w) w next
     → b ≢ a → ((line : ℕ) → alone_by w line ≡ true → is_held (line_state_by u line) ≡ true → ⊥)
     → IsAgentAt state b u → IsAgentAt after b u
-beside-kept state after a b w next u c other apart k = record {
-  last = k.last ∙ sym (c.others b other);
-  copies = λ line held come. k.copies line held come ∙ sym (c.beside line (off line held));
-}
-  where
-    off : (line : ℕ) → is_held (line_state_by u line) ≡ true → alone_by w line ≡ false
-    off line held = elim (cases_Bool (alone_by w line)) [ inl on ↦ absurd (apart line on held) | inr e ↦ e ]
+beside-kept state after a b w next u c other apart k = grind arith
 
 -- served one after the other
 pub replay-append : (state : ReplayState) (xs ys : List Done) → replay state (xs ++ ys) ≡ replay (replay state xs) ys
@@ -60,9 +54,7 @@ replay-append state (x ∷ xs) ys = replay-append (served_state state x.agent x.
 
 pub served-append : (state : ReplayState) (xs ys : List Done) → AreServed state xs → AreServed (replay state xs) ys
     → AreServed state (xs ++ ys)
-served-append state xs ys first second =
-    map-append (λ (done : Done). done.value) xs ys ∙ (λ i. first i ++ second i)
-    ∙ sym (replayed_values-append state xs ys)
+served-append state xs ys first second = grind (arith, map-append, replayed_values-append)
 
 -- the hits of agents that have the bytes of the state
 pub record HitsServed (state : ReplayState) (k clock : ℕ) (vs : List AgentView) : Type 0 where
@@ -138,6 +130,4 @@ hits-served state k clock (w ∷ ws) are apart at =
         })
         (subst (λ n. IsAgentAt middle n (performed w clock)) (let own : k ≡ k + 0 = omega arith in own)
         hit.completes.agent))
-    told (suc j) u e hit rest =
-        let middle = replay state (performed_entries w clock) in
-        subst (λ n. IsAgentAt (replay middle (hit_entries clock ws)) n u) (sym (shift j)) (rest.agents j u e)
+    told (suc j) u e hit rest = grind arith

@@ -1,9 +1,9 @@
 -- The end of a clock on a line for which an upgrade that was won is still awaited: the oldest link does not own, so
 -- what completes with the end only loads.
-use Rattle.std.proofs.Common.{ℕ, zero, suc, ◌+◌, ◌<◌, ◌≡◌, Bool, true, false, not, ◌&&◌, ◌||◌, if◌then◌else◌, List, []}
-use Rattle.std.proofs.Common.{◌∷◌, ◌++◌, Some, None, length, refl, sym, ap, subst, ◌∙◌, inl, inr, arith}
+use Rattle.std.proofs.Common.{ℕ, zero, suc, ◌+◌, ◌<◌, ◌≡◌, Bool, true, false, not, ◌&&◌, ◌||◌, if◌then◌else◌, List}
+use Rattle.std.proofs.Common.{[], ◌∷◌, ◌++◌, Some, None, length, sym, ap, subst, ◌∙◌, inl, inr, arith}
 use Rattle.std.specs.List.{list_all}
-use Rattle.std.proofs.lemmas.Bool.{cases_lt, eq-eqb}
+use Rattle.std.proofs.lemmas.Bool.{cases_lt}
 use Rattle.fsb_agent_view.specs.declared.want.OwnRequest.{OwnRequest}
 use Rattle.fsb_coherent.specs.Awaits.{Awaited, awaited_by, awaited_by_grant}
 use Rattle.fsb_coherent.specs.BeforeSnoop.{events_before_snoop}
@@ -18,12 +18,12 @@ use Rattle.fsb_line.specs.declared.link.Link.{Link}
 use Rattle.fsb_line.proofs.Interface.{ordered_run}
 use Rattle.fsb_lawful.specs.Beginning.{KeepsBounds}
 use Rattle.fsb_run_laws.specs.Reaches.{Reaches}
-use Rattle.fsb_tied.proofs.Interface.{EndsLine, answers-in-order, at-there, awaited-there, awaiting-loads, awaits-grant}
-use Rattle.fsb_tied.proofs.Interface.{carries-awaited, clock-facts, events-may-happen, link_of, links_at, one-end}
-use Rattle.fsb_timely.specs.Grants.{snooped_at}
+use Rattle.fsb_tied.proofs.Interface.{EndsLine, answers-in-order, at-there, awaited-there, awaiting-loads}
+use Rattle.fsb_tied.proofs.Interface.{awaits-grant, carries-awaited, clock-facts, events-may-happen, link_of}
+use Rattle.fsb_tied.proofs.Interface.{links_at, one-end}
+use Rattle.fsb_timely.specs.Grants.{snooped_at, begun_at}
 use Rattle.fsb_timely.specs.Hits.{is_hit}
 use Rattle.fsb_timely.specs.Moments.{is_upgraded, makes_grant}
-use Rattle.fsb_timely.specs.Grants.{begun_at}
 use Rattle.fsb_timely.specs.Past.{Claim, Grant, Past, SnoopEnd}
 use Rattle.fsb_timely.specs.Runs.{Run, past_of}
 use Rattle.fsb_timely.specs.Scripts.{is_load}
@@ -39,11 +39,7 @@ one-of a b e = cc
 granted-is : (kind : Kind) (outcome : Outcome) (won : Bool) (made grant : Grant)
     → (if makes_grant kind outcome || (is_upgraded outcome && won) then Some made else None) ≡ Some grant
     → made ≡ grant
-granted-is kind outcome won made grant = by (makes_grant kind outcome || (is_upgraded outcome && won))
-  where
-    by : (b : Bool) → (if b then Some made else None) ≡ Some grant → made ≡ grant
-    by true e = one-of made grant e
-    by false e = absurd (let no : ⊥ = cc in no)
+granted-is kind outcome won made grant h1 = grind arith
 
 -- the link of an upgrade that was won
 record WonLink (p : Past) (line t : ℕ) (end : SnoopEnd) : Type 0 where
@@ -65,13 +61,11 @@ won-link r line t end grant claim h bounds l there claims names granted upgraded
     let awaits : awaited_by end ≡ Some awaited = awaits-grant end grant granted in
     let fit : carries (link_of p awaited.line t end awaited) ≡ awaited.carries =
     (carries-awaited r t end awaited h there awaits).fits in
-    let quiet : not (is_won (link_of p line t end awaited)) ≡ false =
-    ap (λ k. carries (link_of p k t end awaited)) (sym on) ∙ fit ∙ ap not upgraded in
+    let quiet : not (is_won (link_of p line t end awaited)) ≡ false = grind arith in
     record { awaited = awaited; awaits = awaits; names = on; won = off (is_won (link_of p line t end awaited)) quiet }
   where
     off : (b : Bool) → not b ≡ false → b ≡ true
-    off true e = refl
-    off false e = absurd (let no : ⊥ = cc in no)
+    off b h1 = grind arith
 
 -- ---- among the links
 
@@ -80,50 +74,31 @@ won-before [] ys e = absurd (let no : ⊥ = cc in no)
 won-before (x ∷ xs) ys e = either (is_won x) (any_won xs) (any_won (xs ++ ys)) e (won-before xs ys)
   where
     either : (a b c : Bool) → (a || b) ≡ true → (b ≡ true → c ≡ true) → (a || c) ≡ true
-    either true b c e more = refl
-    either false b c e more = more e
+    either a b c h1 h2 = grind arith
 
 won-behind : (xs ys : List Link) → any_won ys ≡ true → any_won (xs ++ ys) ≡ true
 won-behind [] ys e = e
 won-behind (x ∷ xs) ys e = rw (won-behind xs ys e) (either (is_won x))
   where
     either : (b : Bool) → (b || true) ≡ true
-    either true = refl
-    either false = refl
-
-won-one : (link : Link) → is_won link ≡ true → any_won (link ∷ []) ≡ true
-won-one link e = rw e refl
+    either b = grind arith
 
 won-left : (p : Past) (line m t b : ℕ) (link : Link) → links_at p line m t ≡ link ∷ [] → is_won link ≡ true → t < b
     → any_won (links_left p line m b) ≡ true
 unfolding links_left
 won-left p line m t zero link here won l = absurd (omega arith)
-won-left p line m t (suc b) link here won l = elim (cases_lt t b) [
-  | inl less ↦ won-before (links_left p line m b) (links_at p line m b) (won-left p line m t b link here won less)
-  | inr more ↦
-      let same : t ≡ b = omega (arith, l, more) in
-      let there : links_at p line m b ≡ link ∷ [] = ap (links_at p line m) (sym same) ∙ here in
-      won-behind (links_left p line m b) (links_at p line m b) (ap any_won there ∙ won-one link won)
-]
+won-left p line m t (suc b) link here won l =
+    grind (arith, won-before, won-behind, won-left p line m t b link here won)
 
 won-new : (p : Past) (line n : ℕ) (end : SnoopEnd) (k : WonLink p line n end) → snooped_at p n ≡ Some end
     → any_won (links_new p line n) ≡ true
 unfolding link_for
-won-new p line n end k there =
-    let new : links_new p line n ≡ link_of p line n end k.awaited ∷ [] =
-    rw (there, k.awaits, eq-eqb k.awaited.line line k.names) refl in
-    ap any_won new ∙ won-one (link_of p line n end k.awaited) k.won
+won-new p line n end k there = grind arith
 
 -- a link before one that was won does not own
 late-unowned : (link : Link) (links : List Link) → has_late_upgrade (link ∷ links) ≡ false → any_won links ≡ true
     → owns link ≡ false
-late-unowned link links none won = by (owns link) refl
-  where
-    by : (b : Bool) → owns link ≡ b → owns link ≡ false
-    by false e = e
-    by true e =
-        let all : ((owns link && any_won links) || has_late_upgrade links) ≡ false = none in
-        absurd (let no : ⊥ = (let f = rw (e, won) at all in cc) in no)
+late-unowned link links none won = grind arith
 
 -- ---- the end of a clock
 
@@ -182,9 +157,7 @@ kept-loads r line n out claim h x k begun names =
     ∙ x.awaits in
     let oldest = facts.ends.oldest x.end.first x.awaited x.alone at x.names in
     let rest = links_left p line (n + 1) n in
-    let late : has_late_upgrade (oldest.0 ∷ (rest ++ links_new p line n)) ≡ false =
-    ap (λ xs. has_late_upgrade (xs ++ links_new p line n)) (sym oldest.1)
-    ∙ ordered-behind r line n h.timely h.bounds l in
+    let late : has_late_upgrade (oldest.0 ∷ (rest ++ links_new p line n)) ≡ false = grind (arith, ordered-behind) in
     let unowned = late-unowned oldest.0 (rest ++ links_new p line n) late
     (won-rest r line n out claim h k begun names) in
     awaiting-loads r line n oldest.0 rest

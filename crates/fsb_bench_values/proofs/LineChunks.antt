@@ -1,8 +1,8 @@
 -- The chunks of the bytes of a line, and the memory that a log below a clock makes.
-use Rattle.std.proofs.Common.{ℕ, zero, suc, ◌+◌, ◌*◌, ◌<◌, ◌≤◌, ◌≡◌, Bool, true, false, List, [], ◌∷◌, ◌++◌, drop, take}
+use Rattle.std.proofs.Common.{ℕ, zero, suc, ◌+◌, ◌*◌, ◌<◌, ◌≤◌, ◌≡◌, Bool, true, List, [], ◌∷◌, ◌++◌, drop, take}
 use Rattle.std.proofs.Common.{length, lit<, nat_eq, nat_lt, slice_index, refl, ap, ◌∙◌, append-nil, arith}
 use Rattle.std.specs.List.{filter, list_all}
-use Rattle.std.proofs.lemmas.Bool.{and_parts, eqb-true, le-ltb, ltb-true}
+use Rattle.std.proofs.lemmas.Bool.{and_parts, ltb-true}
 use Rattle.std.proofs.lemmas.List.Elements.{filter-append}
 use Rattle.fsb_access.specs.ByteMemory.{ByteMemory, bytes_at, value_of_bytes}
 use Rattle.fsb_access.specs.Replay.{replay, start_of}
@@ -19,14 +19,10 @@ use Rattle.fsb_timely.specs.Runs.{Run}
 drop-bytes : (memory : ByteMemory) (addr count more total : ℕ) → total ≡ count + more
     → drop count (bytes_at memory addr total) ≡ bytes_at memory (addr + count) more
 unfolding bytes_at
-drop-bytes memory addr zero more total e =
-    let same : total ≡ more = omega (arith, e) in
-    let here : addr ≡ addr + 0 = omega arith in
-    λ i. bytes_at memory (here i) (same i)
+drop-bytes memory addr zero more total e = grind arith
 drop-bytes memory addr (suc count) more zero e = absurd (omega (arith, e))
 drop-bytes memory addr (suc count) more (suc total) e =
-    let here : addr + 1 + count ≡ addr + suc count = omega arith in
-    drop-bytes memory (addr + 1) count more total (omega (arith, e)) ∙ ap (λ a. bytes_at memory a more) here
+    grind (arith, drop-bytes memory (addr + 1) count more total (omega (arith, e)))
 
 take-bytes : (memory : ByteMemory) (addr count more total : ℕ) → total ≡ count + more
     → take count (bytes_at memory addr total) ≡ bytes_at memory addr count
@@ -56,10 +52,7 @@ chunk-of-line memory line (suc (suc (suc (suc chunk)))) low = absurd (omega (ari
 
 burst-small : (chunk : ℕ) → list_all (λ c. nat_lt c 4) (burst_order chunk) ≡ true
 unfolding burst_order
-burst-small zero = refl
-burst-small (suc zero) = refl
-burst-small (suc (suc zero)) = refl
-burst-small (suc (suc (suc chunk))) = refl
+burst-small chunk = grind arith
 
 index-small : (xs : List ℕ) (k : ℕ) → list_all (λ c. nat_lt c 4) xs ≡ true → slice_index xs k < 4
 index-small [] k e = lit< tt
@@ -74,11 +67,7 @@ burst-chunk chunk k = index-small (burst_order chunk) k (burst-small chunk)
 none-below : (t n : ℕ) (log : List Done) → t ≤ n → list_all (λ done. nat_eq done.clock n) log ≡ true
     → filter (λ (done : Done). nat_lt done.clock t) log ≡ []
 none-below t n [] l e = refl
-none-below t n (done ∷ log) l e =
-    let parts = and_parts (nat_eq done.clock n) (list_all (λ (d : Done). nat_eq d.clock n) log) e in
-    let same : done.clock ≡ n = eqb-true done.clock n parts.0 in
-    let off : nat_lt done.clock t ≡ false = le-ltb done.clock t (omega (arith, same, l)) in
-    rw off (none-below t n log l parts.1)
+none-below t n (done ∷ log) l e = grind (arith, none-below t n log l)
 
 -- is that of the shorter run, up to its end
 pub memory-grown : (r s : Run) (t : ℕ) → (k : IsNext r s) → s.plan.mem ≡ r.plan.mem → t ≤ length r.trace

@@ -1,9 +1,9 @@
 -- The caches and the memory of a bench are as its run keeps them.
 use Rattle.std.proofs.Common.{ℕ, ◌≤◌, ◌≡◌, Bool, true, false, ◌&&◌, ◌||◌, Option, Some, None, List, [], ◌∷◌, length}
-use Rattle.std.proofs.Common.{nat_eq, nat_le, nat_lt, refl, sym, ap, ◌∙◌, inl, inr, arith}
+use Rattle.std.proofs.Common.{nat_lt, refl, sym, ap, ◌∙◌, inl, inr, arith}
 use Rattle.std.specs.List.{list_any, slice_get}
 use Rattle.std.specs.Option.{option_map_or}
-use Rattle.std.proofs.lemmas.Bool.{and_parts, cases_lt}
+use Rattle.std.proofs.lemmas.Bool.{cases_lt}
 use Rattle.fsb_access.specs.declared.log.Done.{Done}
 use Rattle.fsb_agent_view.specs.AgentViews.{AgentView, line_state_by}
 use Rattle.fsb_agent_run.specs.RunViews.{state_told}
@@ -13,12 +13,12 @@ use Rattle.fsb_cache.specs.Sets.{CacheSets, copies, held_at, states}
 use Rattle.fsb_coherent.specs.Relation.{is_dirty_below, is_stored_below}
 use Rattle.fsb_count.specs.Options.{is_some_and}
 use Rattle.fsb_lawful.proofs.Interface.{get-there, granted-by}
-use Rattle.fsb_line.specs.declared.state.Mesi.TheVariants.{Exclusive, Invalid, Modified, Shared}
+use Rattle.fsb_line.specs.declared.state.Mesi.TheVariants.{Invalid}
 use Rattle.fsb_tied.proofs.Interface.{claimed, winner-four}
 use Rattle.fsb_timely.proofs.Interface.{holds_line-says}
 use Rattle.fsb_timely.specs.Completions.{is_in_time}
 use Rattle.fsb_timely.specs.Grants.{holds_line, is_ended, is_exclusive, is_ready, latest_grant}
-use Rattle.fsb_timely.specs.Hits.{is_counted, is_dirty, is_hit, is_store_on, is_stored_since, line_state_of}
+use Rattle.fsb_timely.specs.Hits.{is_counted, is_dirty, is_store_on, is_stored_since, line_state_of}
 use Rattle.fsb_timely.specs.Kept.{Kept, bytes_now}
 use Rattle.fsb_timely.specs.Past.{Past}
 use Rattle.fsb_timely.specs.Runs.{Run, past_of}
@@ -33,13 +33,7 @@ stores-counted : (p : Past) (a line n q first : ℕ) (log : List Done) → is_in
     ≡ list_any (λ done. is_store_on a line done && is_ended p done.clock q && nat_lt done.clock n) log
 unfolding is_in_time is_counted
 stores-counted p a line n q first [] e = refl
-stores-counted p a line n q first (done ∷ log) e =
-    let parts = and_parts (nat_le first done.clock) (nat_lt done.clock n && is_in_time done.clock n log) e in
-    let rest = and_parts (nat_lt done.clock n) (is_in_time done.clock n log) parts.1 in
-    let counts : (nat_lt done.clock n || (nat_eq done.clock n && is_hit p a n)) ≡ nat_lt done.clock n =
-    (λ i. rest.0 i || (nat_eq done.clock n && is_hit p a n)) ∙ sym rest.0 in
-    let later = stores-counted p a line n q done.clock log rest.1 in
-    λ i. ((is_store_on a line done && is_ended p done.clock q) && counts i) || later i
+stores-counted p a line n q first (done ∷ log) e = grind (arith, stores-counted p a line n q done.clock log)
 
 -- so who is dirty there is dirty by the stores below
 dirty-now : (r : Run) (a line : ℕ) → is_in_time 0 (length r.trace) r.log ≡ true
@@ -55,16 +49,7 @@ dirty-now r a line e =
 told-state : (p : Past) (a line n : ℕ)
     → state_told (holds_line p a line n) (is_exclusive p a line n) (is_dirty p a line n) ≡ line_state_of p a line n
 unfolding line_state_of
-told-state p a line n = by (holds_line p a line n) (is_exclusive p a line n) (is_dirty p a line n)
-  where
-    by : (held own dirty : Bool) → state_told held own dirty ≡ (elim held [
-      | false ↦ Invalid
-      | true ↦ elim own [ false ↦ Shared | true ↦ elim dirty [ true ↦ Modified | false ↦ Exclusive ] ]
-    ])
-    by false own dirty = refl
-    by true false dirty = refl
-    by true true true = refl
-    by true true false = refl
+told-state p a line n = grind arith
 
 unheld : (p : Past) (a line n : ℕ) → holds_line p a line n ≡ false → line_state_of p a line n ≡ Invalid
 unheld p a line n none =

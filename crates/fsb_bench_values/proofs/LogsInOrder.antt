@@ -1,12 +1,11 @@
 -- The log of a timely run follows its scripts: at each clock it goes on by the next items of agents, one after the
 -- other.
-use Rattle.std.proofs.Common.{ℕ, zero, suc, ◌+◌, ◌<◌, ◌≤◌, ◌≡◌, Bool, true, false, ◌&&◌, List, [], ◌∷◌, ◌++◌, Option}
-use Rattle.std.proofs.Common.{Some, None, length, map, nat_le, nat_lt, refl, sym, ap, subst, ◌∙◌, inl, inr, arith}
-use Rattle.std.proofs.Common.{append_assoc, append-nil, add-one}
+use Rattle.std.proofs.Common.{ℕ, zero, suc, ◌+◌, ◌<◌, ◌≤◌, ◌≡◌, Bool, true, false, List, [], ◌∷◌, ◌++◌, Option, Some}
+use Rattle.std.proofs.Common.{None, length, map, refl, sym, ap, subst, ◌∙◌, arith, append_assoc, append-nil, add-one}
 use Rattle.std.specs.Prelude.{◌==◌, take}
 use Rattle.std.specs.List.{list_all, slice_get}
-use Rattle.std.specs.Option.{option_and_then, option_map_or}
-use Rattle.std.proofs.lemmas.Bool.{and_from, and_parts, cases_eq, eq-eqb, le-ltb}
+use Rattle.std.specs.Option.{option_map_or}
+use Rattle.std.proofs.lemmas.Bool.{le-ltb}
 use Rattle.fsb_access.specs.declared.item.Item.{Item}
 use Rattle.fsb_access.specs.declared.log.Done.{Done}
 use Rattle.fsb_access.specs.ScriptOrder.{InOrder, Step, accesses_of, script_of, step_of, steps_of, steps_of_item}
@@ -35,14 +34,7 @@ own-steps : (a : ℕ) (more : List Done) (steps : List Step)
 own-steps a [] [] e = (refl, refl)
 own-steps a [] (step ∷ steps) e = absurd (let no : ⊥ = cc in no)
 own-steps a (done ∷ more) [] e = absurd (let no : ⊥ = cc in no)
-own-steps a (done ∷ more) (step ∷ steps) e =
-    let first : entry_of done ≡ record { agent = a; step = step } = cc in
-    let tail : map entry_of more ≡ map (λ (s : Step). record { agent = a; step = s }) steps = cc in
-    let rest = own-steps a more steps tail in (
-      and_from (done.agent == a) (list_all (λ (d : Done). d.agent == a) more)
-          (eq-eqb done.agent a (ap (λ (x : Completed). x.agent) first)) rest.0,
-      (let same : step_of done ≡ step = ap (λ (x : Completed). x.step) first in λ i. same i ∷ rest.1 i),
-    )
+own-steps a (done ∷ more) (step ∷ steps) e = grind (arith, own-steps a more steps)
 
 no-entries : (more : List Done) → map entry_of more ≡ [] → more ≡ []
 no-entries [] e = refl
@@ -56,19 +48,14 @@ record Completes (p : Past) (n a : ℕ) (completes : Bool) (more : List Done) : 
       → InOrder p.plan.scripts (log ++ more)
 
 nothing : (p : Past) (n a : ℕ) (completes : Bool) (more : List Done) → more ≡ [] → Completes p n a completes more
-nothing p n a completes more e = record {
-  own = ap (list_all (λ (done : Done). done.agent == a)) e;
-  none = λ f. e;
-  goes = λ log order has. subst (InOrder p.plan.scripts) (sym (ap (λ xs. log ++ xs) e ∙ append-nil log)) order;
-}
+nothing p n a completes more e = grind (arith, append-nil)
 
 completes-item : (p : Past) (n a k : ℕ) (item : Item) (more : List Done) → next_number p a n ≡ Some k
     → next_item p a n ≡ Some item → map entry_of more ≡ completed_of_item a k item → Completes p n a true more
 unfolding completed_of_item next_item items_of
 completes-item p n a k item more number next e =
     let own = own-steps a more (steps_of_item k item) e in
-    let stands : slice_get (script_of p.plan.scripts a) k ≡ Some item =
-    sym (ap (option_and_then (slice_get (script_of p.plan.scripts a))) number) ∙ next in
+    let stands : slice_get (script_of p.plan.scripts a) k ≡ Some item = grind arith in
     record {
       own = own.0;
       none = λ f. absurd (let no : ⊥ = cc in no);
@@ -97,9 +84,7 @@ completes-if p n a true more e = by (next_number p a n) (next_item p a n) refl r
 -- other agents' entries are none of an agent's
 others-stay : (a b : ℕ) (log more : List Done) → list_all (λ (done : Done). done.agent == b) more ≡ true → (a ≡ b → ⊥)
     → steps_of a (log ++ more) ≡ steps_of a log
-others-stay a b log more own apart =
-    steps_of-append a log more ∙ ap (λ xs. steps_of a log ++ xs) (steps_of-other b a more own apart)
-    ∙ append-nil (steps_of a log)
+others-stay a b log more own apart = grind (arith, steps_of-append, steps_of-other, append-nil)
 
 -- a log in order, behind what the agents below m complete at n: what those from m on complete may come, and these
 -- agents have none of it
@@ -114,17 +99,7 @@ step : (p : Past) (n m : ℕ) (completes keeps : ℕ → Bool) (log more : List 
     → Stage p n (m + 1) completes keeps (log ++ more)
 step p n m completes keeps log more few apart e s =
     let k = completes-if p n m (completes m) more e in
-    record {
-      in_order = k.goes log s.in_order (λ t. s.ready m few t (omega arith));
-      ready = λ a l t from.
-          λ i f. others-stay a m log more k.own (λ same. omega arith) ∙ s.ready a l t (omega arith) i f;
-      rest = λ a l t. elim (cases_eq a m) [
-        | inr other ↦ λ i f. others-stay a m log more k.own other ∙ s.rest a l t i f
-        | inl same ↦
-            let gone : more ≡ [] = k.none (apart (subst (λ b. keeps b ≡ true) same t)) in
-            λ i f. ap (steps_of a) (ap (λ xs. log ++ xs) gone ∙ append-nil log) ∙ s.rest a l t i f
-      ];
-    }
+    grind (arith, others-stay, append-nil)
 
 -- a list whose images are two lists is two lists
 record Split {X Y : Type 0} (f : X → Y) (xs : List X) (ys zs : List Y) : Type 0 where
@@ -163,8 +138,7 @@ four-steps p n completes keeps log more apart e s =
     let k3 = split entry_of more ((list 0 ++ list 1) ++ list 2) (list 3) e in
     let k2 = split entry_of k3.first (list 0 ++ list 1) (list 2) k3.one in
     let k1 = split entry_of k2.first (list 0) (list 1) k2.one in
-    let whole : more ≡ ((k1.first ++ k1.second) ++ k2.second) ++ k3.second =
-    k3.both ∙ ap (λ xs. xs ++ k3.second) (k2.both ∙ ap (λ xs. xs ++ k2.second) k1.both) in
+    let whole : more ≡ ((k1.first ++ k1.second) ++ k2.second) ++ k3.second = grind arith in
     let s0 = step p n 0 completes keeps log k1.first (omega arith) (apart 0) k1.one s in
     let s1 = step p n 1 completes keeps (log ++ k1.first) k1.second (omega arith) (apart 1) k1.two s0 in
     let s2 = step p n 2 completes keeps ((log ++ k1.first) ++ k1.second) k2.second (omega arith) (apart 2) k2.two s1 in
@@ -217,10 +191,7 @@ in-order-below r (suc n) h l =
 all-below : (first end : ℕ) (log : List Done) → is_in_time first end log ≡ true → below end log ≡ log
 unfolding is_in_time
 all-below first end [] e = refl
-all-below first end (done ∷ log) e =
-    let parts = and_parts (nat_le first done.clock) (nat_lt done.clock end && is_in_time done.clock end log) e in
-    let rest = and_parts (nat_lt done.clock end) (is_in_time done.clock end log) parts.1 in
-    rw rest.0 (ap (λ ds. done ∷ ds) (all-below done.clock end log rest.1))
+all-below first end (done ∷ log) e = grind (arith, all-below done.clock end log)
 
 -- the whole log
 pub log-in-order : (r : Run) → Timely r → InOrder r.plan.scripts r.log

@@ -1,19 +1,16 @@
 -- What an agent sends, gives up or sees at a snoop end leaves the bytes of each line that it still holds and that
 -- has come.
 use Rattle.std.proofs.Common.{ℕ, ◌≡◌, ◌≢◌, ◌∙◌, Bool, true, false, List, [], ◌∷◌, ◌++◌, Option, Some, None}
-use Rattle.std.proofs.Common.{if◌then◌else◌, refl, sym, ap, subst, inl, inr}
+use Rattle.std.proofs.Common.{if◌then◌else◌, refl, sym, ap, subst, arith}
 use Rattle.std.specs.Prelude.{◌==◌, is_none}
 use Rattle.std.specs.Option.{option_map_or}
-use Rattle.std.proofs.lemmas.Bool.{cases_Bool, eq-eqb}
 use Rattle.fsb_cache.specs.declared.held.Held.{Held}
 use Rattle.fsb_cache.specs.Sets.{CacheSets, copies, sets_filled, sets_without, slot_of, states}
 use Rattle.fsb_encode.specs.declared.request.Kind.{Kind}
 use Rattle.fsb_encode.specs.declared.request.Request.{Request}
-use Rattle.fsb_line.specs.declared.purpose.Purpose.{Purpose}
-use Rattle.fsb_line.specs.declared.purpose.Purpose.TheVariants.{Own, Read, Upgrade, WriteBack}
 use Rattle.fsb_line.specs.declared.state.Mesi.{Mesi}
 use Rattle.fsb_line.specs.declared.state.Mesi.TheVariants.{Exclusive, Invalid, Modified, Shared}
-use Rattle.fsb_line.specs.States.{after_snoop, asks_line, granted, is_held, is_sole}
+use Rattle.fsb_line.specs.States.{asks_line, granted, is_held, is_sole}
 use Rattle.fsb_linebuf.specs.declared.entry.Fill.{Fill}
 use Rattle.fsb_linebuf.specs.Buffers.{Buffered, fill_on, promised_to}
 use Rattle.fsb_trace.specs.declared.outcome.Outcome.{Outcome}
@@ -28,7 +25,8 @@ use Rattle.fsb_agent_view.specs.Snooping.{other_settled, own_settled, sets_lower
 use Rattle.fsb_agent_view.specs.Snooping.{with_fill, with_push, written_by}
 use Rattle.fsb_agent_view.specs.Wanting.{sent, sets_cleared_for, want_by}
 use Rattle.fsb_bench_values.proofs.ItemsServed.{IsAgentAt}
-use Rattle.fsb_bench_values.proofs.SetCopies.{Lowers, WasHeld, filled-other, lowers-same, lowers-shared, lowers-without}
+use Rattle.fsb_bench_values.proofs.SetCopies.{Lowers, WasHeld, filled-other, lowers-same, lowers-shared}
+use Rattle.fsb_bench_values.proofs.SetCopies.{lowers-without}
 use Rattle.fsb_access.specs.Replay.{ReplayState}
 
 -- a line that is held and has come was so before, with these bytes, and alone where it is
@@ -46,36 +44,15 @@ pub record IsLowered (w next : AgentView) : Type 0 where
   pub lines : (line : ℕ) → is_held (line_state_by next line) ≡ true → has_come next line ≡ true → WasReady w next line
 
 pub lowered-same : (w : AgentView) → IsLowered w w
-lowered-same w = record {
-  number = refl;
-  items = refl;
-  last = refl;
-  lines = λ line held come. record { held = held; came = come; same = refl; alone = λ own. own };
-}
+lowered-same w = grind arith
 
 pub lowered-twice : (u w x : AgentView) → IsLowered u w → IsLowered w x → IsLowered u x
-lowered-twice u w x j k = record {
-  number = k.number ∙ j.number;
-  items = k.items ∙ j.items;
-  last = k.last ∙ j.last;
-  lines = λ line held come.
-      let later = k.lines line held come in
-      let first = j.lines line later.held later.came in
-      record {
-        held = first.held;
-        came = first.came;
-        same = later.same ∙ first.same;
-        alone = λ own. first.alone (later.alone own);
-      };
-}
+lowered-twice u w x j k = grind arith
 
 -- so it has the bytes of a state where that one had them
 pub lowered-at : (state : ReplayState) (a : ℕ) (w next : AgentView) → IsLowered w next → IsAgentAt state a w
     → IsAgentAt state a next
-lowered-at state a w next j k = record {
-  last = j.last ∙ k.last;
-  copies = λ line held come. (let was = j.lines line held come in was.same ∙ k.copies line was.held was.came);
-}
+lowered-at state a w next j k = grind arith
 
 -- a line of the sets that was held, where its bytes had come
 ready-from : (w next : AgentView) (line : ℕ) → WasHeld w.lines next.lines line → has_come w line ≡ true
@@ -120,45 +97,22 @@ lowered-sent w clock number = by (want_by w clock)
 
 -- what is given up, and what is handed on
 pub lowered-given : (w : AgentView) (number : ℕ) → IsLowered w (given_up w number)
-lowered-given w number = record {
-  number = refl;
-  items = refl;
-  last = refl;
-  lines = λ line held come. record { held = held; came = come; same = refl; alone = λ own. own };
-}
+lowered-given w number = grind arith
 
 pub lowered-handed : (w : AgentView) (number : ℕ) → IsLowered w (handed_on w number)
-lowered-handed w number = record {
-  number = refl;
-  items = refl;
-  last = refl;
-  lines = λ line held come. record { held = held; came = come; same = refl; alone = λ own. own };
-}
+lowered-handed w number = grind arith
 
 -- a line without a fill had none before another one began, and is another line
 come-more : (line : ℕ) (fill : Fill) (fills : List Fill) → is_none (fill_on line (fills ++ fill ∷ [])) ≡ true
     → (is_none (fill_on line fills) ≡ true) × (line ≢ fill.line)
-come-more line fill [] e =
-    (refl, λ same. (let no = rw (eq-eqb fill.line line (sym same)) at e in (let h : ⊥ = cc in h)))
-come-more line fill (f ∷ fills) e = elim (cases_Bool (f.line == line)) [
-  | inl on ↦ absurd (let no = rw on at e in (let h : ⊥ = cc in h))
-  | inr off ↦ let k = come-more line fill fills (rw off at e) in (rw off k.0, k.1)
-]
+come-more line fill [] e = grind arith
+come-more line fill (f ∷ fills) e = grind (arith, come-more line fill fills)
 
 -- and it has none where one is promised
 come-promised : (line other number : ℕ) (fills : List Fill)
     → is_none (fill_on line (promised_to other number fills)) ≡ is_none (fill_on line fills)
 come-promised line other number [] = refl
-come-promised line other number (f ∷ fills) = elim (cases_Bool (f.line == other)) [
-  | inl on ↦ elim (cases_Bool (f.line == line)) [
-    | inl here ↦ rw (on, here) refl
-    | inr there ↦ rw (on, there) (come-promised line other number fills)
-  ]
-  | inr off ↦ elim (cases_Bool (f.line == line)) [
-    | inl here ↦ rw (off, here) refl
-    | inr there ↦ rw (off, there) (come-promised line other number fills)
-  ]
-]
+come-promised line other number (f ∷ fills) = grind (arith, come-promised line other number fills)
 
 -- the line of an own request is granted, upgraded or written back
 filled-lines : (w next : AgentView) (out : OwnRequest) (state : Mesi) (bytes : List ℕ) (line : ℕ)
@@ -235,30 +189,9 @@ own-lowered w out shared outcomes.Replied = lowered-granted w out shared
 own-lowered w out shared outcomes.Failed = lowered-same w
 own-lowered w out shared outcomes.Upgraded = lowered-upgraded w out
 
--- a line that another agent's request makes Shared was held
-invalid-stays : (kind : Purpose) → after_snoop Invalid kind ≡ Invalid
-invalid-stays Read = refl
-invalid-stays Own = refl
-invalid-stays Upgrade = refl
-invalid-stays WriteBack = refl
-
-invalid-snooped : (kind : Kind) (outcome : Outcome) → state_snooped Invalid kind outcome ≡ Invalid
-invalid-snooped kind outcomes.Granted = invalid-stays (kind_asks kind)
-invalid-snooped kind outcomes.Handed = invalid-stays (kind_asks kind)
-invalid-snooped kind outcomes.Retried = invalid-stays (kind_asks kind)
-invalid-snooped kind outcomes.Deferred = invalid-stays (kind_asks kind)
-invalid-snooped kind outcomes.Written = invalid-stays (kind_asks kind)
-invalid-snooped kind outcomes.Replied = refl
-invalid-snooped kind outcomes.Failed = invalid-stays (kind_asks kind)
-invalid-snooped kind outcomes.Upgraded = invalid-stays (kind_asks kind)
-
 shared-held : (state : Mesi) (kind : Kind) (outcome : Outcome) → state_snooped state kind outcome ≡ Shared
     → is_held state ≡ true
-shared-held Invalid kind outcome e =
-    let no : Invalid ≡ Shared = sym (invalid-snooped kind outcome) ∙ e in absurd (let h : ⊥ = cc in h)
-shared-held Shared kind outcome e = refl
-shared-held Exclusive kind outcome e = refl
-shared-held Modified kind outcome e = refl
+shared-held state kind outcome h1 = grind arith
 
 lowers-lowered : (sets : CacheSets) (line : ℕ) (state : Mesi) → (state ≡ Shared → is_held (states sets line) ≡ true)
     → Lowers sets (sets_lowered sets line state)

@@ -8,7 +8,6 @@ use Rattle.fsb_coherent.specs.Facts.{does_end_on, does_respond_on}
 use Rattle.fsb_coherent.specs.Fitting.{fits_getting, fits_kind, fits_upgrade, fits_write_back}
 use Rattle.fsb_coherent.specs.Relation.{chain_below, is_moved_below}
 use Rattle.fsb_encode.specs.declared.request.Kind.{Kind}
-use Rattle.fsb_encode.specs.declared.request.Kind.TheVariants.{Invalidate, Read, Reply, Upgrade, WriteBack}
 use Rattle.fsb_hazard.specs.declared.choice.Choice.{Choice}
 use Rattle.fsb_lawful.specs.Beginning.{KeepsBounds}
 use Rattle.fsb_line.specs.declared.link.Link.{Link}
@@ -27,7 +26,6 @@ use Rattle.fsb_trace.specs.declared.outcome.Outcome.TheVariants.{Granted, Handed
 use Rattle.fsb_trace.specs.declared.outcome.Outcome.TheVariants.{Failed, Upgraded}
 use Rattle.fsb_bench_view.specs.declared.beginning.Starting.{Starting}
 use Rattle.fsb_bench_view.specs.declared.decided.BytesFrom.{BytesFrom}
-use Rattle.fsb_bench_view.specs.declared.decided.BytesFrom.TheVariants.{Memory, Agents}
 use Rattle.fsb_bench_view.specs.declared.decided.Ending.{Ending}
 use Rattle.fsb_bench_view.specs.declared.snoop.SnoopSettled.{SnoopSettled}
 use Rattle.fsb_bench_view.specs.BenchSteps.{bench_stepped, step_answered, step_cancelled, step_decided, step_drive}
@@ -55,26 +53,20 @@ pub record SameBytes (bus other : BusView) : Type 0 where
 
 started-bytes : (bus : BusView) (clock : ℕ) (o : Option Starting)
     → SameBytes (option_map_or (bus_started bus clock) o bus) bus
-started-bytes bus clock None = record { moved = refl; memory = λ line. refl }
-started-bytes bus clock (Some x) = record { moved = refl; memory = λ line. refl }
+started-bytes bus clock o = grind arith
 
 cancelled-bytes : (bus : BusView) (o : Option Entry) → SameBytes (option_map_or (bus_cancelled bus) o bus) bus
-cancelled-bytes bus None = record { moved = refl; memory = λ line. refl }
-cancelled-bytes bus (Some x) = record { moved = refl; memory = λ line. refl }
+cancelled-bytes bus o = grind arith
 
 snooped-bytes : (bus : BusView) (o : Option SnoopSettled) → SameBytes (option_map_or (bus_snooped bus) o bus) bus
-snooped-bytes bus None = record { moved = refl; memory = λ line. refl }
-snooped-bytes bus (Some x) = record { moved = refl; memory = λ line. refl }
+snooped-bytes bus o = grind arith
 
 answered-bytes : (bus : BusView) (clock : ℕ) (o : Option Entry)
     → SameBytes (option_map_or (bus_answered bus clock) o bus) bus
-answered-bytes bus clock None = record { moved = refl; memory = λ line. refl }
-answered-bytes bus clock (Some x) = record { moved = refl; memory = λ line. refl }
+answered-bytes bus clock o = grind arith
 
 fetched-memory : (bus : BusView) (o : Option BytesFrom) (line : ℕ) → (bus_fetched bus o).memory line ≡ bus.memory line
-fetched-memory bus None line = refl
-fetched-memory bus (Some (Memory other)) line = refl
-fetched-memory bus (Some (Agents number)) line = refl
+fetched-memory bus o line = grind arith
 
 -- before its end the bus has the data that were fetched, and the memory of before
 pub before-end : (v : BenchView) (hold : Bool)
@@ -93,8 +85,7 @@ before-end v hold =
 
 ended-moved : (bus : BusView) (clock : ℕ) (o : Option Ending) → (option_map_or (bus_ended bus clock) o bus).moved
     ≡ bus.moved
-ended-moved bus clock None = refl
-ended-moved bus clock (Some x) = refl
+ended-moved bus clock o = grind arith
 
 -- and after the clock the data that were fetched
 pub moved-stepped : (v : BenchView) (hold : Bool) (choice : Choice)
@@ -168,31 +159,16 @@ granted-granted : (kind : Kind) (outcome : Outcome) (won : Bool) (grant : Grant)
     → fits_kind kind outcome ≡ true
     → (if makes_grant kind outcome || (is_upgraded outcome && won) then Some grant else None) ≡ Some grant
 unfolding fits_kind fits_write_back makes_grant is_got is_upgraded
-granted-granted Reply outcome won grant e fits = absurd (let no : ⊥ = cc in no)
-granted-granted WriteBack outcome won grant e fits = absurd (let no : ⊥ = (let f = rw e at fits in cc) in no)
-granted-granted Invalidate outcome won grant e fits = rw e refl
-granted-granted Read outcome won grant e fits = rw e refl
-granted-granted Upgrade outcome won grant e fits = rw e refl
+granted-granted kind outcome won grant h1 h2 = grind arith
 
 -- a request with a claim is no reply
 never-replied : (kind : Kind) (outcome : Outcome) → outcome ≡ Replied → fits_kind kind outcome ≡ true → ⊥
 unfolding fits_kind fits_getting fits_upgrade fits_write_back
-never-replied Reply outcome e fits = let no : ⊥ = cc in no
-never-replied Invalidate outcome e fits = let f = rw e at fits in cc
-never-replied Read outcome e fits = let f = rw e at fits in cc
-never-replied WriteBack outcome e fits = let f = rw e at fits in cc
-never-replied Upgrade outcome e fits = let f = rw e at fits in cc
+never-replied kind outcome h1 h2 = grind arith
 
 moving-carries : (outcome : Outcome) → does_move outcome ≡ true → not (is_upgraded outcome) ≡ true
 unfolding does_move is_upgraded
-moving-carries Granted e = refl
-moving-carries Handed e = refl
-moving-carries Retried e = refl
-moving-carries Deferred e = refl
-moving-carries Written e = refl
-moving-carries Replied e = refl
-moving-carries Failed e = refl
-moving-carries Upgraded e = absurd (let no : ⊥ = cc in no)
+moving-carries outcome h1 = grind arith
 
 -- where data move after a snoop end, their end is awaited
 pub record AwaitsData (end : SnoopEnd) : Type 0 where

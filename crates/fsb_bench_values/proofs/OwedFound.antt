@@ -1,6 +1,6 @@
 -- The bytes that are found for a transaction: those of an agent that owes them.
-use Rattle.std.proofs.Common.{ℕ, zero, suc, ◌≡◌, true, false, List, [], ◌∷◌, Option, Some, None, is_some, refl, sym, ap}
-use Rattle.std.proofs.Common.{◌∙◌, inl, inr}
+use Rattle.std.proofs.Common.{ℕ, zero, suc, ◌≡◌, true, false, List, [], ◌∷◌, Option, Some, None, is_some, refl, sym}
+use Rattle.std.proofs.Common.{ap, ◌∙◌, inl, inr, arith}
 use Rattle.std.specs.List.{slice_get}
 use Rattle.std.specs.Option.{option_map}
 use Rattle.std.proofs.lemmas.Bool.{cases_Bool, eqb-true}
@@ -42,8 +42,7 @@ owed-found q bytes (x ∷ agents) zero w owe at there =
     by : (o : Option Push) → push_for q x.buffers.pushes ≡ o → bytes_owed q (x ∷ agents) ≡ Some bytes
     by None e =
         let same : x ≡ w = cc in
-        let none : hand_by w q ≡ None = ap (λ (y : AgentView). hand_by y q) (sym same)
-        ∙ ap (option_map (λ (push : Push). push.bytes)) e in
+        let none : hand_by w q ≡ None = grind arith in
         absurd (let no : false ≡ true = sym (ap is_some none) ∙ there in cc no)
     by (Some push) e =
         ap (λ o. first_of (option_map (λ (y : Push). y.bytes) o) (bytes_owed q agents)) e

@@ -1,15 +1,15 @@
 -- The lines of requests that an agent has outstanding: one that keeps bytes for its upgrade has a link.
-use Rattle.std.proofs.Common.{ℕ, ◌+◌, ◌<◌, ◌≤◌, ◌≡◌, Bool, true, false, not, ◌&&◌, ◌||◌, List, ◌∷◌, Option, Some, None}
-use Rattle.std.proofs.Common.{is_none, is_some, length, nat_eq, nat_lt, refl, sym, ap, subst, ◌∙◌, inl, inr, arith}
+use Rattle.std.proofs.Common.{ℕ, ◌+◌, ◌<◌, ◌≤◌, ◌≡◌, Bool, true, false, not, ◌&&◌, ◌||◌, List, ◌∷◌, Option, Some}
+use Rattle.std.proofs.Common.{is_none, is_some, length, nat_eq, refl, sym, ap, subst, ◌∙◌, arith}
 use Rattle.std.specs.Bool.{beq}
 use Rattle.std.specs.List.{list_any}
-use Rattle.std.proofs.lemmas.Bool.{and_parts, both_ways, cases_Bool, eq-eqb, eqb-true, lt-ltb, ltb-true}
+use Rattle.std.proofs.lemmas.Bool.{and_parts, both_ways, eq-eqb}
 use Rattle.fsb_count.specs.Clocks.{first_where}
-use Rattle.fsb_count.specs.Options.{is_at, is_some_and}
+use Rattle.fsb_count.specs.Options.{is_some_and}
 use Rattle.fsb_count.proofs.Interface.{first_where-found, is_at-some, is_before-from}
 use Rattle.fsb_agent_run.specs.RunViews.{HasLines, HasRequestsOf, is_awaited, is_won_below, owing_by}
-use Rattle.fsb_agent_run.proofs.Interface.{Among, all-among, among-any, among-filter, awaits-by, fill-counted, kept-of}
-use Rattle.fsb_agent_run.proofs.Interface.{owing-there}
+use Rattle.fsb_agent_run.proofs.Interface.{Among, all-among, among-any, among-filter, awaits-by, fill-counted}
+use Rattle.fsb_agent_run.proofs.Interface.{kept-of, owing-there}
 use Rattle.fsb_agent_view.specs.AgentViews.{AgentView}
 use Rattle.fsb_agent_view.specs.Sound.{IsSound, is_only, is_sound_request}
 use Rattle.fsb_agent_view.specs.declared.want.OwnRequest.{OwnRequest}
@@ -30,15 +30,10 @@ use Rattle.fsb_timely.specs.Moments.{is_snoop_of, is_upgraded}
 use Rattle.fsb_timely.specs.Past.{Grant, Owing, Past, SnoopEnd}
 use Rattle.fsb_timely.specs.Runs.{Run, past_of}
 use Rattle.fsb_timely.specs.Wants.{outstanding_at, owed}
-use Rattle.fsb_signal.specs.Samples.{line_at}
-use Rattle.fsb_signal.specs.declared.lines.TheConstants.Lines.{ADS}
-use Rattle.fsb_trace.specs.At.{Trace, request_at}
-use Rattle.fsb_trace.specs.Flight.{is_dropped, is_finished, is_outstanding, last_clock_of, outstanding}
+use Rattle.fsb_trace.specs.At.{Trace}
+use Rattle.fsb_trace.specs.Flight.{is_dropped, is_finished, is_outstanding, outstanding}
 use Rattle.fsb_trace.specs.Outcome.{is_deferral}
-use Rattle.fsb_trace.specs.Requests.{is_cancelled, is_live, is_reply, live_number_of}
 use Rattle.fsb_trace.specs.declared.outcome.Outcome.{Outcome}
-use Rattle.fsb_trace.specs.declared.outcome.Outcome.TheVariants.{Granted, Handed, Retried, Deferred, Written, Replied}
-use Rattle.fsb_trace.specs.declared.outcome.Outcome.TheVariants.{Failed, Upgraded}
 use Rattle.fsb_bench_values.proofs.PushedLines.{awaited-link}
 
 one-of : {X : Type 0} (a b : X) → Some a ≡ Some b → a ≡ b
@@ -61,13 +56,10 @@ kept-awaited held alone dirty awaited w out kept sound lines k e =
     sym (fill-counted line fills (awaited line) (lines.fills line)) ∙ filled
   where
     granted-kept : (b : Bool) (o : Option (List ℕ)) (kept : List ℕ) → o ≡ Some kept → (b || is_none o) ≡ true → b ≡ true
-    granted-kept true o kept e f = refl
-    granted-kept false o kept e f = absurd (let no : ⊥ = (let g = rw e at f in cc) in no)
+    granted-kept b o kept h1 h2 = grind arith
 
     filled-granted : (x y : Bool) → y ≡ true → beq x y ≡ true → x ≡ true
-    filled-granted true y e f = refl
-    filled-granted false true e f = absurd (let no : ⊥ = cc in no)
-    filled-granted false false e f = absurd (let no : ⊥ = cc in no)
+    filled-granted x y h1 h2 = grind arith
 
 -- a line that an agent awaits has a link
 pub awaited-linked : (r : Run) (a line m c : ℕ) → m ≤ length r.trace → is_awaited (past_of r) a line m c ≡ true → m ≤ c
@@ -92,50 +84,20 @@ awaited-linked r a line m c l e upto =
 
 out-dropped : (w : Trace) (c q : ℕ) → is_dropped w c q ≡ true → is_outstanding w c q ≡ false
 unfolding is_outstanding
-out-dropped w c q e =
-    rw e (none (line_at ADS w q && nat_lt q c && not (is_reply (request_at w q))) (is_finished w c q))
-  where
-    none : (b f : Bool) → (b && false && not f) ≡ false
-    none true f = refl
-    none false f = refl
+out-dropped w c q e = grind arith
 
 out-finished : (w : Trace) (c q : ℕ) → is_finished w c q ≡ true → is_outstanding w c q ≡ false
 unfolding is_outstanding
-out-finished w c q e =
-    rw e (none (line_at ADS w q && nat_lt q c && not (is_reply (request_at w q)) && not (is_dropped w c q)))
-  where
-    none : (b : Bool) → (b && false) ≡ false
-    none true = refl
-    none false = refl
+out-finished w c q e = grind arith
 
 out-below : (w : Trace) (c q : ℕ) → is_outstanding w c q ≡ true → q < c
 unfolding is_outstanding
-out-below w c q e =
-    ltb-true q c (second (line_at ADS w q) (nat_lt q c) (not (is_reply (request_at w q))) (not (is_dropped w c q))
-    (not (is_finished w c q)) e)
-  where
-    second : (a b c d e : Bool) → (a && b && c && d && e) ≡ true → b ≡ true
-    second true true c d e h = refl
-    second true false c d e h = absurd (let no : ⊥ = cc in no)
-    second false b c d e h = absurd (let no : ⊥ = cc in no)
+out-below w c q e = grind arith
 
 -- a request is not outstanding behind its last clock
 last-out : (w : Trace) (e c q : ℕ) → is_last_clock w e q ≡ true → e < c → is_outstanding w c q ≡ false
 unfolding is_last_clock is_dropped is_finished
-last-out w e c q last l =
-    elim (cases_Bool (is_cancelled w q && nat_eq (q + 3) e)) [
-      | inl dropped ↦
-          let parts = and_parts (is_cancelled w q) (nat_eq (q + 3) e) dropped in
-          let at : q + 3 ≡ e = eqb-true (q + 3) e parts.1 in
-          let below = lt-ltb (q + 3) c (omega (arith, at, l)) in
-          out-dropped w c q (rw (parts.0, below) refl)
-      | inr kept ↦
-          let live : (is_live w q && is_at (last_clock_of w (live_number_of w q)) e) ≡ true = rw kept at last in
-          let parts = and_parts (is_live w q) _ live in
-          let clock = is_at-some _ e parts.1 in
-          let before = is_before-from _ e c clock l in
-          out-finished w c q (rw (parts.0, before) refl)
-    ]
+last-out w e c q last l = grind (arith, out-dropped, is_at-some, is_before-from, out-finished)
 
 -- what an agent owes is outstanding
 owed-out : (r : Run) (a n : ℕ) (owing : Owing) → Reaches r n → Among owing (owed (past_of r) a n)
@@ -150,11 +112,7 @@ owed-out r a n owing h k =
     let told = subst (λ xs. list_any test xs ≡ true) (owed-told r n h) any in
     let x = lawful.any-from (is_outstanding r.trace n) (owing_begun p) test n told in
     let below : x.0 < n = out-below r.trace n x.0 x.1.there in
-    let long = h.long in
-    let reaches : Reaches r (x.0 + 1) = record { timely = h.timely; bounds = h.bounds; long = omega arith } in
-    let first = (begun-wanted r x.0 x.1.given reaches x.1.gives).4 in
-    let same = eqb-true x.1.given.claim.first q x.1.passes in
-    subst (λ y. is_outstanding r.trace n y ≡ true) (sym first ∙ same) x.1.there
+    grind (arith, begun-wanted)
 
 -- so its end has not come, where it was not put off
 owed-unended : (r : Run) (a n t : ℕ) (owing : Owing) (end : SnoopEnd) → Reaches r n → Among owing (owed (past_of r) a n)
@@ -175,14 +133,7 @@ owed-unended r a n t owing end h k there first kept =
 
 upgraded-kept : (outcome : Outcome) → is_upgraded outcome ≡ true → is_deferral outcome ≡ false
 unfolding is_upgraded is_deferral
-upgraded-kept Granted e = refl
-upgraded-kept Handed e = refl
-upgraded-kept Retried e = refl
-upgraded-kept Deferred e = absurd (let no : ⊥ = cc in no)
-upgraded-kept Written e = refl
-upgraded-kept Replied e = refl
-upgraded-kept Failed e = refl
-upgraded-kept Upgraded e = refl
+upgraded-kept outcome h1 = grind arith
 
 -- an upgrade for which bytes are kept at n: it was won below n, and its end has not come
 pub record IsKeptFor (r : Run) (n : ℕ) (out : OwnRequest) : Type 0 where
@@ -207,16 +158,8 @@ won-parts p n q e =
     let t = lawful.and-then (snooped_at p) (first_where test n) s.0 s.1 in
     let found = first_where-found test n t.0 t.1 in
     let there = lawful.some-and (snooped_at p t.0) (is_snoop_of q) found.1 in
-    let same = one-of there.0 s.0 (sym there.1 ∙ t.2) in (
-      t.0,
-      found.0,
-      s.0,
-      t.2,
-      ap (λ (x : SnoopEnd). x.first) (sym same)
-          ∙ eqb-true there.0.first q there.2,
-      parts.0,
-      parts.1,
-    )
+    let same = one-of there.0 s.0 (sym there.1 ∙ t.2) in
+    grind arith
 
 pub kept-for : (r : Run) (a n : ℕ) (w : AgentView) (out : OwnRequest) (kept : List ℕ) → Reaches r n
     → HasRequestsOf (past_of r) a n (owed (past_of r) a n) w → Among out w.outs → out.kept ≡ Some kept
@@ -240,5 +183,4 @@ kept-for r a n w out kept h requests k e =
     }
   where
     there : (o : Option Grant) → is_some o ≡ true → (grant : Grant) × (o ≡ Some grant)
-    there None e = absurd (let no : ⊥ = cc in no)
-    there (Some grant) e = (grant, refl)
+    there o h1 = grind arith

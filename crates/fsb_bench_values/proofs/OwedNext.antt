@@ -7,12 +7,11 @@ use Rattle.std.specs.Option.{option_map_or}
 use Rattle.std.proofs.lemmas.Bool.{eqb-true}
 use Rattle.fsb_agent_run.specs.BytesOwed.{HasBytesOwed, promise_told}
 use Rattle.fsb_agent_run.specs.RunViews.{owing_by}
-use Rattle.fsb_agent_run.proofs.Interface.{Among, among-either, among-without, get-among, given, owing-is, owing-there}
-use Rattle.fsb_agent_run.proofs.Interface.{promised-at}
+use Rattle.fsb_agent_run.proofs.Interface.{Among, among-either, among-without, get-among, given, owing-is}
+use Rattle.fsb_agent_run.proofs.Interface.{owing-there, promised-at}
 use Rattle.fsb_agent_view.specs.AgentEvents.{AgentEvent, agent_after}
 use Rattle.fsb_agent_view.specs.AgentViews.{AgentView}
-use Rattle.fsb_agent_view.specs.Arriving.{arrived_for, ended_for, given_up, is_arrival_by, line_arrived, met_by}
-use Rattle.fsb_agent_view.specs.Arriving.{upgrade_ended}
+use Rattle.fsb_agent_view.specs.Arriving.{arrived_for, ended_for, given_up, line_arrived, met_by, upgrade_ended}
 use Rattle.fsb_agent_view.specs.OwnRequests.{request_numbered, requests_without}
 use Rattle.fsb_agent_view.specs.declared.want.OwnRequest.{OwnRequest}
 use Rattle.fsb_bench_view.specs.BenchSteps.{bench_stepped, step_answered, step_ended, step_ending, step_run}
@@ -78,19 +77,11 @@ given-led comes clock number u =
     record { outs = λ out k. among-without number out u.outs k; pushes = λ push k. inl k }
 
 met-outs : (u : AgentView) (clock : ℕ) (out : OwnRequest) (bytes : List ℕ) → (met_by u clock out bytes).outs ≡ u.outs
-met-outs u clock out bytes = by (is_arrival_by u clock out) refl
-  where
-    by : (b : Bool) → is_arrival_by u clock out ≡ b → (met_by u clock out bytes).outs ≡ u.outs
-    by true e = rw (e, met_by) refl
-    by false e = rw (e, met_by) refl
+met-outs u clock out bytes = grind arith
 
 met-buffers : (u : AgentView) (clock : ℕ) (out : OwnRequest) (bytes : List ℕ)
     → (met_by u clock out bytes).buffers ≡ u.buffers
-met-buffers u clock out bytes = by (is_arrival_by u clock out) refl
-  where
-    by : (b : Bool) → is_arrival_by u clock out ≡ b → (met_by u clock out bytes).buffers ≡ u.buffers
-    by true e = rw (e, met_by) refl
-    by false e = rw (e, met_by) refl
+met-buffers u clock out bytes = grind arith
 
 pushed-either : (o : Option ℕ) (bytes : List ℕ) (pushes : List Push) (push : Push)
     → Among push (pushed_to o bytes pushes)

@@ -1,34 +1,27 @@
 -- What an agent keeps for its upgrades and owes to others, through its events but for hits and arrivals.
-use Rattle.std.proofs.Common.{ℕ, ◌≡◌, ◌⊎◌, Bool, true, false, cond, ◌&&◌, List, [], ◌∷◌, ◌++◌, Option, Some, None, refl}
-use Rattle.std.proofs.Common.{sym, ap, subst, ◌∙◌, inl, inr}
-use Rattle.std.specs.Prelude.{◌==◌, fold, if◌then◌else◌}
-use Rattle.std.specs.Option.{option_map_or}
-use Rattle.std.proofs.lemmas.Bool.{and_parts, cases_Bool}
+use Rattle.std.proofs.Common.{ℕ, ◌≡◌, Bool, true, false, List, [], ◌∷◌, ◌++◌, Option, Some, None, refl, sym, ap}
+use Rattle.std.proofs.Common.{subst, ◌∙◌, inl, inr, arith}
+use Rattle.std.specs.Prelude.{fold}
 use Rattle.fsb_agent_run.proofs.Interface.{Among, among-either, among-granted, among-without, numbered-among}
-use Rattle.fsb_agent_view.specs.AgentEvents.{GivenUp, Sent, agent_after}
+use Rattle.fsb_agent_view.specs.AgentEvents.{agent_after}
 use Rattle.fsb_agent_view.specs.AgentViews.{AgentView, has_come, line_state_by}
 use Rattle.fsb_agent_view.specs.Arriving.{given_up, handed_on}
-use Rattle.fsb_agent_view.specs.Completing.{is_hit_by, performed}
+use Rattle.fsb_agent_view.specs.Completing.{performed}
 use Rattle.fsb_agent_view.specs.OwnRequests.{new_request, request_numbered, requests_granted}
-use Rattle.fsb_agent_view.specs.Snooping.{buffers_giving, committed, granted_by, is_giver, is_handed, kind_asks}
-use Rattle.fsb_agent_view.specs.Snooping.{other_settled, own_settled, upgraded_by, with_push, written_by}
+use Rattle.fsb_agent_view.specs.Snooping.{committed, granted_by, own_settled, upgraded_by, with_push, written_by}
 use Rattle.fsb_agent_view.specs.Wanting.{sent, want_by}
 use Rattle.fsb_agent_view.specs.declared.want.OwnRequest.{OwnRequest}
 use Rattle.fsb_agent_view.specs.declared.want.Want.{Want}
-use Rattle.fsb_agent_view.proofs.Interface.{without_first-cons}
 use Rattle.fsb_cache.specs.Sets.{copies}
 use Rattle.fsb_encode.specs.declared.request.Request.{Request}
-use Rattle.fsb_line.specs.States.{asks_line, is_held, is_modified}
-use Rattle.fsb_line.proofs.Interface.{modified_is_sole, sole_is_held}
+use Rattle.fsb_line.specs.States.{is_held}
 use Rattle.fsb_linebuf.specs.declared.entry.Push.{Push}
-use Rattle.fsb_linebuf.specs.Buffers.{is_push_for, pushes_without}
+use Rattle.fsb_linebuf.specs.Buffers.{pushes_without}
 use Rattle.fsb_timely.specs.Grants.{begun_at}
 use Rattle.fsb_timely.specs.Past.{Claim, Past}
 use Rattle.fsb_trace.specs.declared.outcome.Outcome.{Outcome}
-use Rattle.fsb_trace.specs.declared.outcome.Outcome.TheVariants.{Granted, Handed, Retried, Deferred, Written, Replied}
-use Rattle.fsb_trace.specs.declared.outcome.Outcome.TheVariants.{Failed, Upgraded}
+use Rattle.fsb_trace.specs.declared.outcome.Outcome.TheVariants.{Written, Upgraded}
 use Rattle.fsb_trace.specs.declared.who.Who.{Who}
-use Rattle.fsb_trace.specs.declared.who.Who.TheVariants.{Priority, Symmetric}
 use Rattle.fsb_bench_view.specs.BusEvents.{cancelled_event, starting_event}
 use Rattle.fsb_bench_values.specs.BytesOf.{HasCopies}
 
@@ -43,41 +36,21 @@ pub record OwesBytes (p : Past) (bytes : ℕ → List ℕ) (w : AgentView) : Typ
 -- it rests on the requests and the pushes alone
 pub owes-alike : (p : Past) (bytes : ℕ → List ℕ) (w next : AgentView) → next.outs ≡ w.outs
     → next.buffers.pushes ≡ w.buffers.pushes → OwesBytes p bytes w → OwesBytes p bytes next
-owes-alike p bytes w next outs pushes h = record {
-  kept = λ out kept k e. h.kept out kept (subst (Among out) outs k) e;
-  pushes = λ push claim k e. h.pushes push claim (subst (Among push) pushes k) e;
-}
+owes-alike p bytes w next outs pushes h = grind arith
 
 -- fewer pushes
 among-pushes : (number : ℕ) (push : Push) (pushes : List Push) → Among push (pushes_without number pushes)
     → Among push pushes
 among-pushes number push [] k = absurd k
-among-pushes number push (x ∷ pushes) k =
-    let k' : Among push (cond (is_push_for number x) pushes (x ∷ pushes_without number pushes)) =
-    subst (Among push) (without_first-cons (is_push_for number) x pushes) k in
-    elim (cases_Bool (is_push_for number x)) [
-      | inl on ↦ inr (rw on at k')
-      | inr off ↦
-          elim (let k'' : (x ≡ push) ⊎ Among push (pushes_without number pushes) = rw off at k' in k'') [
-            | inl e ↦ inl e
-            | inr m ↦ inr (among-pushes number push pushes m)
-          ]
-    ]
+among-pushes number push (x ∷ pushes) k = grind (arith, among-pushes number push pushes)
 
 pub handed-owes : (p : Past) (bytes : ℕ → List ℕ) (w : AgentView) (number : ℕ) → OwesBytes p bytes w
     → OwesBytes p bytes (handed_on w number)
-handed-owes p bytes w number h = record {
-  kept = h.kept;
-  pushes = λ push claim k e. h.pushes push claim (among-pushes number push w.buffers.pushes k) e;
-}
+handed-owes p bytes w number h = grind (arith, among-pushes)
 
 -- a hit
 pub performed-outs : (w : AgentView) (clock : ℕ) → (performed w clock).outs ≡ w.outs
-performed-outs w clock = by (is_hit_by w clock) refl
-  where
-    by : (b : Bool) → is_hit_by w clock ≡ b → (performed w clock).outs ≡ w.outs
-    by true e = rw (e, performed) refl
-    by false e = rw (e, performed) refl
+performed-outs w clock = grind arith
 
 -- what begins
 sent-owes : (p : Past) (bytes : ℕ → List ℕ) (w : AgentView) (clock number : ℕ) → OwesBytes p bytes w
@@ -100,29 +73,16 @@ sent-owes p bytes w clock number h = by (want_by w clock) refl
 
 pub started-owes : (p : Past) (bytes : ℕ → List ℕ) (clock a : ℕ) (who : Who) (w : AgentView) → OwesBytes p bytes w
     → OwesBytes p bytes (fold agent_after w (starting_event clock who a))
-started-owes p bytes clock a (Symmetric agent) w h = by (a == agent)
-  where
-    by : (b : Bool) → OwesBytes p bytes (fold agent_after w (if b then Sent clock clock ∷ [] else []))
-    by true = sent-owes p bytes w clock clock h
-    by false = h
-started-owes p bytes clock a Priority w h = h
+started-owes p bytes clock a who w h1 = grind (arith, sent-owes)
 
 -- what is cancelled, retried or written back
 pub given-owes : (p : Past) (bytes : ℕ → List ℕ) (w : AgentView) (number : ℕ) → OwesBytes p bytes w
     → OwesBytes p bytes (given_up w number)
-given-owes p bytes w number h = record {
-  kept = λ out kept k e. h.kept out kept (among-without number out w.outs k) e;
-  pushes = h.pushes;
-}
+given-owes p bytes w number h = grind (arith, among-without)
 
 pub cancelled-owes : (p : Past) (bytes : ℕ → List ℕ) (first a : ℕ) (who : Who) (w : AgentView) → OwesBytes p bytes w
     → OwesBytes p bytes (fold agent_after w (cancelled_event first who a))
-cancelled-owes p bytes first a (Symmetric agent) w h = by (a == agent)
-  where
-    by : (b : Bool) → OwesBytes p bytes (fold agent_after w (if b then GivenUp first ∷ [] else []))
-    by true = given-owes p bytes w first h
-    by false = h
-cancelled-owes p bytes first a Priority w h = h
+cancelled-owes p bytes first a who w h1 = grind (arith, given-owes)
 
 -- ---- snoop ends
 
@@ -140,21 +100,7 @@ pub record IsOwnRight (p : Past) (w : AgentView) (number : ℕ) (outcome : Outco
 -- a line comes without its bytes
 granted-owes : (p : Past) (bytes : ℕ → List ℕ) (w : AgentView) (out : OwnRequest) (shared : Bool) → OwesBytes p bytes w
     → OwesBytes p bytes (granted_by w out shared)
-granted-owes p bytes w out shared h = by (asks_line (kind_asks out.request.kind)) refl
-  where
-    by : (b : Bool) → asks_line (kind_asks out.request.kind) ≡ b → OwesBytes p bytes (granted_by w out shared)
-    by false e = owes-alike p bytes w (granted_by w out shared) (rw (e, granted_by) refl) (rw (e, granted_by) refl) h
-    by true e = record {
-      kept = λ x kept k f.
-          let k' : Among x (requests_granted out.number None w.outs) = rw (e, granted_by) at k in
-          let g = among-granted out.number None x w.outs k' in
-          elim g.2.how [
-            | inl now ↦ absurd (let no : ⊥ = (let both = sym now.1 ∙ f in cc) in no)
-            | inr old ↦ h.kept g.0 kept g.1 (sym old.1 ∙ f) ∙ ap (λ (y : Request). bytes y.line) (sym g.2.request_same)
-          ];
-      pushes = λ push claim k f. h.pushes push claim (let k' : Among push w.buffers.pushes =
-          rw (e, granted_by) at k in k') f;
-    }
+granted-owes p bytes w out shared h = grind (arith, among-granted)
 
 -- an upgrade is won, and its bytes are kept
 upgraded-owes : (p : Past) (bytes : ℕ → List ℕ) (w : AgentView) (number : ℕ) (out : OwnRequest) → HasCopies bytes w
@@ -204,64 +150,23 @@ pushed-owes p bytes w next number own outs buffers right h = record {
 written-owes : (p : Past) (bytes : ℕ → List ℕ) (w : AgentView) (number : ℕ) (out : OwnRequest) → HasCopies bytes w
     → OwesBytes p bytes w → IsOwnRight p w number Written → request_numbered number w.outs ≡ Some out
     → OwesBytes p bytes (written_by w out)
-written-owes p bytes w number out copied h r found =
-    pushed-owes p bytes w (written_by w out) out.number (copies w.lines out.request.line) refl refl
-    (λ claim e. copied out.request.line (r.held out found refl) (r.come out found)
-    ∙ ap bytes (sym (r.claimed out claim (numbered-among number out w.outs found).0 e))) h
+written-owes p bytes w number out copied h r found = grind (arith, pushed-owes, numbered-among)
 
 -- the snoop end of the agent's own request
 own-owes : (p : Past) (bytes : ℕ → List ℕ) (w : AgentView) (number : ℕ) (out : OwnRequest) (shared : Bool)
     (outcome : Outcome) → HasCopies bytes w → OwesBytes p bytes w → IsOwnRight p w number outcome
     → request_numbered number w.outs ≡ Some out → OwesBytes p bytes (own_settled w out shared outcome)
-own-owes p bytes w number out shared Granted copied h r found = granted-owes p bytes w out shared h
-own-owes p bytes w number out shared Handed copied h r found = granted-owes p bytes w out true h
-own-owes p bytes w number out shared Retried copied h r found = h
-own-owes p bytes w number out shared Deferred copied h r found = h
-own-owes p bytes w number out shared Written copied h r found = written-owes p bytes w number out copied h r found
-own-owes p bytes w number out shared Replied copied h r found = granted-owes p bytes w out shared h
-own-owes p bytes w number out shared Failed copied h r found = h
-own-owes p bytes w number out shared Upgraded copied h r found = upgraded-owes p bytes w number out copied h r found
+own-owes p bytes w number out shared outcome h1 h2 h3 h4 = grind (arith, granted-owes, written-owes, upgraded-owes)
 
 pub own-committed-owes : (p : Past) (bytes : ℕ → List ℕ) (w : AgentView) (number : ℕ) (request : Request)
     (shared : Bool)
     (outcome : Outcome) → HasCopies bytes w → OwesBytes p bytes w → IsOwnRight p w number outcome
     → OwesBytes p bytes (committed w number true request shared outcome)
-own-committed-owes p bytes w number request shared outcome copied h r = by (request_numbered number w.outs) refl
-  where
-    by : (o : Option OwnRequest) → request_numbered number w.outs ≡ o
-        → OwesBytes p bytes (committed w number true request shared outcome)
-    by None e =
-        subst (λ x. OwesBytes p bytes (option_map_or (λ out. own_settled w out shared outcome) x w)) (sym e) h
-    by (Some out) e =
-        subst (λ x. OwesBytes p bytes (option_map_or (λ out. own_settled w out shared outcome) x w)) (sym e)
-        (own-owes p bytes w number out shared outcome copied h r e)
+own-committed-owes p bytes w number request shared outcome copied h r = grind (arith, own-owes)
 
 -- that of another agent's request, whose claim has its line
 pub other-committed-owes : (p : Past) (bytes : ℕ → List ℕ) (w : AgentView) (number : ℕ) (request : Request)
     (shared : Bool) (outcome : Outcome) → HasCopies bytes w → OwesBytes p bytes w
     → ((claim : Claim) → begun_at p number ≡ Some claim → claim.line ≡ request.line)
     → OwesBytes p bytes (committed w number false request shared outcome)
-other-committed-owes p bytes w number request shared outcome copied h claimed = by (is_giver w request outcome) refl
-  where
-    given : is_held (line_state_by w request.line) ≡ true → (b : Bool) → has_come w request.line ≡ b
-        → is_giver w request outcome ≡ true → OwesBytes p bytes (committed w number false request shared outcome)
-    given held true come gives =
-        pushed-owes p bytes w (committed w number false request shared outcome) number
-        (copies w.lines request.line) refl
-        (rw (gives, come, other_settled, buffers_giving) refl)
-        (λ claim e. copied request.line held come ∙ ap bytes (sym (claimed claim e))) h
-    given held false come gives =
-        owes-alike p bytes w (committed w number false request shared outcome) refl
-        (rw (gives, come, other_settled, buffers_giving) refl) h
-
-    by : (b : Bool) → is_giver w request outcome ≡ b → OwesBytes p bytes
-        (committed w number false request shared outcome)
-    by false e = owes-alike p bytes w (committed w number false request shared outcome) refl
-        (rw (e, other_settled) refl) h
-    by true e =
-        let parts = and_parts (is_modified (line_state_by w request.line) && is_handed outcome)
-        (asks_line (kind_asks request.kind)) e in
-        let modified = (and_parts (is_modified (line_state_by w request.line)) (is_handed outcome) parts.0).0 in
-        let held = sole_is_held (line_state_by w request.line)
-        (modified_is_sole (line_state_by w request.line) modified) in
-        given held (has_come w request.line) refl e
+other-committed-owes p bytes w number request shared outcome copied h claimed = grind (arith, pushed-owes)

@@ -1,13 +1,10 @@
 -- A line that comes to an agent that is to own it is ready for nobody else.
-use Rattle.std.proofs.Common.{ℕ, ◌+◌, ◌≡◌, ◌≢◌, Bool, true, false, ◌&&◌, not, List, [], ◌∷◌, Some, length, nat_eq, refl}
-use Rattle.std.proofs.Common.{sym, ap, subst, ◌∙◌, inl, inr, arith}
-use Rattle.std.specs.Prelude.{◌==◌}
-use Rattle.std.proofs.lemmas.Bool.{both_ways, cases_Bool, eq-eqb, eqb-true, or_left, or_parts}
+use Rattle.std.proofs.Common.{ℕ, ◌+◌, ◌≡◌, ◌≢◌, Bool, true, false, List, [], ◌∷◌, Some, length, refl, subst, arith}
 use Rattle.fsb_agent_run.specs.RunViews.{IsComing}
 use Rattle.fsb_coherent.specs.Awaits.{awaited_by_grant}
 use Rattle.fsb_count.specs.Options.{is_some_and}
 use Rattle.fsb_coherent.specs.LineEvents.{events_below}
-use Rattle.fsb_coherent.specs.Relation.{chain_below, links_left}
+use Rattle.fsb_coherent.specs.Relation.{chain_below}
 use Rattle.fsb_lawful.proofs.Interface.{and-then}
 use Rattle.fsb_line.specs.declared.link.Link.{Link}
 use Rattle.fsb_line.specs.Line.{MemoryLine, unheld}
@@ -15,7 +12,7 @@ use Rattle.fsb_line.specs.LineRuns.{run}
 use Rattle.fsb_line.specs.Links.{is_linked, is_overtaken, owns}
 use Rattle.fsb_run_laws.specs.Reaches.{Reaches}
 use Rattle.fsb_tied.proofs.Interface.{answers-in-order, awaits-grant, clock-facts, events-may-happen, grant-first}
-use Rattle.fsb_tied.proofs.Interface.{granted-owns, link_of, oldest-ends, unlinked}
+use Rattle.fsb_tied.proofs.Interface.{granted-owns, oldest-ends, unlinked}
 use Rattle.fsb_timely.specs.Grants.{ended_requests, grant_at, holds_line, is_end_at, is_granted, is_ready, snooped_at}
 use Rattle.fsb_timely.specs.Past.{Grant, Past, SnoopEnd}
 use Rattle.fsb_timely.specs.Runs.{Run, past_of}
@@ -23,10 +20,7 @@ use Rattle.fsb_timely.specs.Runs.{Run, past_of}
 -- who has no link is overtaken by a link that owns
 overtaken : (b : ℕ) (link : Link) (links : List Link) → owns link ≡ true → is_linked b (link ∷ links) ≡ false
     → is_overtaken b (link ∷ links) ≡ true
-overtaken b link links own free =
-    let parts = or_parts (link.agent == b) (is_linked b links) free in
-    or_left (owns link && (not (link.agent == b) && not (is_linked b links))) (is_overtaken b links)
-    (rw (own, parts.0, parts.1) refl)
+overtaken b link links own free = grind arith
 
 -- the only end of a clock
 only-end : (p : Past) (n q : ℕ) (ends : List ℕ)
@@ -34,17 +28,13 @@ only-end : (p : Past) (n q : ℕ) (ends : List ℕ)
     → ended_requests p n ≡ ends → is_end_at p n q ≡ true → ended_requests p n ≡ q ∷ []
 unfolding is_end_at
 only-end p n q [] few e h = absurd (let no = rw e at h in (let f : ⊥ = cc in f))
-only-end p n q (x ∷ []) few e h = elim (cases_Bool (nat_eq q x)) [
-  | inl same ↦ e ∙ ap (λ y. y ∷ []) (sym (eqb-true q x same))
-  | inr other ↦ absurd (let no = rw (e, other) at h in (let f : ⊥ = cc in f))
-]
+only-end p n q (x ∷ []) few e h = grind arith
 only-end p n q (x ∷ y ∷ rest) few e h = absurd (few x y rest e)
 
 granted-there : (p : Past) (a line t : ℕ) (grant : Grant) → grant_at p t ≡ Some grant → grant.agent ≡ a
     → grant.line ≡ line → is_granted p a line t ≡ true
 unfolding is_granted is_some_and
-granted-there p a line t grant at agent names =
-    rw (at, eq-eqb grant.agent a agent, eq-eqb grant.line line names) refl
+granted-there p a line t grant at agent names = grind arith
 
 -- the chain of a line that comes begins with the link of its grant
 pub record IsOldestOf (p : Past) (line n : ℕ) (grant : Grant) : Type 0 where
@@ -73,13 +63,7 @@ coming-oldest s n a line owned h k =
     let awaits = awaits-grant end grant there.2 in
     let chain = oldest-ends p (length s.trace) line n k.at end (awaited_by_grant end.outcome grant)
     (answers-in-order s h.timely) (omega arith) there.1 alone awaits k.of_line in
-    record {
-      link = link_of p line k.at end (awaited_by_grant end.outcome grant);
-      links = links_left p line (n + 1) n;
-      chain = chain;
-      agent = refl;
-      owns_as = λ own. granted-owns s k.at end grant there.1 there.2 own;
-    }
+    grind (arith, granted-owns)
 
 -- so nobody else has it ready
 pub coming-alone : (s : Run) (n a b line : ℕ) → Reaches s (n + 1) → IsComing (past_of s) a n line true → b ≢ a
@@ -90,8 +74,4 @@ coming-alone s n a b line h k other holds ready =
     let oldest = coming-oldest s n a line true h k in
     let tied = (events-may-happen s line n [] h.timely h.bounds (omega arith)).1 in
     let x : MemoryLine = run (unheld []) (events_below p line n) in
-    let free = unlinked s b line n h.timely (omega arith) holds ready in
-    let over = overtaken b oldest.link oldest.links (oldest.owns_as k.owning)
-    (ap (is_linked b) (sym oldest.chain) ∙ free) in
-    let none = tied.ordered.holds_on b (tied.tied.held b ∙ holds) in
-    both_ways (is_overtaken b x.chain) none (ap (is_overtaken b) (tied.tied.chain ∙ oldest.chain) ∙ over)
+    grind (arith, unlinked, overtaken)

@@ -1,11 +1,9 @@
 -- The lines whose bytes an agent has for others: each has a link, and no other request's end is awaited on it.
-use Rattle.std.proofs.Common.{ℕ, zero, suc, ◌+◌, ◌<◌, ◌≤◌, ◌≡◌, ◌⊎◌, Bool, true, false, not, ◌&&◌, List, [], ◌∷◌, ◌++◌}
-use Rattle.std.proofs.Common.{Option, Some, None, length, nat_eq, refl, sym, ap, subst, ◌∙◌, inl, inr, arith}
-use Rattle.std.proofs.Common.{append-nil}
+use Rattle.std.proofs.Common.{ℕ, zero, suc, ◌+◌, ◌<◌, ◌≤◌, ◌≡◌, ◌⊎◌, Bool, true, false, List, [], ◌∷◌, ◌++◌, Option}
+use Rattle.std.proofs.Common.{Some, None, length, nat_eq, refl, sym, ap, subst, ◌∙◌, inl, inr, arith, append-nil}
 use Rattle.std.specs.Option.{option_and_then, option_map, option_map_or}
 use Rattle.std.proofs.lemmas.Option.{slice_get_past}
-use Rattle.std.proofs.lemmas.Bool.{and_parts, both_ways, cases_Bool, cases_eq, cases_lt, eq-eqb, eqb-true}
-use Rattle.std.proofs.lemmas.Bool.{false_from_ne_true, le-leb, lt-leb, not-true}
+use Rattle.std.proofs.lemmas.Bool.{both_ways, cases_Bool, cases_eq, cases_lt, eq-eqb, eqb-true, false_from_ne_true}
 use Rattle.fsb_count.specs.Clocks.{any_where, from_clock, last_where}
 use Rattle.fsb_count.specs.Options.{is_at, is_some_and}
 use Rattle.fsb_count.proofs.Interface.{any_where-at, any_where-found, any_where-off, is_at-from}
@@ -18,7 +16,6 @@ use Rattle.fsb_coherent.specs.BeforeSnoop.{events_before_snoop}
 use Rattle.fsb_coherent.specs.Facts.{does_end_on}
 use Rattle.fsb_coherent.specs.LineEvents.{events_below}
 use Rattle.fsb_coherent.specs.Relation.{chain_below, is_responded_below, link_for, link_left, links_left, purpose_at}
-use Rattle.fsb_coherent.specs.Relation.{purpose_granted}
 use Rattle.fsb_coherent.proofs.Interface.{dirty-to, first-events}
 use Rattle.fsb_lawful.specs.Beginning.{KeepsBounds}
 use Rattle.fsb_lawful.proofs.Interface.{some-and}
@@ -35,19 +32,18 @@ use Rattle.fsb_encode.specs.declared.request.Kind.TheVariants as kinds
 use Rattle.fsb_run_laws.specs.Reaches.{Reaches}
 use Rattle.fsb_tied.proofs.Interface.{AnswersInOrder, EndsLine, answers-in-order, at-there, begun-want, clock-facts}
 use Rattle.fsb_tied.proofs.Interface.{ended-later, ended-parts, ends-line, ends-on, events-may-happen, grant-first}
-use Rattle.fsb_tied.proofs.Interface.{granted-await, granted-parts, link_of, links_at, listed-alone, not-so, taking-at}
-use Rattle.fsb_tied.proofs.Interface.{unended-at-end, written-await}
-use Rattle.fsb_timely.specs.Grants.{begun_at, grant_at, holds_line, is_ended, is_exclusive, is_granted, latest_grant}
-use Rattle.fsb_timely.specs.Grants.{snooped_at}
+use Rattle.fsb_tied.proofs.Interface.{granted-await, granted-parts, link_of, links_at, listed-alone, not-so}
+use Rattle.fsb_tied.proofs.Interface.{taking-at, unended-at-end, written-await}
+use Rattle.fsb_timely.specs.Grants.{begun_at, grant_at, is_ended, is_granted, latest_grant, snooped_at}
 use Rattle.fsb_timely.specs.Hits.{is_dirty}
-use Rattle.fsb_timely.specs.Past.{Claim, Grant, Moment, Past, SnoopEnd}
-use Rattle.fsb_timely.specs.Runs.{Run, moments_below, past_of}
+use Rattle.fsb_timely.specs.Past.{Claim, Grant, Past, SnoopEnd}
+use Rattle.fsb_timely.specs.Runs.{Run, past_of}
 use Rattle.fsb_timely.specs.Timely.{Timely}
 use Rattle.fsb_timely.proofs.Interface.{last_where-found, last_where-from, length-moments, tied-snoop}
 use Rattle.fsb_trace.proofs.Interface.{snoop_end_of-clock}
 use Rattle.fsb_trace.specs.Outcome.{does_take}
 use Rattle.fsb_trace.specs.declared.outcome.Outcome.TheVariants.{Handed, Written}
-use Rattle.fsb_bench_values.proofs.QuietLines.{exclusive-holds, sole-linked}
+use Rattle.fsb_bench_values.proofs.QuietLines.{sole-linked}
 
 one-of : {X : Type 0} (a b : X) → Some a ≡ Some b → a ≡ b
 one-of a b e = cc
@@ -149,42 +145,7 @@ newest-says : (p : Past) (line m b : ℕ) (link : Link) → newest (links_left p
     → IsNewest p line m b link
 unfolding links_left
 newest-says p line m zero link e = absurd (let no : ⊥ = cc in no)
-newest-says p line m (suc b) link e = elim (leaves p line m b) [
-  | inl none ↦
-      let k = newest-says p line m b link
-      (ap newest (sym (append-nil (links_left p line m b)) ∙ ap (λ xs. links_left p line m b ++ xs) (sym none)) ∙ e) in
-      let low : k.at < b = k.below in
-      record {
-        at = k.at;
-        below = omega arith;
-        end = k.end;
-        there = k.there;
-        unended = k.unended;
-        awaited = k.awaited;
-        awaits = k.awaits;
-        names = k.names;
-        is = k.is;
-        later = λ u above under. elim (cases_lt u b) [
-          | inl less ↦ k.later u above less
-          | inr more ↦ let same : u ≡ b = omega arith in ap (links_at p line m) same ∙ none
-        ];
-      }
-  | inr x ↦
-      record {
-        at = b;
-        below = omega arith;
-        end = x.end;
-        there = x.there;
-        unended = x.unended;
-        awaited = x.awaited;
-        awaits = x.awaits;
-        names = x.names;
-        is = one-of link (link_of p line b x.end x.awaited)
-            (sym e ∙ ap newest (ap (λ xs. links_left p line m b ++ xs) x.left)
-            ∙ newest-behind (links_left p line m b) (link_of p line b x.end x.awaited));
-        later = λ u above under. absurd (omega arith);
-      }
-]
+newest-says p line m (suc b) link e = grind (arith, leaves, append-nil, newest-behind, newest-says p line m b link)
 
 -- ---- the giver of a line that has a link
 
@@ -192,9 +153,7 @@ newest-says p line m (suc b) link e = elim (leaves p line m b) [
 written-owns : (s : SnoopEnd) (kind : Kind) → s.kind ≡ Some kind → kind ≡ kinds.WriteBack → kind_owns (purpose_at s)
     ≡ false
 unfolding purpose_at purpose_of
-written-owns s kind known e =
-    ap (λ o. kind_owns (option_map_or (λ (x : Purpose). x) (option_and_then purpose_of o) (purpose_granted s.grant)))
-    (known ∙ ap Some e)
+written-owns s kind known e = grind arith
 
 -- who gives a line that has a link below the snoop end hands it over, being dirty on it
 gives-linked : (r : Run) (a line u : ℕ) (claim : Claim) (first : Link) (links : List Link) → Timely r
@@ -258,10 +217,6 @@ owns-newest r a line u first links h bounds l dirty chain =
     newest-some : (link : Link) (links : List Link) → (last : Link) × (newest (link ∷ links) ≡ Some last)
     newest-some link [] = (link, refl)
     newest-some link (next ∷ links) = newest-some next links
-
-held-dirty : (p : Past) (a line n : ℕ) → is_dirty p a line n ≡ true → holds_line p a line n ≡ true
-unfolding is_dirty
-held-dirty p a line n e = exclusive-holds p a line n (and_parts (is_exclusive p a line n) _ e).0
 
 -- the latest grant of a line to an agent, and that its end has not come at n
 record Awaits (r : Run) (a line u n : ℕ) : Type 0 where
@@ -386,10 +341,7 @@ grant-made p t end grant there made = ap (option_and_then (λ (s : SnoopEnd). s.
 awaits-told : (p : Past) (a line m c t : ℕ) (grant : Grant) → last_where (is_granted p a line) m ≡ Some t
     → grant_at p t ≡ Some grant → is_ended p c grant.first ≡ false → is_awaited p a line m c ≡ true
 unfolding is_awaited latest_grant is_some_and
-awaits-told p a line m c t grant late made unended =
-    let found : option_and_then (grant_at p) (last_where (is_granted p a line) m) ≡ Some grant =
-    ap (option_and_then (grant_at p)) late ∙ made in
-    ap (λ (o : Option Grant). is_some_and o (λ (g : Grant). not (is_ended p c g.first))) found ∙ ap not unended
+awaits-told p a line m c t grant late made unended = grind arith
 
 -- so it awaits the line
 awaited-at : (r : Run) (a line u n m c : ℕ) → Timely r → KeepsBounds r.plan → n < length r.trace
@@ -407,10 +359,7 @@ awaited-at r a line u n m c h bounds l w above upto low =
     ] in
     let below = w.below in
     let first = grant-first r a line w.at w.end w.grant (snoop-within r w.at w.end w.there) w.there w.made w.granted in
-    let unended : is_ended p c w.grant.first ≡ false =
-    ap (is_ended p c) first
-    ∙ not-so (is_ended p c w.end.first) (λ t. both_ways (is_ended p n w.end.first) w.unended
-    (ended-later p c n w.end.first low t)) in
+    let unended : is_ended p c w.grant.first ≡ false = grind (arith, ended-later) in
     let late : last_where (is_granted p a line) m ≡ Some w.at = from.1 ∙ ap Some last in
     awaits-told p a line m c w.at w.grant late (grant-made p w.at w.end w.grant w.there w.made) unended
 
@@ -426,24 +375,17 @@ promised p a line m c t claim awaited last given_now since =
 none-since : (test : ℕ → Bool) (t m : ℕ) → ((v : ℕ) → t < v → v < m → test v ≡ false)
     → any_where (from_clock (t + 1) test) m ≡ false
 unfolding from_clock
-none-since test t m none =
-    any_where-off (from_clock (t + 1) test) m (λ v l. unfold from_clock in (elim (cases_lt t v) [
-      | inl above ↦ ap (λ b. b && test v) (le-leb (t + 1) v (omega arith)) ∙ none v above l
-      | inr under ↦ ap (λ b. b && test v) (lt-leb (t + 1) v (omega arith))
-    ]))
+none-since test t m none = grind (arith, any_where-off)
 
 gives-line : (p : Past) (a line t : ℕ) (claim : Claim) → claim_given_at p a t ≡ Some claim → claim.line ≡ line
     → gives_line_at p a line t ≡ true
 unfolding gives_line_at is_some_and
-gives-line p a line t claim gives names =
-    ap (λ o. is_some_and o (λ (x : Claim). nat_eq x.line line)) gives ∙ eq-eqb claim.line line names
+gives-line p a line t claim gives names = grind arith
 
 gives-claim : (p : Past) (a line t : ℕ) → gives_line_at p a line t ≡ true
     → (claim : Claim) × (claim_given_at p a t ≡ Some claim) × (claim.line ≡ line)
 unfolding gives_line_at
-gives-claim p a line t e =
-    let c = some-and (claim_given_at p a t) (λ (y : Claim). nat_eq y.line line) e in
-    (c.0, c.1, eqb-true c.0.line line c.2)
+gives-claim p a line t e = grind (arith, some-and)
 
 -- the agent gives the line for a request at t behind a snoop end whose end on the line is to come at n: it is promised
 -- its bytes at n
@@ -520,18 +462,12 @@ pub record IsPushedFor (r : Run) (a m : ℕ) (claim : Claim) : Type 0 where
 given-parts : (p : Past) (a n q : ℕ) → is_given_below p a n q ≡ true
     → (t : ℕ) × (t < n) × (claim : Claim) × (claim_given_at p a t ≡ Some claim) × (claim.first ≡ q)
 unfolding is_given_below
-given-parts p a n q e =
-    let t = any_where-found (λ u. is_some_and (claim_given_at p a u) (λ claim. nat_eq claim.first q)) n e in
-    let c = some-and (claim_given_at p a t.0) (λ (x : Claim). nat_eq x.first q) t.2 in
-    (t.0, t.1, c.0, c.1, eqb-true c.0.first q c.2)
+given-parts p a n q e = grind (arith, any_where-found, some-and)
 
 pub pushed-parts : (p : Past) (a n r c q : ℕ) → is_pushed p a n r c q ≡ true
     → (is_given_below p a n q ≡ true) × (is_responded_below p r q ≡ false) × (is_promised p a n c q ≡ false)
 unfolding is_pushed
-pushed-parts p a n r c q e =
-    let two = and_parts (is_given_below p a n q && not (is_responded_below p r q)) (not (is_promised p a n c q)) e in
-    let one = and_parts (is_given_below p a n q) (not (is_responded_below p r q)) two.0 in
-    (one.0, not-true (is_responded_below p r q) one.1, not-true (is_promised p a n c q) two.1)
+pushed-parts p a n r c q e = grind arith
 
 -- whose bytes it has
 pub pushed-for : (r : Run) (a m s c q : ℕ) (claim : Claim) → Timely r → KeepsBounds r.plan → m ≤ length r.trace
@@ -582,15 +518,7 @@ pushed-linked r a m claim h bounds l k silent =
 -- what began
 pub begun-early : (r : Run) (q : ℕ) (claim : Claim) → begun_at (past_of r) q ≡ Some claim → q < length r.trace
 unfolding begun_at past_of
-begun-early r q claim e = elim (cases_lt q (length r.trace)) [
-  | inl less ↦ less
-  | inr more ↦
-      let size = length-moments r (length r.trace) in
-      let none = slice_get_past (moments_below r (length r.trace)) q (omega (arith, size, more)) in
-      absurd (let no : ⊥ = (let f = ap (λ o. option_map (λ owing. owing.claim)
-      (option_and_then (λ (m : Moment). m.begun) o)) none in
-      let both = sym f ∙ e in cc) in no)
-]
+begun-early r q claim e = grind (arith, length-moments, slice_get_past)
 
 -- no end that comes is awaited on its line
 pub pushed-endless : (r : Run) (a n q : ℕ) (claim : Claim) → Timely r → KeepsBounds r.plan → n < length r.trace
@@ -617,9 +545,7 @@ pushed-endless r a n q claim h bounds l pushed begun =
     elim (cases_lt x.at k.at) [
       | inl less ↦
           let told = promised-at-end r a claim.line n k.at claim h bounds l x less (omega arith) k.given_then refl in
-          let there : is_promised p a (n + 1) n q ≡ true = (unfold is_promised in
-          ap (λ o. is_some_and o (λ (y : Claim). is_at (promise_told p a y.line (n + 1) n) q)) begun
-          ∙ is_at-from (promise_told p a claim.line (n + 1) n) q (told ∙ ap Some number)) in
+          let there : is_promised p a (n + 1) n q ≡ true = grind arith in
           both_ways (is_promised p a (n + 1) n q) parts.2 there
       | inr from ↦ elim (cases_lt k.at x.at) [
         | inl less ↦

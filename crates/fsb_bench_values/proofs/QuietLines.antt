@@ -1,10 +1,10 @@
 -- Which clocks store nothing into a line: a line with a link is not stored into by a hit, nor behind the snoop end by
 -- what comes with the end of another line.
 use Rattle.std.proofs.Common.{ℕ, ◌+◌, ◌<◌, ◌≤◌, ◌≡◌, Bool, true, false, not, ◌&&◌, ◌||◌, List, [], ◌∷◌, Option, Some}
-use Rattle.std.proofs.Common.{None, length, nat_eq, refl, sym, ap, subst, ◌∙◌, arith}
+use Rattle.std.proofs.Common.{length, nat_eq, refl, ap, subst, ◌∙◌, arith}
 use Rattle.std.specs.Prelude.{◌==◌}
 use Rattle.std.specs.List.{list_all, list_any}
-use Rattle.std.proofs.lemmas.Bool.{and_from, and_parts, both_ways, eq-eqb, or_from, or_left, or_parts, or_right}
+use Rattle.std.proofs.lemmas.Bool.{eq-eqb, or_left}
 use Rattle.fsb_count.specs.Options.{is_some_and}
 use Rattle.fsb_line.specs.Coherence.{Ordered}
 use Rattle.fsb_line.specs.declared.link.Link.{Link}
@@ -29,9 +29,7 @@ use Rattle.fsb_tied.proofs.Interface.{arrived-ready, clock-facts, events-may-hap
 newest-there : (link : Link) (links : List Link)
     → (last : Link) × (newest (link ∷ links) ≡ Some last) × (is_linked last.agent (link ∷ links) ≡ true)
 newest-there link [] = (link, refl, or_left (link.agent == link.agent) false (eq-eqb link.agent link.agent refl))
-newest-there link (next ∷ links) =
-    let k = newest-there next links in
-    (k.0, k.1, or_right (link.agent == k.0.agent) (is_linked k.0.agent (next ∷ links)) k.2)
+newest-there link (next ∷ links) = grind (arith, newest-there next links)
 
 -- so who has a line for itself is linked where there is a link
 pub sole-linked : (x : MemoryLine) (a : ℕ) (link : Link) (links : List Link) → Ordered x → is_sole (x.state a) ≡ true
@@ -41,10 +39,6 @@ sole-linked x a link links ordered sole chain =
     let same : k.0.agent ≡ a = ordered.sole_is_newest a k.0 sole (ap newest chain ∙ k.1) in
     subst (λ b. is_linked b (link ∷ links) ≡ true) same k.2
 
-pub exclusive-holds : (p : Past) (a line n : ℕ) → is_exclusive p a line n ≡ true → holds_line p a line n ≡ true
-unfolding is_exclusive
-exclusive-holds p a line n e = (and_parts (holds_line p a line n) _ (and_parts _ _ e).0).0
-
 -- a line that an agent has for itself, ready, has no link
 pub exclusive-free : (r : Run) (a line n : ℕ) (link : Link) (links : List Link) → Timely r → KeepsBounds r.plan
     → n ≤ length r.trace → is_exclusive (past_of r) a line n ≡ true → is_ready (past_of r) a line n ≡ true
@@ -53,26 +47,17 @@ exclusive-free r a line n link links h bounds l sole ready chain =
     let p : Past = past_of r in
     let tied = (events-may-happen r line n [] h bounds l).1 in
     let x : MemoryLine = run (unheld []) (events_below p line n) in
-    let linked = sole-linked x a link links tied.ordered (tied.tied.sole a ∙ sole) (tied.tied.chain ∙ chain) in
-    let free = unlinked r a line n h l (exclusive-holds p a line n sole) ready in
-    both_ways (is_linked a (link ∷ links)) (sym (ap (is_linked a) chain) ∙ free) linked
+    grind (arith, sole-linked, unlinked)
 
 pub all-so : {X : Type 0} (f g : X → Bool) → ((x : X) → f x ≡ true → g x ≡ true) → (xs : List X)
     → list_all f xs ≡ true → list_all g xs ≡ true
 all-so f g so [] e = refl
-all-so f g so (x ∷ xs) e =
-    let parts = and_parts (f x) (list_all f xs) e in
-    and_from (g x) (list_all g xs) (so x parts.0) (all-so f g so xs parts.1)
+all-so f g so (x ∷ xs) e = grind (arith, all-so f g so xs)
 
 -- of what is said where something is so: where it can't be, the access is a load
 load-where : (hit holds ready load sole : Bool) → (not hit || (holds && ready && (load || sole))) ≡ true
     → (sole ≡ true → ready ≡ true → ⊥) → (not hit || load) ≡ true
-load-where false holds ready load sole e never = refl
-load-where true holds ready true sole e never = refl
-load-where true true true false true e never = absurd (never refl refl)
-load-where true true true false false e never = absurd (let no : ⊥ = cc in no)
-load-where true true false false sole e never = absurd (let no : ⊥ = cc in no)
-load-where true false ready false sole e never = absurd (let no : ⊥ = cc in no)
+load-where hit holds ready load sole h1 h2 = grind arith
 
 -- a line with a link is not stored into by a hit
 pub hits-load : (r : Run) (line n : ℕ) (link : Link) (links : List Link) → Timely r → KeepsBounds r.plan
@@ -95,25 +80,17 @@ brought-nowhere p line n a e = by (ended_requests p n) e
   where
     here : (o : Option Awaited) → is_some_and o (λ (x : Awaited). nat_eq x.line line) ≡ false
         → is_some_and o (is_awaited_for a line) ≡ false
-    here None f = refl
-    here (Some x) f = rw f refl
+    here o h1 = grind arith
 
     by : (qs : List ℕ) → list_any (λ q. is_some_and (awaited_at p n q) (λ awaited. nat_eq awaited.line line)) qs ≡ false
         → list_any (λ q. is_some_and (awaited_at p n q) (is_awaited_for a line)) qs ≡ false
     by [] f = refl
-    by (q ∷ qs) f =
-        let parts = or_parts (is_some_and (awaited_at p n q) (λ (x : Awaited). nat_eq x.line line))
-        (list_any (λ k. is_some_and (awaited_at p n k) (λ (x : Awaited). nat_eq x.line line)) qs) f in
-        or_from (is_some_and (awaited_at p n q) (is_awaited_for a line))
-        (list_any (λ k. is_some_and (awaited_at p n k) (is_awaited_for a line)) qs)
-        (here (awaited_at p n q) parts.0) (by qs parts.1)
+    by (q ∷ qs) f = grind (arith, by qs)
 
 beside-load : (hit brought : Bool) (holds arrived load sole : Bool) → brought ≡ false
     → (not (not hit && not brought) || (holds && arrived && (load || sole))) ≡ true
     → (sole ≡ true → arrived ≡ true → ⊥) → (hit || load) ≡ true
-beside-load true brought holds arrived load sole none e never = refl
-beside-load false false holds arrived load sole none e never = load-where true holds arrived load sole e never
-beside-load false true holds arrived load sole none e never = absurd (let no : ⊥ = cc in no)
+beside-load hit brought holds arrived load sole h1 h2 h3 = grind arith
 
 -- where no end is awaited on a line, and it has a link behind the snoop end, what comes there stores nothing into it
 pub others-load : (r : Run) (line n : ℕ) (link : Link) (links : List Link) → Timely r → KeepsBounds r.plan

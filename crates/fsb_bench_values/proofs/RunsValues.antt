@@ -9,9 +9,8 @@ use Rattle.fsb_coherent.specs.Relation.{chain_below, is_moved_below}
 use Rattle.fsb_coherent.proofs.Interface.{events_below-same}
 use Rattle.fsb_hazard.specs.declared.choice.Choice.{Choice}
 use Rattle.fsb_line.specs.Line.{MemoryLine}
-use Rattle.fsb_line.specs.LineRuns.{run}
 use Rattle.fsb_phase_run.proofs.Interface.{longer}
-use Rattle.fsb_tied.specs.RunBytes.{HasValues, line_of_plan, machine_line}
+use Rattle.fsb_tied.specs.RunBytes.{HasValues, machine_line}
 use Rattle.fsb_tied.proofs.Interface.{bytes-at-end, events-may-happen, memory-kept, now-below-run}
 use Rattle.fsb_timely.specs.Grants.{begun_at}
 use Rattle.fsb_timely.specs.Kept.{bytes_now, bytes_put, line_bytes}
@@ -53,9 +52,7 @@ pub same-line : (v : BenchView) (hold : Bool) (choice : Choice) (line : ℕ) →
     → machine_line (step_run v hold choice) line (next_clock_of v) ≡ machine_line v.run line (next_clock_of v)
 same-line v hold choice line b =
     let grows = grows-to v hold choice b in
-    ap (run (line_of_plan v.run line))
-    (events_below-same v.run (step_run v hold choice) line (next_clock_of v) grows.next (before-growth v.run _ grows)
-    (omega arith))
+    grind (arith, events_below-same)
 
 -- it is that of the longer run, too
 pub line-tied : (v : BenchView) (hold : Bool) (choice : Choice) (line : ℕ) → IsBenchOf v

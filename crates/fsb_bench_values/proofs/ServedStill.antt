@@ -1,7 +1,6 @@
 -- The request that an entry of a bench serves is the one whose line and chunk it has in the longer run.
-use Rattle.std.proofs.Common.{ℕ, ◌+◌, ◌<◌, ◌≡◌, Some, length, nat_eq, sym, ap, ◌∙◌, arith}
-use Rattle.std.specs.List.{find}
-use Rattle.std.specs.Option.{option_and_then, option_map}
+use Rattle.std.proofs.Common.{ℕ, ◌+◌, ◌<◌, ◌≡◌, Some, length, sym, ap, ◌∙◌, arith}
+use Rattle.std.specs.Option.{option_and_then}
 use Rattle.fsb_agent_run.specs.AgentClocks.{number_asked}
 use Rattle.fsb_agent_run.proofs.Interface.{served-number}
 use Rattle.fsb_bench_run.specs.BenchOf.{IsBegunAt, IsServed}
@@ -19,7 +18,7 @@ use Rattle.fsb_timely.specs.Carried.{served_request}
 use Rattle.fsb_timely.specs.Grants.{snooped_at}
 use Rattle.fsb_timely.specs.Growth.{GrowsTo}
 use Rattle.fsb_timely.specs.Moments.{served_number, turns_in}
-use Rattle.fsb_timely.specs.Past.{Grant, Owing, Past, SnoopEnd}
+use Rattle.fsb_timely.specs.Past.{Grant, Past, SnoopEnd}
 use Rattle.fsb_timely.specs.Runs.{Run, past_of}
 use Rattle.fsb_timely.specs.Timely.{Timely}
 use Rattle.fsb_timely.proofs.Interface.{going-alike, owed-same, past-goes_on}
@@ -36,8 +35,7 @@ one-of a b e = cc
 
 asked-same : (p q : Past) (a c line : ℕ) → owed p a c ≡ owed q a c → number_asked p a c line ≡ number_asked q a c line
 unfolding number_asked
-asked-same p q a c line e =
-    λ i. option_map (λ (x : Owing). x.claim.first) (find (λ (x : Owing). nat_eq x.claim.line line) (e i))
+asked-same p q a c line e = grind arith
 
 -- the number that is served, and what began there
 served-by-number : (r s : Run) (served : Served) (i j : ℕ) → GrowsTo r s → Timely s → KeepsBounds s.plan
@@ -67,10 +65,8 @@ served-by r s e served end (Symmetric agent) grows h bounds d begun is =
     let shown_old = begun-shown r q old.0 grows.timely bounds (omega arith) want_old in
     let plain_old = ap (λ o. is_reply o) (live-request r.trace d.number q d.old ∙ shown_old) ∙ want_old.no_reply in
     let itself_old : served_number r.trace (turns_in (past_of r).moments) (live_number_of r.trace q) ≡ Some d.number =
-    ap (served_number r.trace (turns_in (past_of r).moments)) d.rank
-    ∙ itself-served r.trace (turns_in (past_of r).moments) d.number plain_old in
-    let first : served.first ≡ q = one-of served.first q
-    (sym is.first ∙ ap (option_and_then (live_clock_of r.trace)) itself_old ∙ d.old) in
+    grind (arith, itself-served) in
+    let first : served.first ≡ q = grind arith in
     let live = live_clock_of-stays (length r.trace) r.trace s.trace d.number q (agree-grown r s grows)
     (omega arith) d.old in
     let now = begun-stays r s q (Symmetric agent) e.request grows low begun in
@@ -106,10 +102,7 @@ served-by r s e served end Priority grows h bounds d begun is =
     let grant : Grant = g.grant in
     let a : ℕ = grant.agent in
     let alike = going-alike (length r.trace) (past_of r) p (past-goes_on r s grows.next (before-growth r s grows)) in
-    let asked : number_asked p a d.snoop grant.line ≡ Some served.first =
-    sym (asked-same (past_of r) p a d.snoop grant.line
-    (owed-same (length r.trace) (past_of r) p a d.snoop alike (omega arith)))
-    ∙ g.asked in
+    let asked : number_asked p a d.snoop grant.line ≡ Some served.first = grind (arith, asked-same, owed-same) in
     let under : Reaches s (d.snoop + 1) = record { timely = h.timely; bounds = h.bounds; long = omega arith } in
     let there : snooped_at p d.snoop ≡ Some end = sym (snooped-same r s d.snoop grows near) ∙ d.tied.there in
     let reached = snoop_end_of-stays (length r.trace) r.trace s.trace d.number d.snoop (agree-grown r s grows) near

@@ -1,6 +1,5 @@
 -- The line on which an end is awaited after a snoop end is that of the request which is served.
 use Rattle.std.proofs.Common.{ℕ, ◌+◌, ◌<◌, ◌≤◌, ◌≡◌, Option, Some, None, length, refl, sym, ap, subst, ◌∙◌, arith}
-use Rattle.std.specs.Option.{option_and_then}
 use Rattle.fsb_coherent.specs.Awaits.{Awaited, awaited_by}
 use Rattle.fsb_encode.specs.declared.request.Request.{Request}
 use Rattle.fsb_lawful.specs.Beginning.{KeepsBounds}
@@ -8,7 +7,8 @@ use Rattle.fsb_queue.specs.declared.entry.Entry.{Entry}
 use Rattle.fsb_agent_run.proofs.Interface.{served-number}
 use Rattle.fsb_run_laws.specs.Reaches.{Reaches}
 use Rattle.fsb_run_laws.proofs.Interface.{replied-outstanding}
-use Rattle.fsb_tied.proofs.Interface.{begun-shown, begun-want, clock-facts, granted-await, live-request, written-await}
+use Rattle.fsb_tied.proofs.Interface.{begun-shown, begun-want, clock-facts, granted-await, live-request}
+use Rattle.fsb_tied.proofs.Interface.{written-await}
 use Rattle.fsb_timely.specs.Grants.{begun_at}
 use Rattle.fsb_timely.specs.Moments.{claim_at, served_number, turns_in}
 use Rattle.fsb_timely.specs.Past.{Claim, Grant, SnoopEnd}
@@ -53,9 +53,7 @@ pub claim-line : (r : Run) (q a : ℕ) (request : Request) (claim : Claim) → T
     → claim.line ≡ request.line
 claim-line r q a request claim timely bounds l begun_so e =
     let want = begun-want r q claim timely bounds l e in
-    let same = one-of want.request request (sym want.begins
-    ∙ begun-is r q (Symmetric a) request l begun_so) in
-    sym want.line ∙ ap (λ (x : Request). x.line) same
+    grind (arith, begun-is)
 
 -- where the snoop end has this claim
 claimed-line : (r : Run) (t : ℕ) (end : SnoopEnd) (claim : Claim) (awaited : Awaited) (o : Option Grant) → end.grant ≡ o
@@ -87,8 +85,7 @@ serves-by r e served end (Symmetric agent) timely bounds d begun_so is =
     let plain = ap (λ o. is_reply o) (live-request r.trace d.number q d.old ∙ shown) ∙ want.no_reply in
     let itself : served_number r.trace turns (live_number_of r.trace q) ≡ Some d.number =
     ap (served_number r.trace turns) d.rank ∙ itself-served r.trace turns d.number plain in
-    let first : served.first ≡ q = one-of served.first q
-    (sym is.first ∙ ap (option_and_then (live_clock_of r.trace)) itself ∙ d.old) in
+    let first : served.first ≡ q = grind arith in
     let mine = subst (λ x. IsBegunAt r x (Symmetric served.agent) served.request) first is.begun in
     let line = claim-line r q served.agent served.request b.0 timely bounds (omega arith) mine b.1 in
     record {

@@ -1,10 +1,9 @@
 -- The state and the bytes of each line of a cache of which one set has something else.
-use Rattle.std.proofs.Common.{ℕ, ◌<◌, ◌≡◌, ◌≢◌, ◌%◌, ◌/◌, true, false, Option, Some, None, List, [], ◌∷◌, length, refl}
-use Rattle.std.proofs.Common.{sym, ap, subst, ◌∙◌, inl, inr, ⊎_elim, arith, Bool, if◌then◌else◌}
-use Rattle.std.specs.Prelude.{◌==◌, is_some}
-use Rattle.std.specs.List.{slice_index_or}
+use Rattle.std.proofs.Common.{ℕ, ◌<◌, ◌≡◌, ◌≢◌, ◌%◌, ◌/◌, true, Option, Some, None, List, [], ◌∷◌, length, refl, sym}
+use Rattle.std.proofs.Common.{ap, ◌∙◌, ⊎_elim, arith, Bool, if◌then◌else◌}
+use Rattle.std.specs.Prelude.{◌==◌}
 use Rattle.std.specs.Option.{option_map}
-use Rattle.std.proofs.lemmas.Bool.{cases_Bool, cases_eq, eq-eqb, eqb-true, ne_eqb}
+use Rattle.std.proofs.lemmas.Bool.{cases_eq, eq-eqb, ne_eqb}
 use Rattle.fsb_cache.specs.declared.held.Held.{Held}
 use Rattle.fsb_cache.specs.LineValues.{line_with_value}
 use Rattle.fsb_cache.specs.Sets.{CacheSets, bytes_of_held, copies, held_at, held_shared, held_stored, only_line}
@@ -50,11 +49,7 @@ some-before (s ∷ slots) line other slot e = omega arith
 had-as : (old new : CacheSets) (line : ℕ) → held_at new line ≡ held_at old line → is_held (states new line) ≡ true
     → WasHeld old new line
 unfolding states copies
-had-as old new line e held = record {
-  held = ap (λ h. is_held (state_of_held h)) (sym e) ∙ held;
-  same = ap bytes_of_held e;
-  alone = λ own. ap (λ h. is_sole (state_of_held h)) (sym e) ∙ own;
-}
+had-as old new line e held = grind arith
 
 -- what is not there is not held
 gone : (sets : CacheSets) (line : ℕ) → held_at sets line ≡ None → is_held (states sets line) ≡ true → ⊥
@@ -80,16 +75,7 @@ pub lowers-same : (sets : CacheSets) → Lowers sets sets
 lowers-same sets other held = record { held = held; same = refl; alone = λ own. own }
 
 pub lowers-without : (sets : CacheSets) (line : ℕ) → Lowers sets (sets_without sets line)
-lowers-without sets line other held = elim (cases_Bool (is_some (held_at sets line))) [
-  | inl on ↦
-      let same : sets_without sets line ≡ with_slot sets line None = rw on refl in
-      subst (λ s. WasHeld sets s other) (sym same)
-      (lowers-cleared sets line other (subst (λ s. is_held (states s other) ≡ true) same held))
-  | inr off ↦
-      let same : sets_without sets line ≡ sets = rw off refl in
-      subst (λ s. WasHeld sets s other) (sym same)
-      (lowers-same sets other (subst (λ s. is_held (states s other) ≡ true) same held))
-]
+lowers-without sets line = grind (arith, lowers-cleared, lowers-same)
 
 -- of a line that is filled the bytes are those that fill it; and of the others some may have gone
 pub filled-other : (sets : CacheSets) (line other : ℕ) (state : Mesi) (bytes : List ℕ) → other ≢ line
@@ -108,9 +94,7 @@ filled-other sets line other state bytes apart held =
 
 filled-at : (sets : CacheSets) (line : ℕ) (state : Mesi) (bytes : List ℕ) → 0 < length sets
     → held_at (sets_filled sets line state bytes) line ≡ Some (record { line = line; state = state; bytes = bytes })
-filled-at sets line state bytes some =
-    held-same sets line line (Some (record { line = line; state = state; bytes = bytes })) some refl
-    ∙ rw (eq-eqb line line refl) refl
+filled-at sets line state bytes some = grind (arith, held-same)
 
 pub filled-state : (sets : CacheSets) (line : ℕ) (state : Mesi) (bytes : List ℕ) → 0 < length sets
     → states (sets_filled sets line state bytes) line ≡ state
@@ -126,22 +110,16 @@ filled-bytes sets line state bytes some = ap bytes_of_held (filled-at sets line 
 pub filled-apart : (sets : CacheSets) (line other : ℕ) (state : Mesi) (bytes : List ℕ)
     → other % length sets ≢ line % length sets → states (sets_filled sets line state bytes) other ≡ states sets other
 unfolding states
-filled-apart sets line other state bytes away =
-    ap state_of_held (held-apart sets line other (Some (record { line = line; state = state; bytes = bytes })) away)
+filled-apart sets line other state bytes away = grind (arith, held-apart)
 
 pub filled-some : (sets : CacheSets) (line other : ℕ) (state : Mesi) (bytes : List ℕ)
     → is_held (states (sets_filled sets line state bytes) other) ≡ true → 0 < length sets
-filled-some sets line other state bytes held =
-    some-before sets line other (Some (record { line = line; state = state; bytes = bytes })) held
+filled-some sets line other state bytes held = grind (arith, some-before)
 
 -- a line that is held is what its set has
 resident : (line : ℕ) (slot : Option Held) → is_held (state_of_held (only_line line slot)) ≡ true
     → (held : Held) × (slot ≡ Some held) × (held.line ≡ line)
-resident line None e = absurd (let no : ⊥ = cc in no)
-resident line (Some held) e = elim (cases_Bool (held.line == line)) [
-  | inl same ↦ (held, refl, eqb-true held.line line same)
-  | inr other ↦ absurd (let no : ⊥ = (let e' = rw other at e in cc) in no)
-]
+resident line slot h1 = grind arith
 
 resident-at : (sets : CacheSets) (line : ℕ) → is_held (states sets line) ≡ true
     → (held : Held) × (slot_of sets line ≡ Some held) × (held.line ≡ line)
@@ -152,36 +130,16 @@ pub some-held : (sets : CacheSets) (line : ℕ) → is_held (states sets line) �
 some-held [] line held = absurd (held-empty line held)
 some-held (slot ∷ slots) line held = omega arith
 
-only-of : (line : ℕ) (held : Held) → only_line line (Some held) ≡ (if held.line == line then Some held else None)
-only-of line held = refl
-
 absent : (sets : CacheSets) (line other : ℕ) (held : Held) → slot_of sets line ≡ Some held → held.line ≡ line
     → other ≢ line → other % length sets ≡ line % length sets → held_at sets other ≡ None
 unfolding held_at
-absent sets line other held e is apart same =
-    ap (λ k. only_line other (slice_index_or sets k None)) same
-    ∙ ap (only_line other) e
-    ∙ rw (ne_eqb held.line other (λ f. apart (sym f ∙ is))) refl
+absent sets line other held e is apart same = grind arith
 
 -- the line that its set has is changed as it stands, and no other
 changed-at : (sets : CacheSets) (line other : ℕ) (held after : Held) → 0 < length sets → slot_of sets line ≡ Some held
     → held.line ≡ line → after.line ≡ held.line
     → held_at (with_slot sets line (Some after)) other ≡ (if other == line then Some after else held_at sets other)
-changed-at sets line other held after some e is keeps =
-    ⊎_elim
-    (λ (same : other ≡ line).
-    held-same sets line other (Some after) some (ap (λ k. k % length sets) same)
-    ∙ rw (eq-eqb after.line other (keeps ∙ is ∙ sym same), eq-eqb other line same) refl)
-    (λ (apart : other ≢ line).
-    ⊎_elim
-    (λ (same : other % length sets ≡ line % length sets).
-    held-same sets line other (Some after) some same
-    ∙ rw (ne_eqb after.line other (λ f. apart (sym f ∙ keeps ∙ is)), ne_eqb other line apart)
-    (sym (absent sets line other held e is apart same)))
-    (λ (away : other % length sets ≢ line % length sets).
-    held-apart sets line other (Some after) away ∙ rw (ne_eqb other line apart) refl)
-    (cases_eq (other % length sets) (line % length sets)))
-    (cases_eq other line)
+changed-at sets line other held after some e is keeps = grind (arith, held-same, absent, held-apart)
 
 resident-bytes : (sets : CacheSets) (line : ℕ) (held : Held) → slot_of sets line ≡ Some held → held.line ≡ line
     → copies sets line ≡ held.bytes
@@ -190,13 +148,11 @@ resident-bytes sets line held e is = rw (e, eq-eqb held.line line is) refl
 
 chosen-bytes : (b : Bool) (x y : Option Held)
     → bytes_of_held (if b then x else y) ≡ (if b then bytes_of_held x else bytes_of_held y)
-chosen-bytes true x y = refl
-chosen-bytes false x y = refl
+chosen-bytes b x y = grind arith
 
 chosen-state : (b : Bool) (x y : Option Held)
     → state_of_held (if b then x else y) ≡ (if b then state_of_held x else state_of_held y)
-chosen-state true x y = refl
-chosen-state false x y = refl
+chosen-state b x y = grind arith
 
 -- a store into a line that is held changes its bytes and makes it Modified, and leaves the others
 module _ (sets : CacheSets) (addr size value : ℕ) (held : is_held (states sets (addr / 32)) ≡ true) where
@@ -243,20 +199,16 @@ shared-not : (sets : CacheSets) (line other : ℕ) (there : Held)
     → held_at (sets_shared sets line) other ≡ Some (held_shared there)
     → is_sole (states (sets_shared sets line) other) ≡ true → ⊥
 unfolding states
-shared-not sets line other there at own =
-    let no = sym (ap (λ h. is_sole (state_of_held h)) at) ∙ own in (let h : ⊥ = cc in h)
+shared-not sets line other there at own = grind arith
 
 -- a line that is made Shared keeps its bytes
 pub lowers-shared : (sets : CacheSets) (line : ℕ) → is_held (states sets line) ≡ true
     → Lowers sets (sets_shared sets line)
 lowers-shared sets line held other still =
     let there = resident-at sets line held in
-    let slot : option_map held_shared (slot_of sets line) ≡ Some (held_shared there.0) =
-    ap (option_map held_shared) there.1 in
-    let at : held_at (sets_shared sets line) other
-    ≡ (if other == line then Some (held_shared there.0) else held_at sets other) =
-    ap (λ s. held_at (with_slot sets line s) other) slot
-    ∙ changed-at sets line other there.0 (held_shared there.0) (some-held sets line held) there.1 there.2 refl in
+    let slot : option_map held_shared (slot_of sets line) ≡ Some (held_shared there.0) = grind arith in
+    let at : held_at (sets_shared sets line) other ≡ (if other == line then Some (held_shared there.0) else held_at
+    sets other) = grind (arith, changed-at, some-held) in
     ⊎_elim
     (λ (same : other ≡ line). record {
       held = ap (λ l. is_held (states sets l)) same ∙ held;

@@ -1,10 +1,9 @@
 -- The bytes of a line through a clock of a bench: the hits leave those of a line that has a link, and the end leaves
 -- those of a line that has one behind the snoop end, unless its own oldest link ends there and owns.
 use Rattle.std.proofs.Common.{ℕ, suc, ◌+◌, ◌≡◌, Bool, true, false, not, ◌&&◌, ◌||◌, List, [], ◌∷◌, ◌++◌, Some, nat_eq}
-use Rattle.std.proofs.Common.{refl, sym, ap, subst, ◌∙◌, inl, inr, arith}
+use Rattle.std.proofs.Common.{refl, sym, ap, subst, ◌∙◌, arith}
 use Rattle.std.specs.List.{filter, list_all, list_any, slice_get}
-use Rattle.std.proofs.lemmas.Bool.{and_from, and_parts, both_ways, cases_Bool, eq-eqb, false_from_ne_true, not-true}
-use Rattle.std.proofs.lemmas.Bool.{or_parts}
+use Rattle.std.proofs.lemmas.Bool.{and_from, and_parts}
 use Rattle.std.proofs.lemmas.List.Elements.{filter-append}
 use Rattle.std.proofs.lemmas.List.Folds.{list_all-append}
 use Rattle.fsb_access.specs.Access.{accessed_line}
@@ -33,7 +32,8 @@ use Rattle.fsb_bench_view.specs.BenchSteps.{step_fetched, step_run}
 use Rattle.fsb_bench_view.specs.BusViews.{BenchView, next_clock_of}
 use Rattle.fsb_bench_view.specs.ToldAgents.{hit_entries}
 use Rattle.fsb_bench_run.specs.BenchOf.{IsBenchOf}
-use Rattle.fsb_bench_run.proofs.Interface.{AreOfClock, agents-found, before-growth, first-entries, grows-to, timely-now}
+use Rattle.fsb_bench_run.proofs.Interface.{AreOfClock, agents-found, before-growth, first-entries, grows-to}
+use Rattle.fsb_bench_run.proofs.Interface.{timely-now}
 use Rattle.fsb_phase_run.proofs.Interface.{longer}
 use Rattle.fsb_bench_values.proofs.HitBytes.{bytes_hit}
 use Rattle.fsb_bench_values.proofs.LogsInOrder.{log-in-order}
@@ -58,10 +58,7 @@ pub replay-leaves : (state : ReplayState) (line : ℕ) (log : List Done) → lis
     → line_bytes (replay state log).memory line ≡ line_bytes state.memory line
 replay-leaves state line [] placed off = refl
 replay-leaves state line (done ∷ log) placed off =
-    let p = and_parts (is_placed done) (list_all is_placed log) placed in
-    let o = and_parts (not (stores_into line done)) (list_all (λ (d : Done). not (stores_into line d)) log) off in
-    let none : stores_into line done ≡ false = not-true (stores_into line done) o.0 in
-    replay-leaves (served_state state done.agent done.access) line log p.1 o.1 ∙ one-leaves state line done p.0 none
+    grind (arith, one-leaves, replay-leaves (served_state state done.agent done.access) line log)
 
 pub all-apart : {X : Type 0} (f : X → Bool) (xs ys : List X) → list_all f (xs ++ ys) ≡ true
     → (list_all f xs ≡ true) × (list_all f ys ≡ true)
@@ -77,19 +74,7 @@ unfolding stores_into
 quiet-of line n test [] clocks off e = refl
 quiet-of line n test (done ∷ xs) clocks off e =
     let c = and_parts (nat_eq done.clock n) (list_all (λ (d : Done). nat_eq d.clock n) xs) clocks in
-    let o = and_parts (not (test done)) (list_all (λ (d : Done). not (test d)) xs) off in
-    let none : test done ≡ false = not-true (test done) o.0 in
-    elim (cases_Bool (nat_eq (accessed_line done.access) line)) [
-      | inr beside ↦
-          let rest = quiet-of line n test xs c.1 o.1 (rw (c.0, beside) at e) in
-          rw beside (and_from _ _ (ap not (none-and (not (is_load done.access)))) rest)
-      | inl here ↦
-          let e' = rw (c.0, here) at e in
-          let parts = and_parts (test done || is_load done.access) _ e' in
-          let load : is_load done.access ≡ true = rw none at parts.0 in
-          let rest = quiet-of line n test xs c.1 o.1 parts.1 in
-          rw load rest
-    ]
+    grind (arith, quiet-of line n test xs c.1)
   where
     none-and : (b : Bool) → (b && false) ≡ false
     none-and true = refl
@@ -106,14 +91,12 @@ performed-hit p a n w view =
     own : (hand : AtHand) (steps : List Step) → is_hit p w.number n ≡ true
         → list_all (λ (done : Done). is_hit p done.agent n) (entries_at_hand w.number n hand steps) ≡ true
     own hand [] hit = refl
-    own hand (step ∷ steps) hit =
-        and_from (is_hit p w.number n) _ hit (own (hand_after hand step.access) steps hit)
+    own hand (step ∷ steps) hit = grind (arith, own (hand_after hand step.access) steps hit)
 
     by : (b : Bool) → is_hit_by w n ≡ b → is_hit_by w n ≡ is_hit p a n
         → list_all (λ (done : Done). is_hit p done.agent n) (performed_entries w n) ≡ true
     by true e same =
-        let is : performed_entries w n ≡ entries_at_hand w.number n (hand_of w) (next_steps w) =
-        rw (e, performed_entries) refl in
+        let is : performed_entries w n ≡ entries_at_hand w.number n (hand_of w) (next_steps w) = grind arith in
         subst (λ xs. list_all (λ (done : Done). is_hit p done.agent n) xs ≡ true) (sym is)
         (own (hand_of w) (next_steps w) (ap (λ k. is_hit p k n) view.agent.number ∙ sym same ∙ e))
     by false e same =
@@ -135,14 +118,7 @@ none-hit : (test : ℕ → Bool) (n : ℕ) (xs : List Done) → AreOfClock n xs
     → list_all (λ (done : Done). not (test done.agent)) xs ≡ true
 unfolding is_done_at
 none-hit test n [] clocks apart = refl
-none-hit test n (done ∷ xs) clocks apart =
-    let c = and_parts (nat_eq done.clock n) (list_all (λ (d : Done). nat_eq d.clock n) xs) clocks in
-    let off : test done.agent ≡ false = false_from_ne_true (test done.agent) (λ t.
-    let first = or_parts (nat_eq done.agent done.agent && nat_eq done.clock n) _ (apart done.agent t) in
-    both_ways (nat_eq done.agent done.agent && nat_eq done.clock n) first.0
-    (and_from _ _ (eq-eqb done.agent done.agent refl) c.0)) in
-    and_from _ _ (ap not off) (none-hit test n xs c.1 (λ a t. (or_parts (nat_eq done.agent a && nat_eq done.clock n) _
-    (apart a t)).1))
+none-hit test n (done ∷ xs) clocks apart = grind (arith, none-hit test n xs)
 
 -- the log of the run with one more clock, in three parts
 pub record ClockLog (v : BenchView) (hold : Bool) (choice : Choice) : Type 0 where
@@ -201,24 +177,10 @@ on-line : (v : BenchView) (hold : Bool) (choice : Choice) (line : ℕ) (test : D
     k.ends)
     ≡ true)
 unfolding entries_on past_of
-on-line v hold choice line test k e =
-    let n = next_clock_of v in
-    let f : Done → Bool = λ done. nat_eq done.clock n && nat_eq (accessed_line done.access) line in
-    let hits = hit_entries n (step_fetched v).agents in
-    let split : filter f (step_run v hold choice).log ≡ filter f v.run.log ++ (filter f hits ++ filter f k.ends) =
-    ap (filter f) k.whole ∙ filter-append f v.run.log (hits ++ k.ends)
-    ∙ ap (λ xs. filter f v.run.log ++ xs) (filter-append f hits k.ends) in
-    let new = (all-apart test (filter f v.run.log) (filter f hits ++ filter f k.ends)
-    (ap (list_all test) (sym split) ∙ e)).1 in
-    all-apart test (filter f hits) (filter f k.ends) new
+on-line v hold choice line test k e = grind (arith, filter-append, all-apart)
 
 twice : (b : Bool) → b ≡ true → not (not b) ≡ true
-twice true e = refl
-twice false e = e
-
-once : (b c : Bool) → (b || c) ≡ true → (not (not b) || c) ≡ true
-once true c e = refl
-once false c e = e
+twice b h1 = grind arith
 
 -- the hits leave the bytes of a line that has a link
 pub hits-leave : (v : BenchView) (hold : Bool) (choice : Choice) (line : ℕ) (link : Link) (links : List Link)
@@ -245,14 +207,7 @@ ends-then : (v : BenchView) (hold : Bool) (choice : Choice) (line : ℕ) (k : Cl
     → list_all (λ done. not (stores_into line done)) k.ends ≡ true
     → bytes_now (step_run v hold choice) line ≡ bytes_hit v line
 unfolding bytes_now
-ends-then v hold choice line k quiet =
-    let n = next_clock_of v in
-    let hits = hit_entries n (step_fetched v).agents in
-    let start = start_of v.run.plan.mem in
-    let bytes : ReplayState → List ℕ = λ state. line_bytes state.memory line in
-    ap (λ log. bytes (replay start log)) k.whole ∙ ap bytes (replay-append start v.run.log (hits ++ k.ends))
-    ∙ ap bytes (replay-append (replay start v.run.log) hits k.ends)
-    ∙ replay-leaves (replay (replay start v.run.log) hits) line k.ends k.ends_placed quiet
+ends-then v hold choice line k quiet = grind (arith, replay-append, replay-leaves)
 
 -- the end leaves the bytes of a line on which the other entries of the clock load
 pub ends-leave : (v : BenchView) (hold : Bool) (choice : Choice) (line : ℕ) → IsBenchOf v

@@ -1,7 +1,7 @@
 -- The line of the machine behind the request that begins at a clock.
-use Rattle.std.proofs.Common.{ℕ, ◌+◌, ◌≡◌, Bool, true, false, not, ◌&&◌, nat_eq, Option, Some, refl, sym, ap, subst}
-use Rattle.std.proofs.Common.{◌∙◌, inl, inr, arith}
-use Rattle.std.proofs.lemmas.Bool.{cases_lt, eq-eqb, true≢false}
+use Rattle.std.proofs.Common.{ℕ, ◌+◌, ◌≡◌, Bool, true, false, not, ◌&&◌, nat_eq, Option, Some, refl, sym, ap, ◌∙◌}
+use Rattle.std.proofs.Common.{arith}
+use Rattle.std.proofs.lemmas.Bool.{eq-eqb, true≢false}
 use Rattle.std.specs.Option.{option_map_or}
 use Rattle.fsb_count.specs.Options.{is_some_and}
 use Rattle.fsb_line.specs.Line.{MemoryLine, OpenRequest}
@@ -30,31 +30,11 @@ BeginsIt p line n a = begun_at p n ≡ Some (record { first = n; agent = a; line
 -- what is open is open with those that begin at n, and the other way round where none of the agent begins there
 pub later : (p : Past) (a line n : ℕ) (request : OpenRequest) → IsOpenTo p a line n n n request
     → IsOpenTo p a line n (n + 1) n request
-later p a line n request o = record {
-  before = let l = o.before in omega arith;
-  begun = o.begun;
-  wanted = o.wanted;
-  uncancelled = o.uncancelled;
-  unsnooped = o.unsnooped;
-}
-
-begins-at : (p : Past) (a line n : ℕ) (request : OpenRequest) → IsOpenTo p a line n (n + 1) n request
-    → n ≡ request.number → BeginsIt p line n a
-begins-at p a line n request o same =
-    subst (λ k. begun_at p k ≡ Some (record { first = k; agent = a; line = line })) (sym same) o.begun
+later p a line n request o = grind arith
 
 pub earlier : (p : Past) (a line n : ℕ) (request : OpenRequest) → (BeginsIt p line n a → ⊥)
     → IsOpenTo p a line n (n + 1) n request → IsOpenTo p a line n n n request
-earlier p a line n request none o = record {
-  before = elim (cases_lt request.number n) [
-    | inl l ↦ l
-    | inr l ↦ absurd (let below = o.before in none (begins-at p a line n request o (omega arith)))
-  ];
-  begun = o.begun;
-  wanted = o.wanted;
-  uncancelled = o.uncancelled;
-  unsnooped = o.unsnooped;
-}
+earlier p a line n request none o = grind arith
 
 pub kept : (held evicted : Bool) → evicted ≡ false → held ≡ (held && not evicted)
 kept true evicted e = sym (ap not e)

@@ -1,6 +1,6 @@
 -- The request that is cancelled at a clock.
-use Rattle.std.proofs.Common.{ℕ, ◌+◌, ◌≡◌, Bool, true, false, if◌then◌else◌, nat_eq, [], ◌∷◌, Option, Some, None, refl}
-use Rattle.std.proofs.Common.{sym, ap, subst, ◌∙◌, inl, inr}
+use Rattle.std.proofs.Common.{ℕ, ◌+◌, ◌≡◌, Bool, true, false, if◌then◌else◌, nat_eq, [], ◌∷◌, Option, Some, None}
+use Rattle.std.proofs.Common.{refl, sym, ap, ◌∙◌, inl, inr, arith}
 use Rattle.std.proofs.lemmas.Bool.{cases_Bool, eq-eqb, eqb-true, ne_eqb, or_from, or_parts, true≢false}
 use Rattle.std.specs.Option.{option_and_then, option_map_or}
 use Rattle.fsb_count.specs.Options.{is_at, is_some_and}
@@ -37,13 +37,7 @@ uncancelled p a line n request o =
 
 was : (p : Past) (a line n : ℕ) (request : OpenRequest) → IsOpenTo p a line n (n + 1) (n + 1) request
     → IsOpenTo p a line n (n + 1) n request
-was p a line n request o = record {
-  before = o.before;
-  begun = o.begun;
-  wanted = o.wanted;
-  uncancelled = (uncancelled p a line n request o).0;
-  unsnooped = o.unsnooped;
-}
+was p a line n request o = grind (arith, uncancelled)
 
 -- where no open request is cancelled everything stays
 none-cancelled : (p : Past) (line n : ℕ) (x : MemoryLine)
@@ -72,12 +66,6 @@ at-none : (p : Past) (n k : ℕ) → cancelled_in p n ≡ None → is_at (cancel
 unfolding is_at is_some_and
 at-none p n k e = ap (λ o. is_some_and o (λ m. nat_eq m k)) e
 
--- the first clock of an open request shows its claim
-shows : (p : Past) (a line n q : ℕ) (request : OpenRequest) → IsOpenTo p a line n (n + 1) n request → q ≡ request.number
-    → begun_at p q ≡ Some (record { first = q; agent = a; line = line })
-shows p a line n q request o same =
-    subst (λ k. begun_at p k ≡ Some (record { first = k; agent = a; line = line })) (sym same) o.begun
-
 same-request : (o : Option OpenRequest) (request other : OpenRequest) → o ≡ Some request → o ≡ Some other
     → request ≡ other
 same-request o request other e f = ap (λ w. option_map_or (λ r. r) w request) (sym e ∙ f)
@@ -86,8 +74,7 @@ same-request o request other e f = ap (λ w. option_map_or (λ r. r) w request) 
 not-this : (p : Past) (a line n q : ℕ) (request : OpenRequest) → cancelled_in p n ≡ Some q
     → (begun_at p q ≡ Some (record { first = q; agent = a; line = line }) → ⊥) → IsOpenTo p a line n (n + 1) n request
     → is_at (cancelled_in p n) request.number ≡ false
-not-this p a line n q request e other o =
-    not-at p n q request.number e (λ same. other (shows p a line n q request o same))
+not-this p a line n q request e other o = grind (arith, not-at)
 
 cancelled-line : (p : Past) (line n q : ℕ) (claim : Claim) (x : MemoryLine) → BeginsInOrder p line n
     → cancelled_in p n ≡ Some q → begun_at p q ≡ Some claim → nat_eq claim.line line ≡ true → WithBegun p line n n x
@@ -156,8 +143,7 @@ cancels-claim p line n q x h e t (Some claim) f =
 cancels-by : (p : Past) (line n : ℕ) (x : MemoryLine) → BeginsInOrder p line n → WithBegun p line n n x → (o : Option ℕ)
     → cancelled_in p n ≡ o
     → Goes x (option_map_or (cancel_events line) (option_and_then (begun_at p) o) []) (WithBegun p line n (n + 1))
-cancels-by p line n x h t None e =
-    (tt, none-cancelled p line n x (λ a request o. at-none p n request.number e) t)
+cancels-by p line n x h t None e = grind (arith, none-cancelled, at-none)
 cancels-by p line n x h t (Some q) e = cancels-claim p line n q x h e t (begun_at p q) refl
 
 -- the request that is cancelled is open no longer

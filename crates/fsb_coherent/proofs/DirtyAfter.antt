@@ -1,17 +1,16 @@
 -- Who is dirty on a line one clock on: who was so behind the snoop end, and who stored into it with the end of another
 -- line.
 use Rattle.std.proofs.Common.{ℕ, ◌+◌, ◌<◌, ◌≡◌, Bool, true, false, not, ◌&&◌, ◌||◌, nat_eq, nat_lt, slice_get, Some}
-use Rattle.std.proofs.Common.{refl, sym, ap, subst, ◌∙◌, inl, inr, arith}
+use Rattle.std.proofs.Common.{sym, ap, subst, ◌∙◌, inl, inr, arith}
 use Rattle.std.proofs.lemmas.Bool.{and_from, and_parts, both_ways, cases_Bool, eq-eqb, eqb-true, ltb-true, not-true}
 use Rattle.std.proofs.lemmas.Bool.{not_from_false, or_cases, or_left, or_right}
 use Rattle.std.specs.List.{list_all, list_any}
 use Rattle.fsb_count.specs.Options.{is_some_and}
 use Rattle.fsb_count.proofs.Interface.{nat_lt-more}
 use Rattle.fsb_access.specs.declared.log.Done.{Done}
-use Rattle.fsb_access.specs.Access.{accessed_line}
 use Rattle.fsb_timely.specs.Past.{Grant, Past}
-use Rattle.fsb_timely.specs.Grants.{ended_requests, grant_at, has_arrived, holds_line, is_ended, is_exclusive}
-use Rattle.fsb_timely.specs.Grants.{is_granted, is_lost, is_named_by_other, is_ready, is_sole_grant, latest_grant}
+use Rattle.fsb_timely.specs.Grants.{grant_at, has_arrived, holds_line, is_ended, is_exclusive, is_granted, is_lost}
+use Rattle.fsb_timely.specs.Grants.{is_named_by_other, is_sole_grant, latest_grant}
 use Rattle.fsb_timely.specs.Hits.{is_counted, is_dirty, is_hit, is_stored_since}
 use Rattle.fsb_timely.specs.Scripts.{is_load}
 use Rattle.fsb_coherent.specs.Facts.{ClockFacts, is_served_other}
@@ -62,26 +61,7 @@ by-other : (p : Past) (a line n : ℕ) (grant : Grant) → ClockFacts p line n �
     → list_any (is_store_by a) (others_of p line n) ≡ true
 unfolding is_of_other_line has_arrived is_some_and is_brought_to
 by-other p a line n grant h ex latest s clock miss =
-    let done : Done = s.done in
-    let ended : is_ended p n grant.first ≡ true = ap (λ c. is_ended p c grant.first)
-    (sym (eqb-true done.clock n clock)) ∙ s.ended in
-    let ready : is_ready p a line n ≡ true = rw latest ended in
-    let none = unbrought p a line n h (exclusive-holds p a line n ex) ready (ended_requests p n) refl in
-    let agent : done.agent ≡ a = s.store.agent in
-    let not_hit : not (is_hit p done.agent n) ≡ true = ap (λ b. not (is_hit p b n)) agent
-    ∙ not_from_false (is_hit p a n) miss in
-    let not_brought : not (is_brought_to p line n done.agent) ≡ true = ap (λ b. not (is_brought_to p line n b)) agent
-    ∙ not_from_false (is_brought_to p line n a) none in
-    let other : is_of_other_line p line n done ≡ true = and_from (not (is_hit p done.agent n))
-    (not (is_brought_to p line n done.agent)) not_hit not_brought in
-    let store : is_store_by a done ≡ true = and_from (nat_eq done.agent a) (not (is_load done.access))
-    (eq-eqb done.agent a agent) (not_from_false (is_load done.access) s.store.stores) in
-    let on : is_on line n done ≡ true = and_from (nat_eq done.clock n)
-    (nat_eq (accessed_line done.access) line) clock s.store.on in
-    other-stores p a line n
-    ∙ any-from (λ d. is_on line n d && (is_of_other_line p line n d && is_store_by a d)) p.log s.place done s.at
-    (and_from (is_on line n done) (is_of_other_line p line n done && is_store_by a done) on
-    (and_from (is_of_other_line p line n done) (is_store_by a done) other store))
+    grind (arith, eqb-true, unbrought, exclusive-holds, not_from_false, and_from, eq-eqb, other-stores, any-from)
 
 -- dirty by what was before: a store since the latest grant counts at n, or comes with the end of another line
 by-before : (p : Past) (a line n : ℕ) → ClockFacts p line n → is_granted p a line n ≡ false
@@ -93,18 +73,13 @@ by-before p a line n h f d =
     (sym (exclusive-kept p a line n f) ∙ d.exclusive) in
     let latest : latest_grant p a line n ≡ Some d.grant = sym (latest-kept p a line n f) ∙ d.latest in
     let behind : (d.grant.owns || is_stored_since p a line n d.grant.first) ≡ true → is_dirtied p a line n ≡ true =
-    λ owns.
-    or_left (is_dirty_behind p a line n) (list_any (is_store_by a) (others_of p line n))
-    (behind-kept p a line n f
-    ∙ and_from (is_dirty p a line n) (not (is_lost p a line n) && not (is_named_by_other p a line n))
-    (dirty-here p a line n (record { exclusive = parts.0; grant = d.grant; latest = latest; owns = owns })) parts.1) in
+    grind (arith, dirty-here) in
     elim (or_cases d.grant.owns (is_stored_below p a line (n + 1) d.grant.first) d.owns) [
       | inl owns ↦ behind (or_left d.grant.owns (is_stored_since p a line n d.grant.first) owns)
       | inr stored ↦
           let s = stored-parts p a line n d.grant.first stored in
           let counts : is_counted p a n s.done ≡ true → is_dirtied p a line n ≡ true =
-          λ c. behind (or_right d.grant.owns (is_stored_since p a line n d.grant.first)
-          (since-from p a line n d.grant.first s c)) in
+          grind (arith, or_right, since-from) in
           elim (or_cases (nat_lt s.done.clock n) (nat_eq s.done.clock n) s.below) [
             | inl before ↦ counts (or_left (nat_lt s.done.clock n) (nat_eq s.done.clock n && is_hit p a n) before)
             | inr now ↦ elim (cases_Bool (is_hit p a n)) [
@@ -121,29 +96,14 @@ by-before p a line n h f d =
 dirty-then : (p : Past) (a line n : ℕ) → ClockFacts p line n → is_dirty_below p a line (n + 1) ≡ true
     → is_dirtied p a line n ≡ true
 unfolding is_dirty_below
-dirty-then p a line n h e =
-    let d = dirty-parts p a line (n + 1) (is_stored_below p a line (n + 1)) e in
-    elim (cases_Bool (is_granted p a line n)) [
-      | inl t ↦ or_left (is_dirty_behind p a line n) (list_any (is_store_by a) (others_of p line n))
-          (by-grant p a line n h t d)
-      | inr f ↦ by-before p a line n h f d
-    ]
+dirty-then p a line n h e = grind (arith, dirty-parts, or_left, by-grant, by-before)
 
 -- a grant at n that owns dirties its agent
 then-granted : (p : Past) (a line n : ℕ) → is_granted p a line n ≡ true
     → is_some_and (grant_at p n) (λ grant. grant.owns) ≡ true
     → IsDirtyBy p a line (n + 1) (is_stored_below p a line (n + 1))
 unfolding is_some_and is_sole_grant
-then-granted p a line n t e =
-    let there = some-there (grant_at p n) (λ grant. grant.owns) e in
-    let grant : Grant = there.0 in
-    let owns : grant.owns ≡ true = there.2 in
-    record {
-      exclusive = exclusive-granted p a line n t ∙ rw there.1 (or_left grant.owns (not grant.shared) owns);
-      grant = grant;
-      latest = latest-granted p a line n t ∙ there.1;
-      owns = or_left grant.owns (is_stored_below p a line (n + 1) grant.first) owns;
-    }
+then-granted p a line n t e = grind (arith, some-there, exclusive-granted, latest-granted)
 
 -- who was dirty, did not lose the line and was not named by another, is dirty
 then-kept : (p : Past) (a line n : ℕ) → is_granted p a line n ≡ false
@@ -170,8 +130,7 @@ then-kept p a line n f e =
 pub others-served : (p : Past) (line n : ℕ) → ClockFacts p line n
     → list_all (is_served_behind p line n) (others_of p line n) ≡ true
 unfolding is_served_other
-others-served p line n h =
-    all-kept (is_of_other_line p line n) (is_served_behind p line n) (entries_on p line n) h.accesses.others
+others-served p line n h = grind (arith, all-kept)
 
 served-at : (p : Past) (line n place : ℕ) (done : Done) → ClockFacts p line n → slice_get p.log place ≡ Some done
     → is_on line n done ≡ true
@@ -180,8 +139,7 @@ unfolding is_served_other entries_on
 served-at p line n place done h at on other =
     let all = all-of-kept (is_on line n) (is_served_other p line n) p.log h.accesses.others in
     let here = all-at (λ d. not (is_on line n d) || is_served_other p line n d) p.log place done all at in
-    let served : is_served_other p line n done ≡ true = sym (ap (λ b. not b || is_served_other p line n done) on)
-    ∙ here in
+    let served : is_served_other p line n done ≡ true = grind arith in
     sym (ap (λ b. not b || is_served_behind p line n done) other) ∙ served
 
 -- a store of n dirties its agent where the line is served behind the snoop end
@@ -190,22 +148,7 @@ store-dirties : (p : Past) (line n place : ℕ) (done : Done) (grant : Grant) �
     → is_on line n done ≡ true → latest_grant p done.agent line (n + 1) ≡ Some grant → is_ended p n grant.first ≡ true
     → IsDirtyBy p done.agent line (n + 1) (is_stored_below p done.agent line (n + 1))
 store-dirties p line n place done grant at served stores on latest ended =
-    let parts = and_parts (nat_eq done.clock n) (nat_eq (accessed_line done.access) line) on in
-    let stored : IsStoredAt p done.agent line n grant.first = record {
-      done = done;
-      place = place;
-      at = at;
-      store = record { agent = refl; stores = stores; on = parts.1 };
-      ended = ap (λ c. is_ended p c grant.first) (eqb-true done.clock n parts.0) ∙ ended;
-      below = or_right (nat_lt done.clock n) (nat_eq done.clock n) parts.0;
-    } in
-    record {
-      exclusive = alone-behind p line n done served stores;
-      grant = grant;
-      latest = latest;
-      owns = or_right grant.owns (is_stored_below p done.agent line (n + 1) grant.first)
-          (stored-from p done.agent line n grant.first stored);
-    }
+    grind (arith, and_parts, eqb-true, or_right, alone-behind, stored-from)
 
 -- a store that comes with the end of another line dirties its agent
 then-stored : (p : Past) (a line n : ℕ) → ClockFacts p line n → list_any (is_store_by a) (others_of p line n) ≡ true
@@ -238,13 +181,7 @@ then-dirty p a line n h e =
       ]
     ])
 
-alike : (b c : Bool) → (b ≡ true → c ≡ true) → (c ≡ true → b ≡ true) → b ≡ c
-alike true c f g = sym (f refl)
-alike false true f g = g refl
-alike false false f g = refl
-
 -- who is dirty one clock on
 pub dirty-after : (p : Past) (a line n : ℕ) → ClockFacts p line n
     → is_dirty_below p a line (n + 1) ≡ (is_dirty_behind p a line n || list_any (is_store_by a) (others_of p line n))
-dirty-after p a line n h =
-    alike (is_dirty_below p a line (n + 1)) (is_dirtied p a line n) (dirty-then p a line n h) (then-dirty p a line n h)
+dirty-after p a line n h = grind (arith, dirty-then, then-dirty)

@@ -1,8 +1,7 @@
 -- What makes an agent dirty on a line: its latest grant, and its stores since.
-use Rattle.std.proofs.Common.{ℕ, ◌+◌, ◌≤◌, ◌≡◌, ◌==◌, Bool, true, false, not, ◌&&◌, ◌||◌, if◌then◌else◌, nat_eq, nat_lt}
-use Rattle.std.proofs.Common.{List, [], ◌∷◌, slice_get, Option, Some, None, refl, sym, ap, ◌∙◌, arith}
-use Rattle.std.proofs.lemmas.Bool.{and_from, and_parts, both_ways, eq-eqb, eqb-true, false_from_ne_true, not-true}
-use Rattle.std.proofs.lemmas.Bool.{not_from_false, or_from, or_left}
+use Rattle.std.proofs.Common.{ℕ, ◌+◌, ◌≤◌, ◌≡◌, ◌==◌, Bool, true, false, not, ◌&&◌, ◌||◌, nat_eq, nat_lt, List, []}
+use Rattle.std.proofs.Common.{◌∷◌, slice_get, Option, Some, None, refl, sym, ap, ◌∙◌, arith}
+use Rattle.std.proofs.lemmas.Bool.{and_parts, both_ways, eq-eqb, eqb-true, false_from_ne_true, or_from}
 use Rattle.std.specs.List.{filter, list_any}
 use Rattle.fsb_count.specs.Options.{is_some_and}
 use Rattle.fsb_count.proofs.Interface.{any_where-at, any_where-found, nat_lt-more}
@@ -11,16 +10,16 @@ use Rattle.fsb_access.specs.Access.{accessed_line}
 use Rattle.fsb_line.specs.declared.link.Link.{Link}
 use Rattle.fsb_line.specs.Links.{is_linked}
 use Rattle.fsb_timely.specs.Past.{Claim, Grant, Past, SnoopEnd}
-use Rattle.fsb_timely.specs.Grants.{ended_requests, grant_at, holds_line, is_end_at, is_ended, is_exclusive, is_granted}
-use Rattle.fsb_timely.specs.Grants.{is_lost, is_named_by_other, is_ready, is_sole_grant, latest_grant, snooped_at}
+use Rattle.fsb_timely.specs.Grants.{ended_requests, grant_at, holds_line, is_end_at, is_ended, is_exclusive}
+use Rattle.fsb_timely.specs.Grants.{is_granted, is_lost, is_named_by_other, is_ready, is_sole_grant, latest_grant}
+use Rattle.fsb_timely.specs.Grants.{snooped_at}
 use Rattle.fsb_timely.specs.Hits.{is_counted, is_dirty, is_hit, is_store_on, is_stored_since}
-use Rattle.fsb_timely.specs.Moments.{is_upgraded, makes_grant}
 use Rattle.fsb_timely.specs.Scripts.{is_load}
 use Rattle.fsb_timely.proofs.Interface.{is_exclusive-more, latest_grant-more}
 use Rattle.fsb_coherent.specs.Awaits.{Awaited, awaited_at}
 use Rattle.fsb_coherent.specs.Facts.{ClockFacts, SettlesInOrder}
 use Rattle.fsb_coherent.specs.LineEvents.{entries_on, is_awaited_for, is_of_other_line}
-use Rattle.fsb_coherent.specs.Relation.{chain_below, is_stored_below, links_left}
+use Rattle.fsb_coherent.specs.Relation.{chain_below, is_stored_below}
 use Rattle.fsb_coherent.proofs.Behind.{is_dirty_behind}
 use Rattle.fsb_coherent.proofs.Entries.{any-from, any-kept, any-there}
 use Rattle.fsb_coherent.proofs.OtherSteps.{is_store_by}
@@ -35,18 +34,13 @@ pub record IsDirtyBy (p : Past) (a line n : ℕ) (stored : ℕ → Bool) : Type 
 pub some-there : {X : Type 0} (o : Option X) (test : X → Bool) → is_some_and o test ≡ true
     → (x : X) × (o ≡ Some x) × (test x ≡ true)
 unfolding is_some_and
-some-there None test e = absurd (let no : ⊥ = cc in no)
-some-there (Some x) test e = (x, refl, e)
+some-there o test h1 = grind arith
 
 pub dirty-parts : (p : Past) (a line n : ℕ) (stored : ℕ → Bool)
     → (is_exclusive p a line n && is_some_and (latest_grant p a line n) (λ grant. grant.owns || stored grant.first))
     ≡ true
     → IsDirtyBy p a line n stored
-dirty-parts p a line n stored e =
-    let parts = and_parts (is_exclusive p a line n) (is_some_and (latest_grant p a line n)
-    (λ grant. grant.owns || stored grant.first)) e in
-    let there = some-there (latest_grant p a line n) (λ grant. grant.owns || stored grant.first) parts.1 in
-    record { exclusive = parts.0; grant = there.0; latest = there.1; owns = there.2 }
+dirty-parts p a line n stored e = grind (arith, some-there)
 
 pub dirty-from-parts : (p : Past) (a line n : ℕ) (stored : ℕ → Bool) → IsDirtyBy p a line n stored
     → (is_exclusive p a line n && is_some_and (latest_grant p a line n) (λ grant. grant.owns || stored grant.first))
@@ -62,10 +56,6 @@ ended-later p c m q l e =
     let below = found.1 in
     any_where-at (λ t. is_end_at p t q) m found.0 (omega arith) found.2
 
-made : (b : Bool) (mine grant : Grant) → (if b then Some mine else None) ≡ Some grant → mine ≡ grant
-made true mine grant e = cc
-made false mine grant e = absurd (let no : ⊥ = cc in no)
-
 -- a grant of the line at n is of the request whose snoop end is n
 granted-first : (p : Past) (line n : ℕ) (s : SnoopEnd) (grant : Grant) (o : Option Claim) → SettlesInOrder p line n
     → snooped_at p n ≡ Some s → s.grant ≡ Some grant
@@ -80,8 +70,7 @@ granted-first p line n s grant (Some claim) h e g l c =
       owns = settled.fits.owns;
       shared = settled.fits.shared;
     } in
-    let same : mine ≡ grant = made (makes_grant settled.fits.kind s.outcome ||
-    (is_upgraded s.outcome && settled.fits.won)) mine grant (sym settled.fits.granted ∙ g) in
+    let same : mine ≡ grant = grind arith in
     sym (ap (λ (r : Grant). r.first) same)
 
 -- where the line is granted to the agent at n, this is the grant; its request has no end up to n
@@ -96,15 +85,12 @@ unfolding is_granted grant_at
 granted-now p a line n h e =
     let there = some-there (grant_at p n) (λ grant. nat_eq grant.agent a && nat_eq grant.line line) e in
     let grant : Grant = there.0 in
-    let on : grant.line ≡ line = eqb-true grant.line line
-    (and_parts (nat_eq grant.agent a) (nat_eq grant.line line) there.2).1 in
+    let on : grant.line ≡ line = grind arith in
     from-snoop (snooped_at p n) refl grant there.1 on
   where
     from-snoop : (o : Option SnoopEnd) → snooped_at p n ≡ o → (grant : Grant) → grant_at p n ≡ Some grant
         → grant.line ≡ line → IsGrantedNow p a line n
-    from-snoop None f grant g on =
-        let none : grant_at p n ≡ None = rw f refl in
-        absurd (let k = sym none ∙ g in let no : ⊥ = cc in no)
+    from-snoop None f grant g on = grind arith
     from-snoop (Some s) f grant g on =
         let here : grant_at p n ≡ s.grant = rw f refl in
         let first = granted-first p line n s grant s.claim h.settles f (sym here ∙ g) on refl in
@@ -129,8 +115,7 @@ unbrought p a line n h holds ready (q ∷ []) e =
         let oldest = h.ends.oldest q awaited e there.1 (eqb-true awaited.line line parts.0) in
         let link : Link = oldest.0 in
         let of_a : (link.agent == a) ≡ true = eq-eqb link.agent a (oldest.2 ∙ eqb-true awaited.agent a parts.1) in
-        let linked : is_linked a (chain_below p line n) ≡ true = ap (is_linked a) oldest.1
-        ∙ or_left (link.agent == a) (is_linked a (links_left p line (n + 1) n)) of_a in
+        let linked : is_linked a (chain_below p line n) ≡ true = grind arith in
         both_ways (is_linked a (chain_below p line n)) (h.accesses.unlinked a holds ready) linked
 
 -- the entries of n on the line that come with the end of another line
@@ -145,9 +130,7 @@ pub other-stores : (p : Past) (a line n : ℕ)
     → list_any (is_store_by a) (others_of p line n) ≡ list_any
     (λ done. is_on line n done && (is_of_other_line p line n done && is_store_by a done)) p.log
 unfolding entries_on
-other-stores p a line n =
-    any-kept (is_of_other_line p line n) (is_store_by a) (entries_on p line n)
-    ∙ any-kept (is_on line n) (λ done. is_of_other_line p line n done && is_store_by a done) p.log
+other-stores p a line n = grind (arith, any-kept)
 
 -- an entry of agent a on the line that is a store, with its clock
 pub record IsStore (a line : ℕ) (done : Done) : Type 0 where
@@ -157,18 +140,11 @@ pub record IsStore (a line : ℕ) (done : Done) : Type 0 where
 
 store-parts : (a line : ℕ) (done : Done) → is_store_on a line done ≡ true → IsStore a line done
 unfolding is_store_on
-store-parts a line done e =
-    let outer = and_parts (nat_eq done.agent a && not (is_load done.access))
-    (nat_eq (accessed_line done.access) line) e in
-    let inner = and_parts (nat_eq done.agent a) (not (is_load done.access)) outer.0 in
-    record { agent = eqb-true done.agent a inner.0; stores = not-true (is_load done.access) inner.1; on = outer.1 }
+store-parts a line done e = grind arith
 
 store-from : (a line : ℕ) (done : Done) → IsStore a line done → is_store_on a line done ≡ true
 unfolding is_store_on
-store-from a line done h =
-    and_from (nat_eq done.agent a && not (is_load done.access)) (nat_eq (accessed_line done.access) line)
-    (and_from (nat_eq done.agent a) (not (is_load done.access)) (eq-eqb done.agent a h.agent)
-    (not_from_false (is_load done.access) h.stores)) h.on
+store-from a line done h = grind arith
 
 -- a store with its clock below n + 1, above the end of the request that begins at q
 pub record IsStoredAt (p : Past) (a line n q : ℕ) : Type 0 where
@@ -199,27 +175,16 @@ stored-parts p a line n q e =
 
 pub stored-from : (p : Past) (a line n q : ℕ) → IsStoredAt p a line n q → is_stored_below p a line (n + 1) q ≡ true
 unfolding is_stored_below
-stored-from p a line n q h =
-    any-from (λ done. is_store_on a line done && is_ended p done.clock q && nat_lt done.clock
-    (n + 1)) p.log h.place h.done h.at
-    (and_from (is_store_on a line h.done && is_ended p h.done.clock q) (nat_lt h.done.clock (n + 1))
-    (and_from (is_store_on a line h.done) (is_ended p h.done.clock q) (store-from a line h.done h.store) h.ended)
-    (nat_lt-more h.done.clock n ∙ h.below))
+stored-from p a line n q h = grind (arith, any-from, store-from)
 
 -- one that counts at n
 pub since-from : (p : Past) (a line n q : ℕ) (h : IsStoredAt p a line n q) → is_counted p a n h.done ≡ true
     → is_stored_since p a line n q ≡ true
 unfolding is_stored_since
-since-from p a line n q h c =
-    any-from (λ done. is_store_on a line done && is_ended p done.clock q && is_counted p a n done) p.log
-    h.place h.done h.at
-    (and_from (is_store_on a line h.done && is_ended p h.done.clock q) (is_counted p a n h.done)
-    (and_from (is_store_on a line h.done) (is_ended p h.done.clock q) (store-from a line h.done h.store) h.ended) c)
+since-from p a line n q h c = grind (arith, any-from, store-from)
 
 counted-below : (lt eq hit : Bool) → (lt || (eq && hit)) ≡ true → (lt || eq) ≡ true
-counted-below true eq hit e = refl
-counted-below false true hit e = refl
-counted-below false false hit e = e
+counted-below lt eq hit h1 = grind arith
 
 pub since-parts : (p : Past) (a line n q : ℕ) → is_stored_since p a line n q ≡ true → IsStoredAt p a line n q
 unfolding is_stored_since is_counted
@@ -240,38 +205,26 @@ since-parts p a line n q e =
 
 pub latest-granted : (p : Past) (a line n : ℕ) → is_granted p a line n ≡ true
     → latest_grant p a line (n + 1) ≡ grant_at p n
-latest-granted p a line n t =
-    latest_grant-more p a line n ∙ ap (λ b. if b then grant_at p n else latest_grant p a line n) t
+latest-granted p a line n t = grind (arith, latest_grant-more)
 
 pub latest-kept : (p : Past) (a line n : ℕ) → is_granted p a line n ≡ false
     → latest_grant p a line (n + 1) ≡ latest_grant p a line n
-latest-kept p a line n f =
-    latest_grant-more p a line n ∙ ap (λ b. if b then grant_at p n else latest_grant p a line n) f
+latest-kept p a line n f = grind (arith, latest_grant-more)
 
 pub exclusive-granted : (p : Past) (a line n : ℕ) → is_granted p a line n ≡ true
     → is_exclusive p a line (n + 1) ≡ is_some_and (grant_at p n) is_sole_grant
-exclusive-granted p a line n t =
-    is_exclusive-more p a line n ∙ ap (λ b. if b then is_some_and
-    (grant_at p n) is_sole_grant else (is_exclusive p a line n &&
-    (not (is_lost p a line n) && not (is_named_by_other p a line n)))) t
+exclusive-granted p a line n t = grind (arith, is_exclusive-more)
 
 pub exclusive-kept : (p : Past) (a line n : ℕ) → is_granted p a line n ≡ false
     → is_exclusive p a line (n + 1) ≡ (is_exclusive p a line n &&
     (not (is_lost p a line n) && not (is_named_by_other p a line n)))
-exclusive-kept p a line n f =
-    is_exclusive-more p a line n ∙ ap (λ b. if b then is_some_and
-    (grant_at p n) is_sole_grant else (is_exclusive p a line n &&
-    (not (is_lost p a line n) && not (is_named_by_other p a line n)))) f
+exclusive-kept p a line n f = grind (arith, is_exclusive-more)
 
 pub behind-granted : (p : Past) (a line n : ℕ) → is_granted p a line n ≡ true
     → is_dirty_behind p a line n ≡ is_some_and (grant_at p n) (λ grant. grant.owns)
-behind-granted p a line n t =
-    ap (λ b. if b then is_some_and (grant_at p n) (λ grant. grant.owns) else (is_dirty p a line n &&
-    (not (is_lost p a line n) && not (is_named_by_other p a line n)))) t
+behind-granted p a line n t = grind arith
 
 pub behind-kept : (p : Past) (a line n : ℕ) → is_granted p a line n ≡ false
     → is_dirty_behind p a line n ≡ (is_dirty p a line n &&
     (not (is_lost p a line n) && not (is_named_by_other p a line n)))
-behind-kept p a line n f =
-    ap (λ b. if b then is_some_and (grant_at p n) (λ grant. grant.owns) else (is_dirty p a line n &&
-    (not (is_lost p a line n) && not (is_named_by_other p a line n)))) f
+behind-kept p a line n f = grind arith

@@ -1,45 +1,38 @@
 -- An agent that begins a request drops the other line of the cache set that it has.
-use Rattle.std.proofs.Common.{ℕ, ◌+◌, ◌≡◌, Bool, true, false, not, ◌&&◌, if◌then◌else◌, nat_eq, [], ◌∷◌, Some, sym, ap}
-use Rattle.std.proofs.Common.{◌∙◌, inl, inr}
-use Rattle.std.proofs.lemmas.Bool.{and_left, and_right, cases_Bool, eq-eqb, ne_eqb}
-use Rattle.std.specs.Option.{option_map_or}
+use Rattle.std.proofs.Common.{ℕ, ◌+◌, ◌≡◌, Bool, true, false, not, ◌&&◌, if◌then◌else◌, nat_eq, [], ◌∷◌, Some, sym}
+use Rattle.std.proofs.Common.{ap, ◌∙◌, inl, inr, arith}
+use Rattle.std.proofs.lemmas.Bool.{cases_Bool}
 use Rattle.fsb_count.specs.Options.{is_some_and}
 use Rattle.fsb_line.specs.declared.state.Mesi.TheVariants.{Invalid}
 use Rattle.fsb_line.specs.Events.{May, after, effect}
-use Rattle.fsb_line.specs.Events.Event.{Begins, Drops}
+use Rattle.fsb_line.specs.Events.Event.{Drops}
 use Rattle.fsb_line.specs.Line.{MemoryLine, put}
 use Rattle.fsb_line.specs.States.{is_held, is_modified, is_sole}
 use Rattle.fsb_timely.specs.Past.{Claim, Past}
 use Rattle.fsb_timely.specs.Grants.{begun_at, holds_line, is_evicted, is_exclusive, is_rival}
 use Rattle.fsb_timely.specs.Hits.{is_dirty}
-use Rattle.fsb_coherent.specs.Awaits.{purpose_wanted}
 use Rattle.fsb_coherent.specs.Facts.{BeginsInOrder}
 use Rattle.fsb_coherent.specs.LineEvents.{begin_events}
 use Rattle.fsb_coherent.proofs.HitSteps.{AfterHits}
 use Rattle.fsb_coherent.proofs.TiedBetween.{Goes, goes-same, put-cases, tied-trimmed}
-use Rattle.fsb_coherent.proofs.Begun.{BeginsIt, WithBegun, earlier, evicted-by, holds_left, kept, later, lost}
-use Rattle.fsb_coherent.proofs.Begun.{other-line, owns_left, same-line}
+use Rattle.fsb_coherent.proofs.Begun.{BeginsIt, WithBegun, earlier, evicted-by, holds_left, later, other-line}
+use Rattle.fsb_coherent.proofs.Begun.{owns_left, same-line}
 
 dropped-list : (p : Past) (line n : ℕ) (claim : Claim) (b : Bool) → nat_eq claim.line line ≡ false
     → is_rival p claim.line line ≡ b → begin_events p line n claim ≡ (if b then Drops claim.agent ∷ [] else [])
 unfolding begin_events
-dropped-list p line n claim b other rival =
-    let begins = option_map_or (λ k. Begins claim.agent k n ∷ []) (purpose_wanted p claim.agent n) [] in
-    λ i. if other i then begins else (if rival i then Drops claim.agent ∷ [] else [])
+dropped-list p line n claim b other rival = grind arith
 
 -- its agent alone drops the line
 gone : (p : Past) (line n : ℕ) (claim : Claim) → begun_at p n ≡ Some claim → is_rival p claim.line line ≡ true → (b : ℕ)
     → b ≡ claim.agent → is_evicted p b line n ≡ true
 unfolding is_some_and
-gone p line n claim e rival b same =
-    evicted-by p b line n (Some claim) e ∙ (λ i. eq-eqb claim.agent b (sym same) i && rival i)
+gone p line n claim e rival b same = grind (arith, evicted-by)
 
 stays : (p : Past) (line n : ℕ) (claim : Claim) → begun_at p n ≡ Some claim → (b : ℕ) → (b ≡ claim.agent → ⊥)
     → is_evicted p b line n ≡ false
 unfolding is_some_and
-stays p line n claim e b differs =
-    let other = ne_eqb claim.agent b (λ same. differs (sym same)) in
-    evicted-by p b line n (Some claim) e ∙ and_left (nat_eq claim.agent b) (is_rival p claim.line line) other
+stays p line n claim e b differs = grind (arith, evicted-by)
 
 drops : (p : Past) (line n : ℕ) (claim : Claim) (x : MemoryLine) → BeginsInOrder p line n → begun_at p n ≡ Some claim
     → nat_eq claim.line line ≡ false → is_rival p claim.line line ≡ true → AfterHits p line n x
@@ -49,10 +42,8 @@ drops p line n claim x h e other rival t =
     let clean = h.dropped claim e rival in
     let none : (a : ℕ) → BeginsIt p line n a → ⊥ = other-line p line n claim e other in
     let left : (ℕ → Bool) → ℕ → Bool = λ had b. had b && not (is_evicted p b line n) in
-    let here : (had : ℕ → Bool) (b : ℕ) → b ≡ claim.agent → false ≡ left had b = λ had b same.
-    lost (had b) (is_evicted p b line n) (gone p line n claim e rival b same) in
-    let there : (had : ℕ → Bool) (b : ℕ) → (b ≡ claim.agent → ⊥) → had b ≡ left had b = λ had b differs.
-    kept (had b) (is_evicted p b line n) (stays p line n claim e b differs) in
+    let here : (had : ℕ → Bool) (b : ℕ) → b ≡ claim.agent → false ≡ left had b = grind (arith, gone) in
+    let there : (had : ℕ → Bool) (b : ℕ) → (b ≡ claim.agent → ⊥) → had b ≡ left had b = grind (arith, stays) in
     let holds : ℕ → Bool = λ k. holds_line p k line n in
     let owns : ℕ → Bool = λ k. is_exclusive p k line n in
     let y : MemoryLine = record x { state = put x.state claim.agent Invalid } in
@@ -82,8 +73,7 @@ other-begins p line n claim x h e other t =
           goes-same x _ (Drops claim.agent ∷ []) (WithBegun p line n n) (dropped-list p line n claim true other rival)
           (drops p line n claim x h e other rival t)
       | inr apart ↦
-          let unevicted : (b : ℕ) → is_evicted p b line n ≡ false = λ b.
-          evicted-by p b line n (Some claim) e ∙ and_right (nat_eq claim.agent b) (is_rival p claim.line line) apart in
+          let unevicted : (b : ℕ) → is_evicted p b line n ≡ false = grind (arith, evicted-by) in
           goes-same x _ [] (WithBegun p line n n) (dropped-list p line n claim false other apart)
           (tt, same-line p line n x (other-line p line n claim e other) unevicted t)
     ]

@@ -1,9 +1,8 @@
 -- The end of a clock: its event may happen, and the line of the machine behind it is that of the run, but for the
 -- accesses that come with the end of another line.
-use Rattle.std.proofs.Common.{ℕ, ◌+◌, ◌≡◌, true, false, cond, not, ◌&&◌, ◌||◌, ◌++◌, if◌then◌else◌, nat_eq, is_some}
-use Rattle.std.proofs.Common.{List, [], ◌∷◌, Option, Some, None, refl, sym, ap, subst, ◌∙◌, inl, inr}
-use Rattle.std.proofs.Math.Bool.{and-true}
-use Rattle.std.proofs.lemmas.Bool.{and_right, cases_Bool, eqb-true, or_left}
+use Rattle.std.proofs.Common.{ℕ, ◌+◌, ◌≡◌, true, false, not, ◌&&◌, ◌||◌, ◌++◌, if◌then◌else◌, nat_eq, is_some, List}
+use Rattle.std.proofs.Common.{[], ◌∷◌, Option, Some, None, refl, sym, ap, subst, ◌∙◌, inl, inr, arith}
+use Rattle.std.proofs.lemmas.Bool.{and_right, cases_Bool}
 use Rattle.std.specs.Option.{option_map_or}
 use Rattle.fsb_count.specs.Options.{is_some_and}
 use Rattle.fsb_line.specs.declared.link.Link.{Link}
@@ -34,31 +33,16 @@ pub record BringsEnd (p : Past) (line n : ℕ) (y : MemoryLine) (es : List Event
 fresh : (p : Past) (line n : ℕ) → EndsInOrder p line n → (o : Option SnoopEnd) → snooped_at p n ≡ o
     → option_map_or (link_left p line (n + 1) n) o [] ≡ option_map_or (links_of p line n) o []
 unfolding link_left
-fresh p line n h None e = refl
-fresh p line n h (Some s) e = rw (h.newest s e) refl
+fresh p line n h1 o h2 = grind arith
 
 chain-behind : (p : Past) (line n : ℕ) → EndsInOrder p line n
     → chain_below p line (n + 1) ≡ links_left p line (n + 1) n ++ links_new p line n
-chain-behind p line n h =
-    chain-more p line n ∙ ap (λ ls. links_left p line (n + 1) n ++ ls) (fresh p line n h (snooped_at p n) refl)
+chain-behind p line n h = grind (arith, chain-more, fresh)
 
 -- no end is awaited on the line
 no-end : (p : Past) (line n : ℕ) (y : MemoryLine) → EndsInOrder p line n → TiedBehind p line n y
     → does_end_on p line n ≡ false → BringsEnd p line n y []
-no-end p line n y h t none = record {
-  may = tt;
-  tied = record {
-    held = t.held;
-    sole = t.sole;
-    asked = t.asked;
-    opened = t.opened;
-    chain = t.chain ∙ ap (λ ls. ls ++ links_new p line n) (sym (h.others none)) ∙ sym (chain-behind p line n h);
-    deferral = t.deferral;
-    moved = t.moved ∙ sym (h.moved ∙ ap (λ b. (is_moved_below p line n || does_respond_on p line n) && not b) none
-        ∙ and-true (is_moved_below p line n || does_respond_on p line n));
-  };
-  dirty = t.modified;
-}
+no-end p line n y h t none = grind (arith, chain-behind)
 
 -- the end of the oldest link of the line, which has its data if it carries
 pub record IsOldestEnd (p : Past) (line n : ℕ) (link : Link) : Type 0 where
@@ -66,19 +50,10 @@ pub record IsOldestEnd (p : Past) (line n : ℕ) (link : Link) : Type 0 where
   pub oldest : chain_below p line n ≡ link ∷ links_left p line (n + 1) n
   pub moved : carries link ≡ true → is_moved_below p line n ≡ true
 
-there : (y : MemoryLine) (link : Link) → (carries link ≡ true → is_some y.moved ≡ true)
-    → is_some (brought y link) ≡ true
-there y link h =
-    elim (cases_Bool (carries link)) [
-      | inl c ↦ ap (λ b. is_some (cond b y.moved (Some (y.copy link.agent)))) c ∙ h c
-      | inr c ↦ ap (λ b. is_some (cond b y.moved (Some (y.copy link.agent)))) c
-    ]
-
 chain-there : (p : Past) (line n : ℕ) (y : MemoryLine) (link : Link) → EndsInOrder p line n → TiedBehind p line n y
     → IsOldestEnd p line n link
     → y.chain ≡ link ∷ chain_below p line (n + 1)
-chain-there p line n y link h t o =
-    t.chain ∙ ap (λ ls. ls ++ links_new p line n) o.oldest ∙ ap (λ ls. link ∷ ls) (sym (chain-behind p line n h))
+chain-there p line n y link h t o = grind (arith, chain-behind)
 
 ended : (p : Past) (line n : ℕ) (y : MemoryLine) (link : Link) (change : Bytes → Bytes) → EndsInOrder p line n
     → TiedBehind p line n y → IsOldestEnd p line n link
@@ -107,8 +82,7 @@ one-end : (p : Past) (line n : ℕ) (y : MemoryLine) (link : Link) (change : Byt
 unfolding May after effect
 one-end p line n y link change h t o =
     let chain = chain-there p line n y link h t o in
-    let has : is_some (brought y link) ≡ true = there y link
-    (λ c. t.moved ∙ or_left (is_moved_below p line n) (does_respond_on p line n) (o.moved c)) in
+    let has : is_some (brought y link) ≡ true = grind arith in
     record {
       may = (subst (HasArrived y) (sym chain) has, tt);
       tied = subst (λ ls. TiedButDirty p line n (trimmed (oldest_ended y ls change))) (sym chain)
@@ -123,10 +97,7 @@ oldest-end : (p : Past) (line n q : ℕ) (awaited : Awaited) → EndsInOrder p l
     → awaited_at p n q ≡ Some awaited → nat_eq awaited.line line ≡ true
     → (link : Link) × IsOldestEnd p line n link
 unfolding does_end_on is_some_and
-oldest-end p line n q awaited h e f same =
-    let found = h.oldest q awaited e f (eqb-true awaited.line line same) in
-    let ends : does_end_on p line n ≡ true = rw (e, f, same) refl in
-    (found.0, record { ends = ends; oldest = found.1; moved = λ c. found.4 (sym found.3 ∙ c) })
+oldest-end p line n q awaited h e f same = grind arith
 
 does-end-none : (p : Past) (line n q : ℕ) → ended_requests p n ≡ q ∷ [] → awaited_at p n q ≡ None
     → does_end_on p line n ≡ false

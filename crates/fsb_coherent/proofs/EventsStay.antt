@@ -15,6 +15,4 @@ pub events_below-same : (r s : Run) (line n : ℕ) → IsNext r s → IsWhole r 
 unfolding events_below
 events_below-same r s line zero next whole l = refl
 events_below-same r s line (suc n) next whole l =
-    let before = events_below-same r s line n next whole (omega arith) in
-    let here = events_at-same r s line n next whole (omega arith) in
-    cc
+    grind (arith, events_at-same, events_below-same r s line n next whole (omega arith))

@@ -1,19 +1,18 @@
 -- The request that begins at a clock: it is for the line, or its agent drops the line for another one of the cache set.
-use Rattle.std.proofs.Common.{ℕ, ◌+◌, ◌≡◌, true, false, not, if◌then◌else◌, nat_eq, [], ◌∷◌, Option, Some, None}
-use Rattle.std.proofs.Common.{is_some, refl, sym, ap, subst, ◌∙◌, inl, inr, arith}
-use Rattle.std.proofs.lemmas.Bool.{and_right, cases_Bool, cases_lt, eqb-true}
+use Rattle.std.proofs.Common.{ℕ, ◌+◌, ◌≡◌, true, false, not, nat_eq, [], ◌∷◌, Option, Some, None, is_some, refl, sym}
+use Rattle.std.proofs.Common.{ap, subst, ◌∙◌, inl, inr, arith}
+use Rattle.std.proofs.lemmas.Bool.{and_right, cases_Bool, eqb-true}
 use Rattle.std.specs.Option.{option_map_or}
 use Rattle.fsb_count.specs.Options.{is_some_and}
 use Rattle.fsb_line.specs.declared.purpose.Purpose.{Purpose}
 use Rattle.fsb_line.specs.declared.purpose.Purpose.TheVariants as purposes
 use Rattle.fsb_line.specs.Events.{May, MayBegin, after, effect}
-use Rattle.fsb_line.specs.Events.Event.{Begins, Drops}
+use Rattle.fsb_line.specs.Events.Event.{Begins}
 use Rattle.fsb_line.specs.Line.{MemoryLine, OpenRequest, put}
 use Rattle.fsb_line.specs.Links.{is_linked}
 use Rattle.fsb_line.specs.States.{is_held_off, suits}
 use Rattle.fsb_timely.specs.Past.{Claim, Past}
 use Rattle.fsb_timely.specs.Grants.{begun_at, holds_line, is_evicted, is_exclusive, is_rival, set_of}
-use Rattle.fsb_timely.specs.Runs.{past_to}
 use Rattle.fsb_coherent.specs.Awaits.{purpose_wanted}
 use Rattle.fsb_coherent.specs.Facts.{BeginsInOrder, IsBegunRightly, suits_holder}
 use Rattle.fsb_coherent.specs.LineEvents.{begin_events, begins_on}
@@ -25,23 +24,16 @@ use Rattle.fsb_coherent.proofs.Begun.{BeginsIt, WithBegun, agent_of, earlier, ev
 use Rattle.fsb_coherent.proofs.DropStep.{other-begins}
 
 nobody : (o : Option OpenRequest) → ((request : OpenRequest) → o ≡ Some request → ⊥) → o ≡ None
-nobody None none = refl
-nobody (Some request) none = absurd (none request refl)
+nobody o h1 = grind arith
 
 suited-state : (p : Past) (line n a : ℕ) (kind : Purpose) (x : MemoryLine) → suits_holder p a line n kind ≡ true
     → AfterHits p line n x → suits kind (x.state a) ≡ true
 unfolding suits_holder
-suited-state p line n a purposes.Read x s t = ap not (t.held a) ∙ s
-suited-state p line n a purposes.Own x s t = ap not (t.sole a) ∙ s
-suited-state p line n a purposes.Upgrade x s t = ap not (t.sole a) ∙ s
-suited-state p line n a purposes.WriteBack x s t = t.modified a ∙ s
+suited-state p line n a kind x h1 h2 = grind arith
 
 free : (kind : Purpose) (o : Option OpenRequest) → (kind ≡ purposes.WriteBack → o ≡ None)
     → is_held_off kind (is_some o) ≡ false
-free purposes.Read o none = refl
-free purposes.Own o none = refl
-free purposes.Upgrade o none = refl
-free purposes.WriteBack o none = ap is_some (none refl)
+free kind o h1 = grind arith
 
 may-begin : (p : Past) (line n a : ℕ) (x : MemoryLine) (b : IsBegunRightly p line n a) → AfterHits p line n x
     → MayBegin x a b.kind n
@@ -61,35 +53,12 @@ may-begin p line n a x b t =
 -- the request for the line that begins, as it is open
 begun-open : (p : Past) (line n a : ℕ) (b : IsBegunRightly p line n a) → GoesOnAt p n → BeginsIt p line n a
     → IsOpenTo p a line n (n + 1) n (record { kind = b.kind; number = n })
-begun-open p line n a b h e = record {
-  before = omega arith;
-  begun = e;
-  wanted = purpose-to p n h a ∙ b.wanted;
-  uncancelled = b.uncancelled;
-  unsnooped = b.unsnooped;
-}
+begun-open p line n a b h e = grind (arith, purpose-to)
 
 -- an open request of its agent is that one
 only-open : (p : Past) (line n a : ℕ) (b : IsBegunRightly p line n a) (request : OpenRequest) → GoesOnAt p n
     → IsOpenTo p a line n (n + 1) n request → record { kind = b.kind; number = n } ≡ request
-only-open p line n a b request h o =
-    elim (cases_lt request.number n) [
-      | inl l ↦
-          absurd (b.no_ask request (record {
-            before = l;
-            begun = o.begun;
-            wanted = o.wanted;
-            uncancelled = o.uncancelled;
-            unsnooped = o.unsnooped;
-          }))
-      | inr l ↦
-          let below = o.before in
-          let number : n ≡ request.number = omega arith in
-          let wanted : Some b.kind ≡ Some request.kind =
-          sym (purpose-to p n h a ∙ b.wanted) ∙ ap (λ k. purpose_wanted (past_to p k) a k) number ∙ o.wanted in
-          let kind : b.kind ≡ request.kind = ap (λ w. option_map_or (λ k. k) w b.kind) wanted in
-          λ i. record { kind = kind i; number = number i }
-    ]
+only-open p line n a b request h o = grind (arith, purpose-to)
 
 begun-line : (p : Past) (line n a : ℕ) (x : MemoryLine) (b : IsBegunRightly p line n a) → GoesOnAt p n
     → BeginsIt p line n a
@@ -126,9 +95,7 @@ begun-line p line n a x b h e stays t =
 begun-list : (p : Past) (line n : ℕ) (claim : Claim) (kind : Purpose) → nat_eq claim.line line ≡ true
     → purpose_wanted p claim.agent n ≡ Some kind → begin_events p line n claim ≡ Begins claim.agent kind n ∷ []
 unfolding begin_events
-begun-list p line n claim kind same wanted =
-    let drops = if is_rival p claim.line line then Drops claim.agent ∷ [] else [] in
-    λ i. if same i then option_map_or (λ k. Begins claim.agent k n ∷ []) (wanted i) [] else drops
+begun-list p line n claim kind same wanted = grind arith
 
 no-rival : (p : Past) (line other : ℕ) → nat_eq other line ≡ true → is_rival p other line ≡ false
 unfolding is_rival
@@ -146,8 +113,7 @@ line-begins p line n claim x h g e same t =
     let begins : BeginsIt p line n claim.agent =
     e ∙ (λ i. Some (record { first = first i; agent = claim.agent; line = there i })) in
     let apart = no-rival p line claim.line same in
-    let stays : (c : ℕ) → is_evicted p c line n ≡ false = λ c.
-    evicted-by p c line n (Some claim) e ∙ and_right (nat_eq claim.agent c) (is_rival p claim.line line) apart in
+    let stays : (c : ℕ) → is_evicted p c line n ≡ false = grind (arith, evicted-by) in
     goes-same x _ (Begins claim.agent b.kind n ∷ []) (WithBegun p line n n)
     (begun-list p line n claim b.kind same b.wanted) (begun-line p line n claim.agent x b g begins stays t)
 
@@ -155,9 +121,7 @@ begins-by : (p : Past) (line n : ℕ) (x : MemoryLine) → BeginsInOrder p line 
     → (o : Option Claim) → begun_at p n ≡ o
     → Goes x (option_map_or (begin_events p line n) o []) (WithBegun p line n n)
 unfolding is_some_and
-begins-by p line n x h g t None e =
-    let none : (a : ℕ) → BeginsIt p line n a → ⊥ = λ a f. let shown = sym e ∙ f in (let no : ⊥ = cc in no) in
-    (tt, same-line p line n x none (λ a. evicted-by p a line n None e) t)
+begins-by p line n x h g t None e = grind (arith, same-line, evicted-by)
 begins-by p line n x h g t (Some claim) e =
     elim (cases_Bool (nat_eq claim.line line)) [
       | inl same ↦ line-begins p line n claim x h g e same t

@@ -1,5 +1,5 @@
 -- The events of a clock before its snoop end may happen to the line of the machine, and keep it that of the run.
-use Rattle.std.proofs.Common.{ℕ, ◌+◌, ◌++◌, List}
+use Rattle.std.proofs.Common.{ℕ, ◌+◌, ◌++◌, List, arith}
 use Rattle.fsb_line.specs.Coherence.{Valued}
 use Rattle.fsb_line.specs.Events.{Event}
 use Rattle.fsb_line.specs.Line.{MemoryLine, OpenRequest}
@@ -18,23 +18,11 @@ use Rattle.fsb_coherent.proofs.TiedBetween.{Goes, IsOpenTo, goes-on}
 
 open-through : (p : Past) (a line n : ℕ) (request : OpenRequest) → IsOpenTo p a line n (n + 1) (n + 1) request
     → IsOpenThrough p a line n request
-open-through p a line n request o = record {
-  before = o.before;
-  begun = o.begun;
-  wanted = o.wanted;
-  uncancelled = o.uncancelled;
-  unsnooped = o.unsnooped;
-}
+open-through p a line n request o = grind arith
 
 from-through : (p : Past) (a line n : ℕ) (request : OpenRequest) → IsOpenThrough p a line n request
     → IsOpenTo p a line n (n + 1) (n + 1) request
-from-through p a line n request o = record {
-  before = o.before;
-  begun = o.begun;
-  wanted = o.wanted;
-  uncancelled = o.uncancelled;
-  unsnooped = o.unsnooped;
-}
+from-through p a line n request o = grind arith
 
 tied-through : (p : Past) (line n : ℕ) (x : MemoryLine) → WithBegun p line n (n + 1) x → TiedThrough p line n x
 tied-through p line n x t = record {

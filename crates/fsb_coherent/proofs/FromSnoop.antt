@@ -1,6 +1,5 @@
 -- From the snoop end of a clock on: its events may happen, and the line of the machine after them is that of the run.
-use Rattle.std.proofs.Common.{ℕ, ◌+◌, ◌≡◌, ◌||◌, ◌++◌, sym, subst, ◌∙◌, ap}
-use Rattle.std.specs.List.{list_any}
+use Rattle.std.proofs.Common.{ℕ, ◌+◌, ◌≡◌, ◌++◌, sym, subst, ◌∙◌, ap, arith}
 use Rattle.fsb_line.specs.Coherence.{Ordered}
 use Rattle.fsb_line.specs.Line.{MemoryLine}
 use Rattle.fsb_line.specs.LineRuns.{MayRun, run}
@@ -15,21 +14,12 @@ use Rattle.fsb_coherent.proofs.Clocks.{MayRun-append, run-append}
 use Rattle.fsb_coherent.proofs.DirtyAfter.{dirty-after, others-served}
 use Rattle.fsb_coherent.proofs.DirtyParts.{others_of}
 use Rattle.fsb_coherent.proofs.EndSteps.{ends-step}
-use Rattle.fsb_coherent.proofs.OtherSteps.{accesses-step, is_store_by}
+use Rattle.fsb_coherent.proofs.OtherSteps.{accesses-step}
 use Rattle.fsb_coherent.proofs.SnoopStep.{snoop-step}
 
 with-dirty : (p : Past) (line n : ℕ) (x : MemoryLine) → TiedButDirty p line n x
     → ((a : ℕ) → is_modified (x.state a) ≡ is_dirty_below p a line (n + 1)) → Tied p line (n + 1) x
-with-dirty p line n x t dirty = record {
-  held = t.held;
-  sole = t.sole;
-  modified = dirty;
-  asked = t.asked;
-  opened = t.opened;
-  chain = t.chain;
-  deferral = t.deferral;
-  moved = t.moved;
-}
+with-dirty p line n x t dirty = grind arith
 
 -- the snoop end, the end, and the accesses that come with it
 pub from-snoop : (p : Past) (line n : ℕ) (x : MemoryLine) → ClockFacts p line n → Ordered x → TiedThrough p line n x
@@ -42,15 +32,12 @@ from-snoop p line n x facts ordered tied =
     let z : MemoryLine = run y (ends_on p line n) in
     let other = accesses-step p line n z (others_of p line n) facts.accesses end.tied (others-served p line n facts) in
     let dirty : (a : ℕ) → is_modified ((run z (others_on p line n)).state a) ≡ is_dirty_below p a line (n + 1) =
-    λ a.
-    other.dirty a ∙ ap (λ b. b || list_any (is_store_by a) (others_of p line n)) (end.dirty a)
-    ∙ sym (dirty-after p a line n facts) in
+    grind (arith, dirty-after) in
     let last : Tied p line (n + 1) (run z (others_on p line n)) = with-dirty p line n
     (run z (others_on p line n)) other.tied dirty in
     let both : MayRun x (snoops_on p line n ++ ends_on p line n) = MayRun-append x (snoops_on p line n)
     (ends_on p line n) snoop.0 end.may in
-    let after_both : run x (snoops_on p line n ++ ends_on p line n)
-    ≡ z = run-append x (snoops_on p line n) (ends_on p line n) in
+    let after_both : run x (snoops_on p line n ++ ends_on p line n) ≡ z = grind (arith, run-append) in
     let whole : run x (snoops_on p line n ++ ends_on p line n ++ others_on p line n) ≡ run z (others_on p line n) =
     run-append x (snoops_on p line n ++ ends_on p line n) (others_on p line n)
     ∙ ap (λ w. run w (others_on p line n)) after_both in (

@@ -1,8 +1,8 @@
 -- The hits of a clock, one after the other.
 use Rattle.std.proofs.Common.{ℕ, ◌≡◌, Bool, true, false, not, ◌&&◌, ◌||◌, if◌then◌else◌, nat_eq, List, [], ◌∷◌, ◌++◌}
-use Rattle.std.proofs.Common.{map, refl, sym, ap, ◌∙◌, inl, inr}
-use Rattle.std.proofs.Math.Bool.{and-true, or-false}
-use Rattle.std.proofs.lemmas.Bool.{and_parts, and_left, and_right, cases_Bool, eq-eqb, ne_eqb, or_right}
+use Rattle.std.proofs.Common.{map, sym, ap, ◌∙◌, inl, inr, arith}
+use Rattle.std.proofs.Math.Bool.{and-true}
+use Rattle.std.proofs.lemmas.Bool.{and_parts, cases_Bool}
 use Rattle.std.specs.List.{filter, list_all, list_any}
 use Rattle.fsb_access.specs.declared.log.Done.{Done}
 use Rattle.fsb_line.specs.declared.state.Mesi.TheVariants.{Modified}
@@ -20,7 +20,8 @@ use Rattle.fsb_coherent.specs.LineEvents.{access_event, change_of, entries_on, h
 use Rattle.fsb_coherent.specs.Relation.{is_dirty_below}
 use Rattle.fsb_coherent.proofs.HitStores.{by-store, does_store, dirty-with-hits, served-parts}
 use Rattle.fsb_coherent.proofs.ResponseStep.{AfterResponse}
-use Rattle.fsb_coherent.proofs.TiedBetween.{Goes, TiedBetween, goes-on, goes-same, put-cases, tied-dirty, tied-trimmed}
+use Rattle.fsb_coherent.proofs.TiedBetween.{Goes, TiedBetween, goes-on, goes-same, put-cases, tied-dirty}
+use Rattle.fsb_coherent.proofs.TiedBetween.{tied-trimmed}
 
 -- the line of the machine in the middle of the hits, where the agents with this test are dirty on it
 abbrev AmongHits : Past → ℕ → ℕ → (ℕ → Bool) → MemoryLine → Type 0
@@ -50,10 +51,8 @@ store-step : (p : Past) (line n a : ℕ) (dirty : ℕ → Bool) (change : Bytes 
     → Goes x (Stores a change ∷ []) (AmongHits p line n (λ b. dirty b || nat_eq a b))
 unfolding May after effect
 store-step p line n a dirty change x r held alone t =
-    let here : (b : ℕ) → b ≡ a → true ≡ (dirty b || nat_eq a b) = λ b same.
-    sym (or_right (dirty b) (nat_eq a b) (eq-eqb a b (sym same))) in
-    let there : (b : ℕ) → (b ≡ a → ⊥) → dirty b ≡ (dirty b || nat_eq a b) = λ b other.
-    sym (ap (λ m. dirty b || m) (ne_eqb a b (λ same. other (sym same))) ∙ or-false (dirty b)) in
+    let here : (b : ℕ) → b ≡ a → true ≡ (dirty b || nat_eq a b) = grind arith in
+    let there : (b : ℕ) → (b ≡ a → ⊥) → dirty b ≡ (dirty b || nat_eq a b) = grind arith in
     let y : MemoryLine =
     record x { state = put x.state a Modified; copy = put x.copy a (change (x.copy a)); now = change x.now } in
     let stored : AmongHits p line n (λ b. dirty b || nat_eq a b) y = record {
@@ -79,8 +78,7 @@ hit_events p n done = if is_hit p done.agent n then access_event done ∷ [] els
 as-after : (p : Past) (line n : ℕ) (dirty other : ℕ → Bool) (done : Done) (x : MemoryLine)
     → ((a : ℕ) → other a ≡ (dirty a || does_store p n a done)) → AmongHits p line n other x
     → AfterEntry p line n dirty done x
-as-after p line n dirty other done x same t =
-    tied-dirty p line n n n _ _ other (λ a. dirty a || does_store p n a done) x same t
+as-after p line n dirty other done x same t = grind arith
 
 access-list : (done : Done) (b : Bool) → is_load done.access ≡ b
     → access_event done ∷ [] ≡ (if b then Loads done.agent else Stores done.agent (change_of done)) ∷ []
@@ -88,8 +86,7 @@ unfolding access_event
 access-list done b e = ap (λ t. (if t then Loads done.agent else Stores done.agent (change_of done)) ∷ []) e
 
 no-store : (d load b : Bool) (h : Bool) → load ≡ true → d ≡ (d || (h && (b && not load)))
-no-store d load b h e =
-    sym (ap (λ m. d || m) (and_right h (b && not load) (and_right b (not load) (ap not e))) ∙ or-false d)
+no-store d load b h e = grind arith
 
 a-store : (d load b : Bool) (h : Bool) → load ≡ false → h ≡ true → (d || b) ≡ (d || (h && (b && not load)))
 a-store d load b h e f = ap (λ m. d || m) (sym ((λ i. f i && (b && not (e i))) ∙ and-true b))
@@ -126,19 +123,16 @@ hit-step p line n dirty done x h served t =
           (access-step p line n dirty done x h served hit t)
       | inr none ↦
           let events = ap (λ b. if b then access_event done ∷ [] else []) none in
-          let same : (a : ℕ) → dirty a ≡ (dirty a || does_store p n a done) = λ a.
-          sym (ap (λ b. dirty a || b) (and_left (is_hit p done.agent n) _ none) ∙ or-false (dirty a)) in
+          let same : (a : ℕ) → dirty a ≡ (dirty a || does_store p n a done) = grind arith in
           goes-same x _ [] (AfterEntry p line n dirty done) events (tt, as-after p line n dirty dirty done x same t)
     ]
 
 first-of : (b : Bool) (done : Done) (es : List Done)
     → map access_event (if b then done ∷ es else es) ≡ (if b then access_event done ∷ [] else []) ++ map access_event es
-first-of true done es = refl
-first-of false done es = refl
+first-of b done es = grind arith
 
 or-joined : (a b c : Bool) → ((a || b) || c) ≡ (a || (b || c))
-or-joined true b c = refl
-or-joined false b c = refl
+or-joined a b c = grind arith
 
 -- the line of the machine after the hits among these entries
 abbrev AfterEntries : Past → ℕ → ℕ → (ℕ → Bool) → List Done → MemoryLine → Type 0
@@ -147,8 +141,7 @@ AfterEntries p line n dirty es x = AmongHits p line n (λ a. dirty a || list_any
 among : (p : Past) (line n : ℕ) (dirty : ℕ → Bool) (es : List Done) (x : MemoryLine) → AccessesServed p line n
     → list_all (is_served_hit p line n) es ≡ true → AmongHits p line n dirty x
     → Goes x (map access_event (filter (λ done. is_hit p done.agent n) es)) (AfterEntries p line n dirty es)
-among p line n dirty [] x h served t =
-    (tt, tied-dirty p line n n n _ _ dirty (λ a. dirty a || false) x (λ a. sym (or-false (dirty a))) t)
+among p line n dirty [] x h served t = grind arith
 among p line n dirty (done ∷ es) x h served t =
     let parts = and_parts (is_served_hit p line n done) (list_all (is_served_hit p line n) es) served in
     let hits : List Done = filter (λ d. is_hit p d.agent n) es in

@@ -1,10 +1,9 @@
 -- The accesses to a line that come with the end of another line may happen, and dirty it for whoever stores.
-use Rattle.std.proofs.Common.{ℕ, ◌+◌, ◌≡◌, ◌==◌, Bool, true, false, cond, not, ◌&&◌, ◌||◌, if◌then◌else◌, nat_eq, List}
-use Rattle.std.proofs.Common.{[], ◌∷◌, map, refl, sym, ap, subst, ◌∙◌, inl, inr}
-use Rattle.std.proofs.Math.Bool.{or-false, or_assoc, or-true}
-use Rattle.std.proofs.lemmas.Bool.{and_parts, cases_Bool, eqb-true}
+use Rattle.std.proofs.Common.{ℕ, ◌+◌, ◌≡◌, Bool, true, false, not, ◌&&◌, ◌||◌, nat_eq, List, [], ◌∷◌, map, refl, sym}
+use Rattle.std.proofs.Common.{ap, subst, ◌∙◌, inl, inr, arith}
+use Rattle.std.proofs.Math.Bool.{or_assoc}
+use Rattle.std.proofs.lemmas.Bool.{and_parts, cases_Bool}
 use Rattle.std.specs.List.{list_all, list_any}
-use Rattle.fsb_count.proofs.Interface.{nat_eq-sym}
 use Rattle.fsb_access.specs.declared.log.Done.{Done}
 use Rattle.fsb_line.specs.declared.state.Mesi.{Mesi}
 use Rattle.fsb_line.specs.declared.state.Mesi.TheVariants.{Modified}
@@ -54,11 +53,7 @@ pub record IsServed (p : Past) (line n : ℕ) (done : Done) : Type 0 where
 
 pub served-parts : (p : Past) (line n : ℕ) (done : Done) → is_served_behind p line n done ≡ true
     → IsServed p line n done
-served-parts p line n done served =
-    let outer = and_parts (holds_line p done.agent line (n + 1) && has_arrived p done.agent line (n + 1) n)
-    (is_load done.access || is_exclusive p done.agent line (n + 1)) served in
-    let inner = and_parts (holds_line p done.agent line (n + 1)) (has_arrived p done.agent line (n + 1) n) outer.0 in
-    record { held = inner.0; arrived = inner.1; alone = outer.1 }
+served-parts p line n done served = grind arith
 
 ready : (p : Past) (line n : ℕ) (z : MemoryLine) (done : Done) → AccessesServed p line n → TiedButDirty p line n z
     → IsServed p line n done → IsReady z done.agent
@@ -69,57 +64,25 @@ ready p line n z done h t served = record {
 
 pub alone-behind : (p : Past) (line n : ℕ) (done : Done) → IsServed p line n done → is_load done.access ≡ false
     → is_exclusive p done.agent line (n + 1) ≡ true
-alone-behind p line n done served store =
-    sym (ap (λ b. b || is_exclusive p done.agent line (n + 1)) store) ∙ served.alone
-
-load-dirties : (m e : Bool) (load : Bool) → load ≡ true → m ≡ (m || (e && not load))
-load-dirties true e load l = refl
-load-dirties false true load l = sym (ap not l)
-load-dirties false false load l = refl
+alone-behind p line n done served store = grind arith
 
 loads : (p : Past) (line n : ℕ) (z : MemoryLine) (done : Done) → AccessesServed p line n → TiedButDirty p line n z
     → IsServed p line n done
     → is_load done.access ≡ true → BringsAccess p line n z done (Loads done.agent)
 unfolding May after effect trimmed
-loads p line n z done h t served load = record {
-  may = ready p line n z done h t served;
-  tied = record {
-    held = t.held;
-    sole = t.sole;
-    asked = t.asked;
-    opened = t.opened;
-    chain = t.chain;
-    deferral = t.deferral;
-    moved = t.moved;
-  };
-  dirty = λ a. load-dirties (is_modified (z.state a)) (nat_eq done.agent a) (is_load done.access) load;
-}
+loads p line n z done h t served load = grind arith
 
 -- a test that a Modified state passes stays as the run has it where the agent stores
 stored-test : (test : Mesi → Bool) (z : MemoryLine) (a b : ℕ) (says : ℕ → Bool) → test Modified ≡ true
     → says a ≡ true → test (z.state b) ≡ says b
     → test (put z.state a Modified b) ≡ says b
 unfolding put
-stored-test test z a b says m here e =
-    elim (cases_Bool (b == a)) [
-      | inl same ↦ ap (λ t. test (cond t Modified (z.state b))) same ∙ m ∙ sym (ap says (eqb-true b a same) ∙ here)
-      | inr other ↦ ap (λ t. test (cond t Modified (z.state b))) other ∙ e
-    ]
+stored-test test z a b says m here e = grind arith
 
 store-dirties : (z : MemoryLine) (a b : ℕ) (load : Bool) → load ≡ false
     → is_modified (put z.state a Modified b) ≡ (is_modified (z.state b) || (nat_eq a b && not load))
 unfolding put
-store-dirties z a b load l =
-    elim (cases_Bool (b == a)) [
-      | inl same ↦
-          ap (λ t. is_modified (cond t Modified (z.state b))) same
-          ∙ sym ((λ i. is_modified (z.state b) || ((nat_eq-sym a b ∙ same) i && not (l i)))
-          ∙ or-true (is_modified (z.state b)))
-      | inr other ↦
-          ap (λ t. is_modified (cond t Modified (z.state b))) other
-          ∙ sym ((λ i. is_modified (z.state b) || ((nat_eq-sym a b ∙ other) i && not (l i)))
-          ∙ or-false (is_modified (z.state b)))
-    ]
+store-dirties z a b load l = grind arith
 
 stores : (p : Past) (line n : ℕ) (z : MemoryLine) (done : Done) (change : Bytes → Bytes) → AccessesServed p line n
     → TiedButDirty p line n z → IsServed p line n done
@@ -150,12 +113,10 @@ unfolding access_event
 access p line n z done h t served =
     elim (cases_Bool (is_load done.access)) [
       | inl load ↦
-          let here : access_event done ≡ Loads done.agent = ap
-          (λ b. if b then Loads done.agent else Stores done.agent (change_of done)) load in
+          let here : access_event done ≡ Loads done.agent = grind arith in
           subst (BringsAccess p line n z done) (sym here) (loads p line n z done h t served load)
       | inr store ↦
-          let here : access_event done ≡ Stores done.agent (change_of done) = ap
-          (λ b. if b then Loads done.agent else Stores done.agent (change_of done)) store in
+          let here : access_event done ≡ Stores done.agent (change_of done) = grind arith in
           subst (BringsAccess p line n z done) (sym here) (stores p line n z done (change_of done) h t served store)
     ]
 
@@ -163,11 +124,7 @@ access p line n z done h t served =
 pub accesses-step : (p : Past) (line n : ℕ) (z : MemoryLine) (dones : List Done) → AccessesServed p line n
     → TiedButDirty p line n z
     → list_all (is_served_behind p line n) dones ≡ true → BringsAccesses p line n z dones
-accesses-step p line n z [] h t served = record {
-  may = tt;
-  tied = t;
-  dirty = λ a. sym (or-false (is_modified (z.state a)));
-}
+accesses-step p line n z [] h t served = grind arith
 accesses-step p line n z (done ∷ dones) h t served =
     let parts = and_parts (is_served_behind p line n done) (list_all (is_served_behind p line n) dones) served in
     let here = access p line n z done h t (served-parts p line n done parts.0) in

@@ -1,12 +1,11 @@
 -- At a clock at which nothing happens no line has an event, and the line of the machine stays that of the run.
-use Rattle.std.proofs.Common.{ℕ, zero, suc, ◌+◌, ◌<◌, ◌≡◌, Bool, true, false, not, ◌&&◌, ◌||◌, if◌then◌else◌, nat_eq}
-use Rattle.std.proofs.Common.{nat_le, nat_lt, List, [], ◌∷◌, take, slice_get, None, refl, sym, ap, subst, ◌∙◌, inl, inr}
-use Rattle.std.proofs.Common.{arith, append-nil}
-use Rattle.std.proofs.lemmas.Bool.{cases_Bool, cases_lt, or_parts}
+use Rattle.std.proofs.Common.{ℕ, zero, suc, ◌+◌, ◌<◌, ◌≡◌, Bool, false, ◌&&◌, ◌||◌, nat_eq, nat_lt, List, [], ◌∷◌}
+use Rattle.std.proofs.Common.{take, slice_get, None, refl, sym, ap, subst, ◌∙◌, inl, inr, arith, append-nil}
+use Rattle.std.proofs.lemmas.Bool.{cases_lt}
 use Rattle.std.specs.List.{filter, list_any}
 use Rattle.std.specs.Option.{option_and_then, option_map, option_map_or}
 use Rattle.fsb_count.specs.Options.{is_at, is_some_and}
-use Rattle.fsb_count.proofs.Interface.{any_where-more, any_where-same, nat_lt-more}
+use Rattle.fsb_count.proofs.Interface.{any_where-more, any_where-same}
 use Rattle.fsb_access.specs.declared.log.Done.{Done}
 use Rattle.fsb_access.specs.Access.{accessed_line}
 use Rattle.fsb_line.specs.Events.{Event}
@@ -14,7 +13,7 @@ use Rattle.fsb_line.specs.Line.{MemoryLine, OpenRequest}
 use Rattle.fsb_line.specs.LineRuns.{MayRun, run}
 use Rattle.fsb_timely.specs.Past.{Past}
 use Rattle.fsb_timely.specs.Grants.{begun_at, ended_requests, grant_at, holds_line, is_end_at, is_ended, is_evicted}
-use Rattle.fsb_timely.specs.Grants.{is_exclusive, is_granted, is_lost, is_named_by_other, is_sole_grant, is_taken_away}
+use Rattle.fsb_timely.specs.Grants.{is_exclusive, is_granted, is_lost, is_named_by_other, is_taken_away}
 use Rattle.fsb_timely.specs.Grants.{is_written_back, latest_grant, snooped_at}
 use Rattle.fsb_timely.specs.Hits.{is_store_on}
 use Rattle.fsb_timely.specs.Runs.{entries_to, past_to}
@@ -24,10 +23,10 @@ use Rattle.fsb_coherent.specs.LineEvents.{begins_on, cancels_on, ends_on, entrie
 use Rattle.fsb_coherent.specs.LineEvents.{events_of_ends, hits_on, others_on, responds_on, snoops_on}
 use Rattle.fsb_coherent.specs.KeepsTie.{KeepsTie}
 use Rattle.fsb_coherent.specs.Quiet.{IsQuiet}
-use Rattle.fsb_coherent.specs.Relation.{IsOpen, Tied, chain_below, deferral_at, deferral_below, defers_line}
-use Rattle.fsb_coherent.specs.Relation.{is_dirty_below, is_moved_below, is_moved_for, is_responded_below}
-use Rattle.fsb_coherent.specs.Relation.{is_stored_below, replies_line}
-use Rattle.fsb_coherent.proofs.Steps.{chain-kept, deferral-more, moved_at-same, open-before, open-kept, responded-more}
+use Rattle.fsb_coherent.specs.Relation.{IsOpen, Tied, chain_below, deferral_below, defers_line, is_dirty_below}
+use Rattle.fsb_coherent.specs.Relation.{is_moved_below, is_responded_below, is_stored_below, replies_line}
+use Rattle.fsb_coherent.proofs.Steps.{chain-kept, deferral-more, moved_at-same, open-before, open-kept}
+use Rattle.fsb_coherent.proofs.Steps.{responded-more}
 
 -- the past up to n has the same at n
 pub slice_get-take : {X : Type 0} (n : ℕ) (xs : List X) (k : ℕ) → k < n → slice_get (take n xs) k ≡ slice_get xs k
@@ -64,13 +63,7 @@ no-entries : (n line : ℕ) (log : List Done) → list_any (λ done. nat_eq done
     → filter (λ done. nat_eq done.clock n && nat_eq (accessed_line done.access) line) (entries_to n log) ≡ []
 unfolding entries_to
 no-entries n line [] e = refl
-no-entries n line (done ∷ log) e =
-    let parts = or_parts (nat_eq done.clock n) (list_any (λ d. nat_eq d.clock n) log) e in
-    let rest = no-entries n line log parts.1 in
-    elim (cases_Bool (nat_le done.clock n)) [
-      | inl early ↦ rw (early, parts.0) rest
-      | inr late ↦ rw late rest
-    ]
+no-entries n line (done ∷ log) e = grind (arith, no-entries n line log)
 
 entries-none : (p : Past) (line n : ℕ) → list_any (λ done. nat_eq done.clock n) p.log ≡ false
     → entries_on (past_to p n) line n ≡ []
@@ -83,26 +76,15 @@ nothing-in : (q : Past) (line n : ℕ) → begun_at q n ≡ None → cancelled_i
     → events_of_clock q line n ≡ []
 unfolding events_of_clock responds_on hits_on begins_on cancels_on snoops_on ends_on others_on events_of_ends
     is_some_and
-nothing-in q line n begun cancelled snooped responded ended entries =
-    rw (begun, cancelled, snooped, responded, ended, entries) refl
+nothing-in q line n begun cancelled snooped responded ended entries = grind arith
 
 pub no_events : (p : Past) (line n : ℕ) → IsQuiet p n → events_at p line n ≡ []
 unfolding events_at
 no_events p line n h =
-    nothing-in (past_to p n) line n (begun-to p n ∙ h.begun) (cancelled-to p n ∙ h.cancelled) (snooped-to p n
-    ∙ h.snooped) (responded-to p n ∙ h.responded) (ended-to p n ∙ h.ended) (entries-none p line n h.completed)
-
-stays : (b : Bool) → (false || (b && not false)) ≡ b
-stays true = refl
-stays false = refl
-
-stays-so : (b : Bool) → (b && (not false && not false)) ≡ b
-stays-so true = refl
-stays-so false = refl
+    grind (arith, nothing-in, begun-to, cancelled-to, snooped-to, responded-to, ended-to, entries-none)
 
 or-nothing : (b : Bool) → (b || false) ≡ b
-or-nothing true = refl
-or-nothing false = refl
+or-nothing b = grind arith
 
 ungranted : (p : Past) (a line n : ℕ) → snooped_at p n ≡ None → is_granted p a line n ≡ false
 unfolding is_granted grant_at is_some_and
@@ -117,38 +99,19 @@ unfolding is_named_by_other is_some_and
 unnamed p a line n e = rw e refl
 
 holds-quiet : (p : Past) (a line n : ℕ) → IsQuiet p n → holds_line p a line (n + 1) ≡ holds_line p a line n
-holds-quiet p a line n h =
-    let granted = ungranted p a line n h.snooped in
-    let lost = unlost p a line n h.begun h.snooped in
-    holds_line-more p a line n ∙ (λ i. granted i || (holds_line p a line n && not (lost i)))
-    ∙ stays (holds_line p a line n)
+holds-quiet p a line n h = grind (arith, ungranted, unlost, holds_line-more)
 
 exclusive-quiet : (p : Past) (a line n : ℕ) → IsQuiet p n → is_exclusive p a line (n + 1) ≡ is_exclusive p a line n
-exclusive-quiet p a line n h =
-    let granted = ungranted p a line n h.snooped in
-    let lost = unlost p a line n h.begun h.snooped in
-    let named = unnamed p a line n h.snooped in
-    is_exclusive-more p a line n
-    ∙ (λ i. if granted i then is_some_and (grant_at p n) is_sole_grant
-    else (is_exclusive p a line n && (not (lost i) && not (named i))))
-    ∙ stays-so (is_exclusive p a line n)
+exclusive-quiet p a line n h = grind (arith, ungranted, unlost, unnamed, is_exclusive-more)
 
 latest-quiet : (p : Past) (a line n : ℕ) → IsQuiet p n → latest_grant p a line (n + 1) ≡ latest_grant p a line n
-latest-quiet p a line n h =
-    let granted = ungranted p a line n h.snooped in
-    latest_grant-more p a line n ∙ (λ i. if granted i then grant_at p n else latest_grant p a line n)
+latest-quiet p a line n h = grind (arith, ungranted, latest_grant-more)
 
 no-new : (p : Past) (a line n q : ℕ) (log : List Done) → list_any (λ done. nat_eq done.clock n) log ≡ false
     → list_any (λ done. is_store_on a line done && is_ended p done.clock q && nat_lt done.clock (n + 1)) log
     ≡ list_any (λ done. is_store_on a line done && is_ended p done.clock q && nat_lt done.clock n) log
 no-new p a line n q [] e = refl
-no-new p a line n q (done ∷ log) e =
-    let parts = or_parts (nat_eq done.clock n) (list_any (λ d. nat_eq d.clock n) log) e in
-    let rest = no-new p a line n q log parts.1 in
-    let none = parts.0 in
-    let here : nat_lt done.clock (n + 1) ≡ nat_lt done.clock n = nat_lt-more done.clock n
-    ∙ (λ i. nat_lt done.clock n || none i) ∙ or-nothing (nat_lt done.clock n) in
-    λ i. (is_store_on a line done && is_ended p done.clock q && here i) || rest i
+no-new p a line n q (done ∷ log) e = grind (arith, no-new p a line n q log)
 
 stored-quiet : (p : Past) (a line n q : ℕ) → IsQuiet p n
     → is_stored_below p a line (n + 1) q ≡ is_stored_below p a line n q
@@ -157,32 +120,24 @@ stored-quiet p a line n q h = no-new p a line n q p.log h.completed
 
 dirty-quiet : (p : Past) (a line n : ℕ) → IsQuiet p n → is_dirty_below p a line (n + 1) ≡ is_dirty_below p a line n
 unfolding is_dirty_below
-dirty-quiet p a line n h =
-    let exclusive = exclusive-quiet p a line n h in
-    let latest = latest-quiet p a line n h in
-    λ i. exclusive i && is_some_and (latest i) (λ grant. grant.owns || stored-quiet p a line n grant.first h i)
+dirty-quiet p a line n h = grind (arith, exclusive-quiet, latest-quiet, stored-quiet)
 
 unended : (p : Past) (n q : ℕ) → ended_requests p n ≡ [] → is_end_at p n q ≡ false
 unfolding is_end_at
 unended p n q e = rw e refl
 
 ended-quiet : (p : Past) (n q : ℕ) → IsQuiet p n → is_ended p (n + 1) q ≡ is_ended p n q
-ended-quiet p n q h =
-    let none = unended p n q h.ended in
-    is_ended-more p n q ∙ (λ i. is_ended p n q || none i) ∙ or-nothing (is_ended p n q)
+ended-quiet p n q h = grind (arith, unended, is_ended-more)
 
 unresponded : (p : Past) (n q : ℕ) → responded_in p n ≡ None → is_at (responded_in p n) q ≡ false
 unfolding is_at is_some_and
 unresponded p n q e = rw e refl
 
 responded-quiet : (p : Past) (n q : ℕ) → IsQuiet p n → is_responded_below p (n + 1) q ≡ is_responded_below p n q
-responded-quiet p n q h =
-    let none = unresponded p n q h.responded in
-    responded-more p n q ∙ (λ i. is_responded_below p n q || none i) ∙ or-nothing (is_responded_below p n q)
+responded-quiet p n q h = grind (arith, unresponded, responded-more)
 
 chain-quiet : (p : Past) (line n : ℕ) → IsQuiet p n → chain_below p line (n + 1) ≡ chain_below p line n
-chain-quiet p line n h = chain-kept p line n (λ q. ended-quiet p n q h)
-    ∙ rw h.snooped (append-nil (chain_below p line n))
+chain-quiet p line n h = grind (arith, chain-kept, ended-quiet, append-nil)
 
 undeferred : (p : Past) (line n : ℕ) → snooped_at p n ≡ None → defers_line p line n ≡ false
 unfolding defers_line is_some_and
@@ -193,24 +148,12 @@ unfolding replies_line is_some_and
 unreplied p line n e = rw e refl
 
 deferral-quiet : (p : Past) (line n : ℕ) → IsQuiet p n → deferral_below p line (n + 1) ≡ deferral_below p line n
-deferral-quiet p line n h =
-    let defers = undeferred p line n h.snooped in
-    let replies = unreplied p line n h.snooped in
-    deferral-more p line n
-    ∙ (λ i. if defers i then deferral_at p line n else (if replies i then None else deferral_below p line n))
+deferral-quiet p line n h = grind (arith, undeferred, unreplied, deferral-more)
 
 moved-quiet : (p : Past) (line n : ℕ) → IsQuiet p n → is_moved_below p line (n + 1) ≡ is_moved_below p line n
 unfolding is_moved_below is_some_and
 moved-quiet p line n h =
-    let later = any_where-more (λ t. is_some_and (snooped_at p t) (is_moved_for p line (n + 1))) n in
-    let here : is_some_and (snooped_at p n) (is_moved_for p line (n + 1)) ≡ false = rw h.snooped refl in
-    let same = any_where-same (λ t. is_some_and (snooped_at p t) (is_moved_for p line (n + 1)))
-    (λ t. is_some_and (snooped_at p t) (is_moved_for p line n)) n
-    (record {
-      same = λ t l. moved_at-same p line (n + 1) n (snooped_at p t) (λ q. ended-quiet p n q h)
-          (λ q. responded-quiet p n q h);
-    }) in
-    later ∙ (λ i. same i || here i) ∙ or-nothing (is_moved_below p line n)
+    grind (arith, any_where-more, any_where-same, moved_at-same, ended-quiet, responded-quiet, or-nothing)
 
 uncancelled : (p : Past) (n q : ℕ) → cancelled_in p n ≡ None → is_at (cancelled_in p n) q ≡ false
 unfolding is_at is_some_and
@@ -248,8 +191,7 @@ tied-quiet p line n x h t = record {
 }
 
 no-run : (x : MemoryLine) (es : List Event) → es ≡ [] → MayRun x es × (run x es ≡ x)
-no-run x [] e = (tt, refl)
-no-run x (f ∷ es) e = absurd (let impossible : ⊥ = cc in impossible)
+no-run x es h1 = grind arith
 
 pub keeps-quiet : (p : Past) (line n : ℕ) → IsQuiet p n → KeepsTie p line n
 keeps-quiet p line n h = record {

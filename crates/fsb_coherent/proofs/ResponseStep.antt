@@ -1,6 +1,6 @@
 -- The response of a clock, where it puts data of the line on the bus.
 use Rattle.std.proofs.Common.{ℕ, ◌≡◌, Bool, true, false, ◌||◌, if◌then◌else◌, List, [], ◌∷◌, Option, Some, None}
-use Rattle.std.proofs.Common.{is_some, sym, ap, subst, ◌∙◌, refl, inl, inr}
+use Rattle.std.proofs.Common.{is_some, sym, ap, subst, ◌∙◌, inl, inr, arith}
 use Rattle.std.proofs.Math.Bool.{or-false}
 use Rattle.std.proofs.lemmas.Bool.{cases_Bool, or_right}
 use Rattle.fsb_line.specs.declared.link.Link.{Link}
@@ -22,8 +22,7 @@ AfterResponse p line n x =
     (λ a. holds_line p a line n) (λ a. is_exclusive p a line n) (λ a. is_dirty_below p a line n) x
 
 none-there : (o : Option Bytes) → is_some o ≡ false → o ≡ None
-none-there None e = refl
-none-there (Some bytes) e = absurd (let no : ⊥ = cc in no)
+none-there o h1 = grind arith
 
 responds-list : (p : Past) (line n : ℕ) (b : Bool) → does_respond_on p line n ≡ b
     → responds_on p line n ≡ (if b then Responds ∷ [] else [])

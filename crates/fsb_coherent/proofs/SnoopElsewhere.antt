@@ -1,18 +1,17 @@
 -- A clock without a snoop end on the line: the line of the machine behind it is that of before.
-use Rattle.std.proofs.Common.{ℕ, ◌≡◌, Bool, true, false, not, ◌&&◌, ◌||◌, ◌++◌, if◌then◌else◌, nat_eq, [], Option, Some}
-use Rattle.std.proofs.Common.{None, refl, sym, ap, ◌∙◌, inl, inr, append-nil}
+use Rattle.std.proofs.Common.{ℕ, ◌≡◌, Bool, false, not, ◌&&◌, ◌||◌, ◌++◌, if◌then◌else◌, nat_eq, [], Option, Some}
+use Rattle.std.proofs.Common.{None, refl, sym, ap, ◌∙◌, append-nil, arith}
 use Rattle.std.proofs.Math.Bool.{and-true}
-use Rattle.std.proofs.lemmas.Bool.{and_right, cases_Bool, eq-eqb, eqb-true, false_from_ne_true}
+use Rattle.std.proofs.lemmas.Bool.{and_right, eq-eqb}
 use Rattle.std.specs.Option.{option_map_or}
 use Rattle.fsb_count.specs.Options.{is_some_and}
 use Rattle.fsb_line.specs.Line.{MemoryLine, OpenRequest}
 use Rattle.fsb_line.specs.States.{is_held, is_modified, is_sole}
-use Rattle.fsb_trace.specs.Outcome.{is_deferral}
 use Rattle.fsb_timely.specs.Past.{Claim, Grant, Past, SnoopEnd}
-use Rattle.fsb_timely.specs.Grants.{begun_at, grant_at, is_claim_of, is_claim_of_other, is_granted, is_named_by_other}
+use Rattle.fsb_timely.specs.Grants.{grant_at, is_claim_of, is_claim_of_other, is_granted, is_named_by_other}
 use Rattle.fsb_timely.specs.Grants.{is_snooped, is_sole_grant, is_taken_away, is_written_back, snooped_at}
 use Rattle.fsb_timely.specs.Moments.{is_snoop_of}
-use Rattle.fsb_coherent.specs.Awaits.{Awaited, awaited_by, awaited_by_claim, awaited_by_grant, is_written}
+use Rattle.fsb_coherent.specs.Awaits.{Awaited, awaited_by, awaited_by_claim, awaited_by_grant}
 use Rattle.fsb_coherent.specs.Facts.{SettlesInOrder}
 use Rattle.fsb_coherent.specs.Relation.{chain_below, deferral_at, deferral_below, defers_line, link_for, replies_line}
 use Rattle.fsb_coherent.specs.BeforeSnoop.{IsOpenThrough, TiedThrough}
@@ -34,8 +33,7 @@ pub record IsElsewhere (p : Past) (line n : ℕ) : Type 0 where
       → is_some_and (snooped_at p n) (is_snoop_of request.number) ≡ false
 
 still : (b : Bool) → (b && (not (false || false) && not false)) ≡ b
-still true = refl
-still false = refl
+still b = grind arith
 
 behind-elsewhere : (p : Past) (line n : ℕ) (x : MemoryLine) → IsElsewhere p line n → TiedThrough p line n x
     → TiedBehind p line n x
@@ -65,16 +63,7 @@ behind-elsewhere p line n x e h = record {
 -- there is no snoop end at n
 elsewhere-none : (p : Past) (line n : ℕ) → snooped_at p n ≡ None → IsElsewhere p line n
 unfolding is_granted grant_at is_written_back is_taken_away is_named_by_other defers_line replies_line is_some_and
-elsewhere-none p line n e = record {
-  granted = λ a. rw e refl;
-  written = λ a. rw e refl;
-  taken = λ a. rw e refl;
-  named = λ a. rw e refl;
-  links = rw e refl;
-  defers = rw e refl;
-  replies = rw e refl;
-  others = λ a request o. rw e refl;
-}
+elsewhere-none p line n e = grind arith
 
 -- who is not for the line grants, claims and awaits none of it
 claim-off : (a line : ℕ) (claim : Claim) → nat_eq claim.line line ≡ false → is_claim_of a line claim ≡ false
@@ -89,8 +78,7 @@ links-off : (p : Past) (line n : ℕ) (s : SnoopEnd) (o : Option Awaited)
     → ((awaited : Awaited) → o ≡ Some awaited → nat_eq awaited.line line ≡ false)
     → option_map_or (link_for p line n s) o [] ≡ []
 unfolding link_for
-links-off p line n s None h = refl
-links-off p line n s (Some awaited) h = rw (h awaited refl) refl
+links-off p line n s o h1 = grind arith
 
 -- the grant, where there is one, is of another line
 abbrev GrantsOff : ℕ → Option Grant → Type 0
@@ -99,14 +87,12 @@ GrantsOff line o = (grant : Grant) → o ≡ Some grant → nat_eq grant.line li
 grant-off : (a line : ℕ) (o : Option Grant) → GrantsOff line o
     → is_some_and o (λ grant. nat_eq grant.agent a && nat_eq grant.line line) ≡ false
 unfolding is_some_and
-grant-off a line None h = refl
-grant-off a line (Some grant) h = and_right (nat_eq grant.agent a) (nat_eq grant.line line) (h grant refl)
+grant-off a line o h1 = grind arith
 
 grant-line-off : (line : ℕ) (o : Option Grant) → GrantsOff line o
     → is_some_and o (λ grant. nat_eq grant.line line) ≡ false
 unfolding is_some_and
-grant-line-off line None h = refl
-grant-line-off line (Some grant) h = h grant refl
+grant-line-off line o h1 = grind arith
 
 grant-of : (p : Past) (n : ℕ) (s : SnoopEnd) → snooped_at p n ≡ Some s → grant_at p n ≡ s.grant
 unfolding grant_at
@@ -115,46 +101,19 @@ grant-of p n s e = rw e refl
 granted-off : (p : Past) (a line n : ℕ) (s : SnoopEnd) → snooped_at p n ≡ Some s → GrantsOff line s.grant
     → is_granted p a line n ≡ false
 unfolding is_granted
-granted-off p a line n s e h =
-    ap (λ o. is_some_and o (λ grant. nat_eq grant.agent a && nat_eq grant.line line)) (grant-of p n s e)
-    ∙ grant-off a line s.grant h
+granted-off p a line n s e h = grind (arith, grant-of, grant-off)
 
 -- what a snoop end without a claim, or with the claim of another line, awaits on the line
 awaits-claimed : (line : ℕ) (s : SnoopEnd) (claim : Claim) (o : Option Grant) → s.grant ≡ o → s.claim ≡ Some claim
     → nat_eq claim.line line ≡ false → GrantsOff line o
     → (awaited : Awaited) → awaited_by s ≡ Some awaited → nat_eq awaited.line line ≡ false
 unfolding awaited_by awaited_by_claim awaited_by_grant
-awaits-claimed line s claim (Some grant) e f off h awaited g =
-    let here : awaited_by s ≡ Some (awaited_by_grant s.outcome grant) = rw (e, awaited_by) refl in
-    let same : awaited_by_grant s.outcome grant ≡ awaited = (let k = sym here ∙ g in cc) in
-    ap (λ w. nat_eq w.line line) (sym same) ∙ h grant refl
-awaits-claimed line s claim None e f off h awaited g =
-    elim (cases_Bool (is_written s.outcome)) [
-      | inl w ↦
-          let here : awaited_by s ≡ Some (awaited_by_claim claim) = rw (e, awaited_by, w, f) refl in
-          let same : awaited_by_claim claim ≡ awaited = (let k = sym here ∙ g in cc) in
-          ap (λ w. nat_eq w.line line) (sym same) ∙ off
-      | inr w ↦
-          let here : awaited_by s ≡ None = rw (e, awaited_by, w) refl in
-          absurd (let k = sym here ∙ g in let no : ⊥ = cc in no)
-    ]
+awaits-claimed line s claim o h1 h2 h3 h4 awaited h5 = grind arith
 
 awaits-unclaimed : (line : ℕ) (s : SnoopEnd) (o : Option Grant) → s.grant ≡ o → s.claim ≡ None → GrantsOff line o
     → (awaited : Awaited) → awaited_by s ≡ Some awaited → nat_eq awaited.line line ≡ false
 unfolding awaited_by awaited_by_grant
-awaits-unclaimed line s (Some grant) e f h awaited g =
-    let here : awaited_by s ≡ Some (awaited_by_grant s.outcome grant) = rw (e, awaited_by) refl in
-    let same : awaited_by_grant s.outcome grant ≡ awaited = (let k = sym here ∙ g in cc) in
-    ap (λ w. nat_eq w.line line) (sym same) ∙ h grant refl
-awaits-unclaimed line s None e f h awaited g =
-    elim (cases_Bool (is_written s.outcome)) [
-      | inl w ↦
-          let here : awaited_by s ≡ None = rw (e, awaited_by, w, f) refl in
-          absurd (let k = sym here ∙ g in let no : ⊥ = cc in no)
-      | inr w ↦
-          let here : awaited_by s ≡ None = rw (e, awaited_by, w) refl in
-          absurd (let k = sym here ∙ g in let no : ⊥ = cc in no)
-    ]
+awaits-unclaimed line s o h1 h2 h3 awaited h4 = grind arith
 
 -- the snoop end is not that of an open request for the line
 pub not-its-own : (p : Past) (a line n : ℕ) (request : OpenRequest) (s : SnoopEnd) → SettlesInOrder p line n
@@ -163,9 +122,7 @@ pub not-its-own : (p : Past) (a line n : ℕ) (request : OpenRequest) (s : Snoop
     → ⊥)
     → is_some_and (snooped_at p n) (is_snoop_of request.number) ≡ false
 unfolding is_some_and is_snoop_of
-not-its-own p a line n request s f e o other =
-    rw e (false_from_ne_true (nat_eq s.first request.number) (λ same.
-    other (f.claimed s e ∙ ap (begun_at p) (eqb-true s.first request.number same) ∙ o.begun)))
+not-its-own p a line n request s f e o other = grind arith
 
 -- it is that of a request for another line
 elsewhere-claimed : (p : Past) (line n : ℕ) (s : SnoopEnd) (claim : Claim) → SettlesInOrder p line n
@@ -173,36 +130,15 @@ elsewhere-claimed : (p : Past) (line n : ℕ) (s : SnoopEnd) (claim : Claim) →
     → nat_eq claim.line line ≡ false → IsElsewhere p line n
 unfolding is_written_back is_taken_away is_named_by_other is_snooped defers_line replies_line is_some_and
 elsewhere-claimed p line n s claim f e g off =
-    let grants : GrantsOff line s.grant = λ grant k. ap (λ l. nat_eq l line) (f.elsewhere s claim grant e g k)
-    ∙ off in record {
-      granted = λ a. granted-off p a line n s e grants;
-      written = λ a. rw (e, g, claim-off a line claim off) refl;
-      taken = λ a. rw (e, g, other-off a line claim off) refl;
-      named = λ a. rw (e, g) (other-off a line claim off);
-      links = rw e (links-off p line n s (awaited_by s) (awaits-claimed line s claim s.grant refl g off grants));
-      defers = rw (e, g) (and_right (is_deferral s.outcome) (nat_eq claim.line line) off);
-      replies = rw (e, g) refl;
-      others = λ a request o. not-its-own p a line n request s f e o (λ k.
-          let same : claim ≡ record { first = request.number; agent = a; line = line } = (let m = sym g ∙ k in cc) in
-          let true_here = ap (λ c. nat_eq c.line line) same ∙ eq-eqb line line refl in
-          let no : ⊥ = cc in no);
-    }
+    grind (arith, granted-off, claim-off, other-off, links-off, awaits-claimed, and_right, not-its-own, eq-eqb)
 
 -- it is that of a reply that does not grant the line
 elsewhere-unclaimed : (p : Past) (line n : ℕ) (s : SnoopEnd) → SettlesInOrder p line n → snooped_at p n ≡ Some s
     → s.claim ≡ None
     → GrantsOff line s.grant → IsElsewhere p line n
 unfolding is_written_back is_taken_away is_named_by_other is_snooped defers_line replies_line is_some_and
-elsewhere-unclaimed p line n s f e g grants = record {
-  granted = λ a. granted-off p a line n s e grants;
-  written = λ a. rw (e, g) refl;
-  taken = λ a. rw (e, g) refl;
-  named = λ a. rw (e, g) refl;
-  links = rw e (links-off p line n s (awaited_by s) (awaits-unclaimed line s s.grant refl g grants));
-  defers = rw (e, g) (and_right (is_deferral s.outcome) false refl);
-  replies = rw (e, g) (grant-line-off line s.grant grants);
-  others = λ a request o. not-its-own p a line n request s f e o (λ k. let no : ⊥ = cc in no);
-}
+elsewhere-unclaimed p line n s f e g grants =
+    grind (arith, granted-off, links-off, awaits-unclaimed, and_right, grant-line-off, not-its-own)
 
 -- the line of the machine stays that of the run where there is no snoop end, and where it is on another line
 pub behind-none : (p : Past) (line n : ℕ) (x : MemoryLine) → TiedThrough p line n x → snooped_at p n ≡ None

@@ -1,14 +1,11 @@
 -- How a request is settled, and which grant it makes.
-use Rattle.std.proofs.Common.{ℕ, ◌+◌, ◌<◌, ◌≡◌, Bool, true, false, nat_eq, nat_le, List, Option, Some, None, length}
-use Rattle.std.proofs.Common.{slice_index, refl, sym, ap, ◌∙◌, inl, inr, arith}
-use Rattle.std.proofs.lemmas.Bool.{cases_Bool, le-leb, ne_eqb}
-use Rattle.std.specs.Option.{option_map}
+use Rattle.std.proofs.Common.{ℕ, ◌+◌, ◌<◌, ◌≡◌, Bool, true, false, List, Option, Some, None, length, slice_index}
+use Rattle.std.proofs.Common.{refl, sym, ap, ◌∙◌, arith}
 use Rattle.fsb_count.specs.Options.{is_some_and}
 use Rattle.fsb_encode.specs.declared.request.Request.{Request}
 use Rattle.fsb_hazard.specs.declared.choice.Choice.{Choice}
 use Rattle.fsb_hazard.specs.declared.choice.Turn.{Turn}
-use Rattle.fsb_hazard.specs.declared.choice.Turn.TheVariants.{Keep, Retry, Defer}
-use Rattle.fsb_hazard.specs.Choice.{is_never_held_up}
+use Rattle.fsb_hazard.specs.declared.choice.Turn.TheVariants.{Keep}
 use Rattle.fsb_script.specs.declared.plan.Window.{Window}
 use Rattle.fsb_signal.specs.declared.lines.TheConstants.Lines.{HITM}
 use Rattle.fsb_signal.specs.Samples.{line_at}
@@ -31,13 +28,7 @@ use Rattle.fsb_coherent.specs.Settled.{is_always_kept, outcome_by_turn, outcome_
 settled-form : (w : Trace) (turn : Turn) (i t : ℕ) (handed : Bool) → line_at HITM w t ≡ handed
     → settled_by w (number_of_turn turn) i t ≡ outcome_under handed turn (live_request_of w i)
 unfolding settled_by outcome_under outcome_by_turn number_of_turn
-settled-form w turn i t true e = rw e refl
-settled-form w Keep i t false e = rw e refl
-settled-form w Retry i t false e = rw e refl
-settled-form w (Defer later) i t false e =
-    let not_one : nat_eq (later + 2) 1 ≡ false = ne_eqb (later + 2) 1 (λ same. omega arith) in
-    let two : nat_le 2 (later + 2) ≡ true = le-leb 2 (later + 2) (omega arith) in
-    rw (e, not_one, two) refl
+settled-form w turn i t handed h1 = grind arith
 
 live-request : (w : Trace) (i q : ℕ) → live_clock_of w i ≡ Some q → live_request_of w i ≡ request_at w q
 unfolding live_request_of
@@ -50,10 +41,7 @@ live-claim w i q e = rw e refl
 settled-says : (w : Trace) (turns : List ℕ) (i t : ℕ) (outcome : Outcome) → snoop_end_of w i ≡ Some t
     → settled_outcome_of w turns i ≡ Some outcome → settled_by w (slice_index turns i) i t ≡ outcome
 unfolding settled_outcome_of
-settled-says w turns i t outcome e f =
-    let g : option_map (settled_by w (slice_index turns i) i) (snoop_end_of w i)
-    ≡ Some (settled_by w (slice_index turns i) i t) = ap (option_map (settled_by w (slice_index turns i) i)) e in
-    let h = sym g ∙ f in cc
+settled-says w turns i t outcome e f = grind arith
 
 -- a snoop end has the outcome that HITM#, its turn and its request make
 pub outcome-made : (r : Run) (t : ℕ) (s : SnoopEnd) → snooped_at (past_of r) t ≡ Some s
@@ -87,30 +75,19 @@ grant-form : (p : Past) (w : Trace) (i q t : ℕ) (outcome : Outcome) (claim : C
     → claim_at w q ≡ Some claim → is_reply (request_at w q) ≡ false
     → grant_of p w i q t outcome ≡ own_grant p w q t outcome claim
 unfolding grant_of
-grant-form p w i q t outcome claim e f not_reply =
-    let served = served-itself w (turns_in p.moments) i (ap is_reply (live-request w i q e) ∙ not_reply) in
-    elim (cases_Bool (gives_line p w q t outcome)) [
-      | inl gives ↦ rw (gives, grant_of, served) (grant-for w i q t claim e f p outcome gives)
-      | inr none ↦ rw (none, grant_of) (sym (no-grant w q t claim p outcome none))
-    ]
+grant-form p w i q t outcome claim e f not_reply = grind (arith, served-itself, live-request, grant-for, no-grant)
 
 -- a request of a symmetric agent makes a grant to its own claim
 pub grant-made : (r : Run) (t : ℕ) (s : SnoopEnd) (claim : Claim) → snooped_at (past_of r) t ≡ Some s
     → s.claim ≡ Some claim → is_reply (request_at r.trace s.first) ≡ false
     → s.grant ≡ own_grant (past_of r) r.trace s.first t s.outcome claim
-grant-made r t s claim e f not_reply =
-    let tied = tied-snoop r t s e in
-    let i : ℕ = tied.0 in
-    let h : IsSnoopOf r i t s = tied.1 in
-    h.grant ∙ grant-form (past_of r) r.trace i s.first t s.outcome claim h.first (sym h.claim ∙ f) not_reply
+grant-made r t s claim e f not_reply = grind (arith, tied-snoop, grant-form)
 
 turn-form : (bridge : Option Window) (choices : List Choice) (w : Trace) (turns : List ℕ) (q t : ℕ)
     (o : Option Request) → request_at w q ≡ o → is_always_kept o ≡ true
     → (effective_choice bridge choices w turns q t).turn ≡ Keep
 unfolding effective_choice is_always_kept is_some_and
-turn-form bridge choices w turns q t None e kept = absurd (let x : ⊥ = cc in x)
-turn-form bridge choices w turns q t (Some request) e kept =
-    let always : is_never_held_up request.kind ≡ true = kept in rw (e, effective_choice, always) refl
+turn-form bridge choices w turns q t o h1 h2 = grind arith
 
 turn-of : (r : Run) (t i q : ℕ)
     → (snoop_of r t i q).turn
@@ -130,8 +107,7 @@ turn-kept r t s e kept =
     let above = c.above in
     let within : t < length r.trace = c.within in
     let clock : c.clock ≡ s.first = (let e' = sym c.is_clock ∙ h.first in cc) in
-    let there : Some s ≡ Some (snoop_of r t i s.first) = sym e ∙ snooped-there r t within
-    ∙ moment-snooped r i t s.first h.reached h.first in
+    let there : Some s ≡ Some (snoop_of r t i s.first) = grind (arith, snooped-there, moment-snooped) in
     let same : s ≡ snoop_of r t i s.first = cc in
     let request = request_at-agree (t + 1) r.trace (run_to r t).trace s.first (run_to-agrees r t within)
     (omega arith) in

@@ -1,9 +1,7 @@
 -- The event of the snoop end of a request for a line may happen to the line of the machine.
-use Rattle.std.proofs.Common.{ℕ, ◌<◌, ◌≤◌, ◌≡◌, ◌≢◌, Bool, true, false, not, ◌&&◌, nat_eq, Option, Some, None, is_some}
-use Rattle.std.proofs.Common.{refl, sym, ap, ◌∙◌, inl, inr, arith}
-use Rattle.std.proofs.Math.Bool.{and-true}
-use Rattle.std.proofs.lemmas.Bool.{and_parts, cases_lt, eqb-false, ne_eqb, not-true, not_from_false, or_from, or_parts}
-use Rattle.fsb_count.specs.Clocks.{any_where}
+use Rattle.std.proofs.Common.{ℕ, ◌<◌, ◌≤◌, ◌≡◌, ◌≢◌, Bool, true, false, not, ◌&&◌, nat_eq, Option, Some, None}
+use Rattle.std.proofs.Common.{is_some, refl, sym, ap, ◌∙◌, inl, inr, arith}
+use Rattle.std.proofs.lemmas.Bool.{cases_lt, eqb-false, ne_eqb, not_from_false}
 use Rattle.fsb_count.specs.Options.{is_at}
 use Rattle.fsb_count.proofs.Interface.{any_where-none, first_where-found}
 use Rattle.fsb_encode.specs.declared.request.Kind.{Kind}
@@ -24,7 +22,7 @@ use Rattle.fsb_timely.specs.Snoops.{is_held_elsewhere}
 use Rattle.fsb_coherent.specs.Awaits.{cancelled_in, owner_at, purpose_of}
 use Rattle.fsb_coherent.specs.Facts.{ClockFacts, IsSettledOn}
 use Rattle.fsb_coherent.specs.Fitting.{IsUncontested}
-use Rattle.fsb_coherent.specs.Relation.{IsOpen, is_cancelled_below}
+use Rattle.fsb_coherent.specs.Relation.{IsOpen}
 use Rattle.fsb_coherent.specs.BeforeSnoop.{IsOpenThrough, TiedThrough}
 use Rattle.fsb_coherent.proofs.SnoopMay.{CanSettle, MayFor, may-made}
 use Rattle.fsb_coherent.proofs.SnoopTests.{IsToldOf}
@@ -45,25 +43,11 @@ pub record IsHere (p : Past) (line n : ℕ) (x : MemoryLine) (s : SnoopEnd) : Ty
 open-not-cancelled : (p : Past) (a line n : ℕ) (request : OpenRequest) → IsOpen p a line n request
     → is_at (cancelled_in p n) request.number ≡ false
     → IsOpenThrough p a line n request
-open-not-cancelled p a line n request h c = record {
-  before = let l = h.before in omega arith;
-  begun = h.begun;
-  wanted = h.wanted;
-  uncancelled = cancelled-more p n request.number ∙ or_from (is_cancelled_below p n request.number)
-      (is_at (cancelled_in p n) request.number) h.uncancelled c;
-  unsnooped = h.unsnooped;
-}
+open-not-cancelled p a line n request h c = grind (arith, cancelled-more)
 
 open-below : (p : Past) (a line n : ℕ) (request : OpenRequest) → IsOpenThrough p a line n request
     → request.number < n → IsOpen p a line n request
-open-below p a line n request h l = record {
-  before = l;
-  begun = h.begun;
-  wanted = h.wanted;
-  uncancelled = (or_parts (is_cancelled_below p n request.number) (is_at (cancelled_in p n) request.number)
-      (sym (cancelled-more p n request.number) ∙ h.uncancelled)).0;
-  unsnooped = h.unsnooped;
-}
+open-below p a line n request h l = grind (arith, cancelled-more)
 
 -- the request is the oldest of the machine's
 pub asked-here : (p : Past) (line n : ℕ) (x : MemoryLine) (s : SnoopEnd) (h : IsHere p line n x s)
@@ -97,10 +81,7 @@ oldest-of p line n x s h purpose e =
 owner-there : (p : Past) (line n a b : ℕ) → ClockFacts p line n → owner_at (past_to p n) a line n ≡ Some b
     → (b ≢ a) × (is_dirty p b line n ≡ true)
 unfolding owner_at
-owner-there p line n a b f e =
-    let found = first_where-found (λ c. not (nat_eq c a) && is_dirty (past_to p n) c line n) 4 b e in
-    let parts = and_parts (not (nat_eq b a)) (is_dirty (past_to p n) b line n) found.1 in
-    (eqb-false b a (not-true (nat_eq b a) parts.0), sym (dirty-to p n f.goes_on b line) ∙ parts.1)
+owner-there p line n a b f e = grind (arith, first_where-found, dirty-to)
 
 -- where a line is written back, its agent is alone with it
 alone-here : (p : Past) (line n : ℕ) (x : MemoryLine) (s : SnoopEnd) (h : IsHere p line n x s)
@@ -133,11 +114,7 @@ uncontested p line n x s h w handed =
 -- an upgrade is won by a holder
 pub winner-here : (p : Past) (line n : ℕ) (x : MemoryLine) (s : SnoopEnd) (h : IsHere p line n x s)
     → h.settled.fits.won ≡ is_held (x.state h.settled.fits.agent)
-winner-here p line n x s h =
-    h.settled.won
-    ∙ sym (h.tied.held h.settled.fits.agent
-    ∙ ap (λ b. holds_line p h.settled.fits.agent line n && not b) h.settled.unevicted
-    ∙ and-true (holds_line p h.settled.fits.agent line n))
+winner-here p line n x s h = grind arith
 
 -- whoever is not seen to hold the line does not
 unseen-here : (p : Past) (line n : ℕ) (x : MemoryLine) (s : SnoopEnd) (h : IsHere p line n x s)
@@ -159,10 +136,7 @@ unseen-here p line n x s h e b other =
 elsewhere-to : (p : Past) (line n a : ℕ) → ClockFacts p line n
     → is_held_elsewhere (past_to p n) a line n ≡ is_held_elsewhere p a line n
 unfolding is_held_elsewhere
-elsewhere-to p line n a f =
-    let holds : (b : ℕ) → holds_line (past_to p n) b line n
-    ≡ holds_line p b line n = λ b. holds-to p n f.goes_on b line in
-    λ i. any_where (λ b. not (nat_eq b a) && holds b i) 4
+elsewhere-to p line n a f = grind (arith, holds-to)
 
 can-settle : (p : Past) (line n : ℕ) (x : MemoryLine) (s : SnoopEnd) (h : IsHere p line n x s)
     → CanSettle p line n h.settled.fits.agent h.settled.fits.kind s.outcome h.settled.fits.won x
@@ -183,11 +157,7 @@ can-settle p line n x s h = record {
 
 owning-of : (kind : Kind) (purpose : Purpose) → purpose_of kind ≡ Some purpose → kind_owns purpose ≡ is_owning kind
 unfolding purpose_of is_owning
-owning-of kinds.Reply purpose e = absurd (let no : ⊥ = cc in no)
-owning-of kinds.Invalidate purpose e = let same : purpose ≡ purposes.Own = cc in ap kind_owns same
-owning-of kinds.Read purpose e = let same : purpose ≡ purposes.Read = cc in ap kind_owns same
-owning-of kinds.WriteBack purpose e = let same : purpose ≡ purposes.WriteBack = cc in ap kind_owns same
-owning-of kinds.Upgrade purpose e = let same : purpose ≡ purposes.Upgrade = cc in ap kind_owns same
+owning-of kind purpose h1 = grind arith
 
 pub told-here : (test : Mesi → Bool) (says : Bool → Bool → Bool) → IsTest test says
     → (p : Past) (line n : ℕ) (x : MemoryLine) (s : SnoopEnd) (h : IsHere p line n x s)

@@ -1,6 +1,6 @@
 -- Who holds a line after a snoop end on it is who holds it in the run.
-use Rattle.std.proofs.Common.{ℕ, ◌≡◌, ◌==◌, Bool, true, false, cond, not, ◌&&◌, ◌||◌, nat_eq, Option, Some, None}
-use Rattle.std.proofs.Common.{is_some, refl, sym, ap, subst, ◌∙◌}
+use Rattle.std.proofs.Common.{ℕ, ◌≡◌, ◌==◌, Bool, true, false, cond, not, ◌&&◌, ◌||◌, nat_eq, Option, Some, is_some}
+use Rattle.std.proofs.Common.{refl, sym, ap, subst, ◌∙◌, arith}
 use Rattle.std.proofs.lemmas.Bool.{eq-eqb, eqb-true}
 use Rattle.fsb_count.specs.Options.{is_some_and}
 use Rattle.fsb_count.proofs.Interface.{nat_eq-sym}
@@ -9,84 +9,53 @@ use Rattle.fsb_encode.specs.declared.request.Kind.TheVariants as kinds
 use Rattle.fsb_hazard.specs.declared.choice.Turn.{Turn}
 use Rattle.fsb_line.specs.declared.purpose.Purpose.TheVariants as purposes
 use Rattle.fsb_line.specs.declared.state.Mesi.{Mesi}
-use Rattle.fsb_line.specs.declared.state.Mesi.TheVariants.{Exclusive, Invalid, Modified, Shared}
+use Rattle.fsb_line.specs.declared.state.Mesi.TheVariants.{Invalid, Modified}
 use Rattle.fsb_line.specs.Events.{after, effect, given, linked, settled}
 use Rattle.fsb_line.specs.Line.{MemoryLine, trimmed}
 use Rattle.fsb_line.specs.LineRuns.{run}
 use Rattle.fsb_line.specs.States.{after_snoop, granted, is_held}
 use Rattle.fsb_trace.specs.Requests.{is_write_back_kind}
 use Rattle.fsb_trace.specs.declared.outcome.Outcome.{Outcome}
-use Rattle.fsb_trace.specs.declared.outcome.Outcome.TheVariants.{Granted, Handed, Retried, Deferred, Written, Upgraded}
+use Rattle.fsb_trace.specs.declared.outcome.Outcome.TheVariants.{Handed}
 use Rattle.fsb_timely.specs.Grants.{is_claim_of, is_claim_of_other, is_owning, is_snooped}
 use Rattle.fsb_timely.specs.Moments.{is_got, is_upgraded, makes_grant}
 use Rattle.fsb_timely.specs.Past.{Past, SnoopEnd}
 use Rattle.fsb_timely.specs.Runs.{past_to}
-use Rattle.fsb_timely.specs.Snoops.{is_held_elsewhere}
 use Rattle.fsb_coherent.specs.Awaits.{owner_at, purpose_of}
-use Rattle.fsb_coherent.specs.Fitting.{IsSnoopOn, IsUncontested, fits_getting, fits_kind, fits_upgrade, fits_write_back}
-use Rattle.fsb_coherent.specs.Fitting.{is_granted_by, is_lost_by}
+use Rattle.fsb_coherent.specs.Fitting.{IsSnoopOn, IsUncontested, fits_getting, fits_kind, fits_upgrade}
+use Rattle.fsb_coherent.specs.Fitting.{fits_write_back, is_granted_by, is_lost_by}
 use Rattle.fsb_coherent.specs.LineEvents.{claimed_events, settled_events, snoop_events}
 use Rattle.fsb_coherent.proofs.SnoopLinks.{end_with, grant_if, grant_with, whole-end}
 
-or-nothing : (b : Bool) → (b || false) ≡ b
-or-nothing true = refl
-or-nothing false = refl
-
 held-cond : (m : Bool) (own other : Mesi) → is_held (cond m own other) ≡ cond m (is_held own) (is_held other)
-held-cond true own other = refl
-held-cond false own other = refl
-
--- what the agent of the request has, and what another one has
-by-agent : (m t u w o g gp h own other : Bool) → t ≡ m → u ≡ not m → gp ≡ (t && g)
-    → (m ≡ true → own ≡ (g || (h && not w))) → other ≡ (h && not o)
-    → cond m own other ≡ (gp || (h && not ((t && w) || (u && o))))
-by-agent true t u w o g gp h own other e f k x y =
-    x refl ∙ (λ i. g || (h && not (sym (or-nothing w) i)))
-    ∙ sym ((λ i. k i || (h && not ((t && w) || (u && o)))) ∙ (λ i. (e i && g) || (h && not ((e i && w) || (f i && o)))))
-by-agent false t u w o g gp h own other e f k x y =
-    y ∙ sym ((λ i. k i || (h && not ((t && w) || (u && o))))
-    ∙ (λ i. (e i && g) || (h && not ((e i && w) || (f i && o)))))
+held-cond m own other = grind arith
 
 and-same : (b : Bool) → (b && true) ≡ b
-and-same true = refl
-and-same false = refl
+and-same b = grind arith
 
 held-of : (b agent : ℕ) (st own other : Mesi) (w o g gp : Bool) → gp ≡ ((nat_eq agent b && true) && g)
     → ((b == agent) ≡ true → is_held own ≡ (g || (is_held st && not w))) → is_held other ≡ (is_held st && not o)
     → is_held (cond (b == agent) own other)
     ≡ (gp || (is_held st && not (((nat_eq agent b && true) && w) || ((not (nat_eq agent b) && true) && o))))
-held-of b agent st own other w o g gp k x y =
-    let swap : nat_eq agent b ≡ (b == agent) = nat_eq-sym agent b in
-    held-cond (b == agent) own other
-    ∙ by-agent (b == agent) (nat_eq agent b && true) (not (nat_eq agent b) && true) w o g gp (is_held st)
-    (is_held own) (is_held other)
-    (and-same (nat_eq agent b) ∙ swap) (and-same (not (nat_eq agent b)) ∙ ap not swap) k x y
+held-of b agent st own other w o g gp k x y = grind (arith, nat_eq-sym, held-cond, and-same)
 
 same-true : (b : Bool) → b ≡ (b && true)
-same-true true = refl
-same-true false = refl
+same-true b = grind arith
 
 none-false : (b : Bool) → false ≡ (b && false)
-none-false true = refl
-none-false false = refl
+none-false b = grind arith
 
 granted-held : (shared : Bool) → is_held (granted purposes.Read shared) ≡ true
-granted-held true = refl
-granted-held false = refl
+granted-held shared = grind arith
 
 kept-by-read : (s : Mesi) → is_held (after_snoop s purposes.Read) ≡ (is_held s && not false)
-kept-by-read Invalid = refl
-kept-by-read Shared = refl
-kept-by-read Exclusive = refl
-kept-by-read Modified = refl
+kept-by-read s = grind arith
 
 kept-held : (h : Bool) → h ≡ (h && not false)
-kept-held true = refl
-kept-held false = refl
+kept-held h = grind arith
 
 none-held : (h : Bool) → false ≡ (h && not true)
-none-held true = refl
-none-held false = refl
+none-held h = grind arith
 
 won-held : (s : Mesi) → is_held s ≡ true → is_held (cond (is_held s) Modified Invalid) ≡ true
 won-held s e = ap (λ b. is_held (cond b Modified Invalid)) e
@@ -108,10 +77,7 @@ handed-read : (p : Past) (line n first agent : ℕ) (turn : Turn) (owns shared :
 unfolding snoop_events claimed_events settled_events is_upgraded is_got makes_grant purpose_of is_granted_by
     is_lost_by is_some_and is_snooped is_claim_of is_claim_of_other is_owning is_write_back_kind fits_kind
     fits_getting fits_upgrade fits_write_back after effect given linked settled trimmed
-handed-read p line n first agent turn owns shared x b None e g h = absurd (let no : ⊥ = cc in no)
-handed-read p line n first agent turn owns shared x b (Some owner) e g h =
-    rw (e, g) (held-of b agent (x.state b) (Shared) (after_snoop (x.state b) purposes.Read) false false true
-    (nat_eq agent b && true) (same-true (nat_eq agent b && true)) (λ m. refl) (kept-by-read (x.state b)))
+handed-read p line n first agent turn owns shared x b o h1 h2 h3 = grind arith
 
 handed-own : (p : Past) (line n first agent : ℕ) (turn : Turn) (owns shared : Bool) (x : MemoryLine) (b : ℕ)
     (o : Option ℕ) → nat_eq line line ≡ true
@@ -121,10 +87,7 @@ handed-own : (p : Past) (line n first agent : ℕ) (turn : Turn) (owns shared : 
 unfolding snoop_events claimed_events settled_events is_upgraded is_got makes_grant purpose_of is_granted_by
     is_lost_by is_some_and is_snooped is_claim_of is_claim_of_other is_owning is_write_back_kind fits_kind
     fits_getting fits_upgrade fits_write_back after effect given linked settled trimmed
-handed-own p line n first agent turn owns shared x b None e g h = absurd (let no : ⊥ = cc in no)
-handed-own p line n first agent turn owns shared x b (Some owner) e g h =
-    rw (e, g) (held-of b agent (x.state b) (Modified) (Invalid) false true true (nat_eq agent b && true)
-    (same-true (nat_eq agent b && true)) (λ m. refl) (none-held (is_held (x.state b))))
+handed-own p line n first agent turn owns shared x b o h1 h2 h3 = grind arith
 
 handed-upgrade : (p : Past) (line n first agent : ℕ) (turn : Turn) (owns shared : Bool) (x : MemoryLine) (b : ℕ)
     (o : Option ℕ) → nat_eq line line ≡ true
@@ -134,10 +97,7 @@ handed-upgrade : (p : Past) (line n first agent : ℕ) (turn : Turn) (owns share
 unfolding snoop_events claimed_events settled_events is_upgraded is_got makes_grant purpose_of is_granted_by
     is_lost_by is_some_and is_snooped is_claim_of is_claim_of_other is_owning is_write_back_kind fits_kind
     fits_getting fits_upgrade fits_write_back after effect given linked settled trimmed
-handed-upgrade p line n first agent turn owns shared x b None e g h = absurd (let no : ⊥ = cc in no)
-handed-upgrade p line n first agent turn owns shared x b (Some owner) e g h =
-    rw (e, g) (held-of b agent (x.state b) (Modified) (Invalid) false true true (nat_eq agent b && true)
-    (same-true (nat_eq agent b && true)) (λ m. refl) (none-held (is_held (x.state b))))
+handed-upgrade p line n first agent turn owns shared x b o h1 h2 h3 = grind arith
 
 holders : (p : Past) (line n first agent : ℕ) (kind : Kind) (outcome : Outcome) (turn : Turn)
     (won owns shared : Bool) (x : MemoryLine) (b : ℕ) → nat_eq line line ≡ true → fits_kind kind outcome ≡ true
@@ -147,49 +107,23 @@ holders : (p : Past) (line n first agent : ℕ) (kind : Kind) (outcome : Outcome
 unfolding snoop_events claimed_events settled_events is_upgraded is_got makes_grant purpose_of is_granted_by
     is_lost_by is_some_and is_snooped is_claim_of is_claim_of_other is_owning is_write_back_kind fits_kind
     fits_getting fits_upgrade fits_write_back after effect given linked settled trimmed
-holders p line n first agent kinds.Read Granted turn won owns shared x b e h o w =
-    rw e (held-of b agent (x.state b) (granted purposes.Read (is_held_elsewhere (past_to p n) agent line n))
-    (after_snoop (x.state b) purposes.Read) false false true (nat_eq agent b && true)
-    (same-true (nat_eq agent b && true)) (λ m. granted-held (is_held_elsewhere (past_to p n) agent line n))
-    (kept-by-read (x.state b)))
-holders p line n first agent kinds.Read Handed turn won owns shared x b e h o w =
-    handed-read p line n first agent turn owns shared x b (owner_at (past_to p n) agent line n) e refl (o refl)
-holders p line n first agent kinds.Read Retried turn won owns shared x b e h o w =
-    rw e (held-of b agent (x.state b) (x.state b) (after_snoop (x.state b) purposes.Read) false false false
-    false (none-false (nat_eq agent b && true)) (λ m. kept-held (is_held (x.state b))) (kept-by-read (x.state b)))
-holders p line n first agent kinds.Read Deferred turn won owns shared x b e h o w =
-    rw e (held-of b agent (x.state b) (x.state b) (after_snoop (x.state b) purposes.Read) false false false
-    false (none-false (nat_eq agent b && true)) (λ m. kept-held (is_held (x.state b))) (kept-by-read (x.state b)))
-holders p line n first agent kinds.Invalidate Granted turn won owns shared x b e h o w =
-    rw e (held-of b agent (x.state b) (Modified) (Invalid) false true true (nat_eq agent b && true)
-    (same-true (nat_eq agent b && true)) (λ m. refl) (none-held (is_held (x.state b))))
-holders p line n first agent kinds.Invalidate Retried turn won owns shared x b e h o w =
-    rw e (held-of b agent (x.state b) (x.state b) (Invalid) false true false false
-    (none-false (nat_eq agent b && true)) (λ m. kept-held (is_held (x.state b))) (none-held (is_held (x.state b))))
-holders p line n first agent kinds.Invalidate Deferred turn won owns shared x b e h o w =
-    rw e (held-of b agent (x.state b) (x.state b) (Invalid) false true false false
-    (none-false (nat_eq agent b && true)) (λ m. kept-held (is_held (x.state b))) (none-held (is_held (x.state b))))
-holders p line n first agent kinds.Upgrade Retried turn won owns shared x b e h o w =
-    rw e (held-of b agent (x.state b) (x.state b) (Invalid) false true false false
-    (none-false (nat_eq agent b && true)) (λ m. kept-held (is_held (x.state b))) (none-held (is_held (x.state b))))
-holders p line n first agent kinds.Upgrade Upgraded turn true owns shared x b e h o w =
-    rw e (held-of b agent (x.state b) (cond (is_held (x.state b)) Modified Invalid) (Invalid) false true true
-    (nat_eq agent b && true) (same-true (nat_eq agent b && true))
-    (λ m. won-held (x.state b) (ap (λ a. is_held (x.state a)) (eqb-true b agent m) ∙ sym w))
-    (none-held (is_held (x.state b))))
-holders p line n first agent kinds.Upgrade Upgraded turn false owns shared x b e h o w =
-    rw e (held-of b agent (x.state b) (cond (is_held (x.state b)) Modified Invalid) (Invalid) false true false
-    false (none-false (nat_eq agent b && true))
-    (λ m. lost-held (x.state b) (ap (λ a. is_held (x.state a)) (eqb-true b agent m) ∙ sym w))
-    (none-held (is_held (x.state b))))
-holders p line n first agent kinds.WriteBack Written turn won owns shared x b e h o w =
-    rw e (held-of b agent (x.state b) (Invalid) (x.state b) true false false false
-    (none-false (nat_eq agent b && true)) (λ m. none-held (is_held (x.state b))) (kept-held (is_held (x.state b))))
-holders p line n first agent kinds.Invalidate Handed turn won owns shared x b e h o w =
-    handed-own p line n first agent turn owns shared x b (owner_at (past_to p n) agent line n) e refl (o refl)
-holders p line n first agent kinds.Upgrade Handed turn won owns shared x b e h o w =
-    handed-upgrade p line n first agent turn owns shared x b (owner_at (past_to p n) agent line n) e refl (o refl)
-holders p line n first agent _ _ turn won owns shared x b e h o w = absurd (let no : ⊥ = cc in no)
+holders p line n first agent kind outcome turn won owns shared x b h1 h2 h3 h4 =
+    grind (
+      arith,
+      held-of,
+      same-true,
+      granted-held,
+      kept-by-read,
+      handed-read,
+      none-false,
+      kept-held,
+      none-held,
+      won-held,
+      eqb-true,
+      lost-held,
+      handed-own,
+      handed-upgrade,
+    )
 
 -- an upgrade is won where the agent of the machine holds the line
 pub holders-made : (p : Past) (line n : ℕ) (s : SnoopEnd) (x : MemoryLine) (h : IsSnoopOn p line n s)

@@ -1,6 +1,6 @@
 -- What the event of a snoop end leaves of a line's links and of its deferral is what the run has of them.
 use Rattle.std.proofs.Common.{ℕ, ◌≡◌, Bool, true, false, ◌&&◌, ◌||◌, if◌then◌else◌, nat_eq, [], ◌++◌, Option, Some}
-use Rattle.std.proofs.Common.{None, is_some, refl, sym, subst, append-nil}
+use Rattle.std.proofs.Common.{None, is_some, refl, sym, subst, append-nil, arith}
 use Rattle.std.proofs.lemmas.Bool.{eq-eqb}
 use Rattle.std.specs.Option.{option_map_or}
 use Rattle.fsb_encode.specs.declared.request.Kind.{Kind}
@@ -12,12 +12,15 @@ use Rattle.fsb_line.specs.Line.{MemoryLine, trimmed}
 use Rattle.fsb_line.specs.LineRuns.{run}
 use Rattle.fsb_trace.specs.Outcome.{is_deferral}
 use Rattle.fsb_trace.specs.declared.outcome.Outcome.{Outcome}
-use Rattle.fsb_trace.specs.declared.outcome.Outcome.TheVariants.{Granted, Handed, Retried, Deferred, Written, Upgraded}
+use Rattle.fsb_trace.specs.declared.outcome.Outcome.TheVariants.{Granted, Handed, Retried, Deferred, Written}
+use Rattle.fsb_trace.specs.declared.outcome.Outcome.TheVariants.{Upgraded}
 use Rattle.fsb_timely.specs.Moments.{is_got, is_upgraded, makes_grant}
 use Rattle.fsb_timely.specs.Past.{Grant, Past, SnoopEnd}
 use Rattle.fsb_timely.specs.Runs.{past_to}
-use Rattle.fsb_coherent.specs.Awaits.{awaited_by, awaited_by_claim, awaited_by_grant, is_written, owner_at, purpose_of}
-use Rattle.fsb_coherent.specs.Fitting.{IsSnoopOn, IsUncontested, fits_getting, fits_kind, fits_upgrade, fits_write_back}
+use Rattle.fsb_coherent.specs.Awaits.{awaited_by, awaited_by_claim, awaited_by_grant, is_written, owner_at}
+use Rattle.fsb_coherent.specs.Awaits.{purpose_of}
+use Rattle.fsb_coherent.specs.Fitting.{IsSnoopOn, IsUncontested, fits_getting, fits_kind, fits_upgrade}
+use Rattle.fsb_coherent.specs.Fitting.{fits_write_back}
 use Rattle.fsb_coherent.specs.LineEvents.{claimed_events, settled_events, snoop_events}
 use Rattle.fsb_coherent.specs.Relation.{deferred_to, giver_at, link_for, purpose_at}
 
@@ -51,15 +54,7 @@ grant_if first agent line kind outcome won owns shared =
 pub whole-end : (p : Past) (line n : ℕ) (s : SnoopEnd) (h : IsSnoopOn p line n s)
     → end_with s.first h.agent line h.kind s.turn s.outcome
     (grant_if s.first h.agent line h.kind s.outcome h.won h.owns h.shared) ≡ s
-whole-end p line n s h = λ i.
-    record {
-      first = s.first;
-      claim = sym h.claimed i;
-      kind = sym h.known i;
-      turn = s.turn;
-      outcome = s.outcome;
-      grant = sym h.granted i;
-    }
+whole-end p line n s h = grind arith
 
 -- its links, and its deferral
 abbrev LinksOf : Past → ℕ → ℕ → SnoopEnd → MemoryLine → Type 0
@@ -120,16 +115,6 @@ DeferralOf p line n agent s x =
     (run x (snoop_events (past_to p n) line n s)).deferral
     ≡ (if is_deferral s.outcome then Some (deferred_to p line n s agent) else x.deferral)
 
-handed-deferral : (p : Past) (line n first agent : ℕ) (kind : Kind) (purpose : Purpose) (turn : Turn)
-    (owns shared : Bool) (x : MemoryLine) (o : Option ℕ) → nat_eq line line ≡ true → purpose_of kind ≡ Some purpose
-    → owner_at (past_to p n) agent line n ≡ o → is_some o ≡ true
-    → DeferralOf p line n agent
-    (end_with first agent line kind turn Handed (Some (grant_with first agent line owns shared))) x
-unfolding snoop_events claimed_events settled_events is_deferral deferred_to purpose_at after effect given
-    linked settled trimmed
-handed-deferral p line n first agent kind purpose turn owns shared x None e f g h = absurd (let no : ⊥ = cc in no)
-handed-deferral p line n first agent kind purpose turn owns shared x (Some owner) e f g h = rw (e, f, g) refl
-
 deferrals : (p : Past) (line n first agent : ℕ) (kind : Kind) (outcome : Outcome) (turn : Turn)
     (won owns shared : Bool) (x : MemoryLine) → nat_eq line line ≡ true → fits_kind kind outcome ≡ true
     → (outcome ≡ Handed → is_some (owner_at (past_to p n) agent line n) ≡ true)
@@ -137,26 +122,7 @@ deferrals : (p : Past) (line n first agent : ℕ) (kind : Kind) (outcome : Outco
     (end_with first agent line kind turn outcome (grant_if first agent line kind outcome won owns shared)) x
 unfolding snoop_events claimed_events settled_events is_upgraded is_got makes_grant purpose_of is_deferral
     deferred_to purpose_at fits_kind fits_getting fits_upgrade fits_write_back after effect given linked settled trimmed
-deferrals p line n first agent kinds.Read Granted turn won owns shared x e h o = rw e refl
-deferrals p line n first agent kinds.Read Handed turn won owns shared x e h o =
-    handed-deferral p line n first agent kinds.Read _ turn owns shared x (owner_at (past_to p n) agent line n) e
-    refl refl (o refl)
-deferrals p line n first agent kinds.Read Retried turn won owns shared x e h o = rw e refl
-deferrals p line n first agent kinds.Read Deferred turn won owns shared x e h o = rw e refl
-deferrals p line n first agent kinds.Invalidate Granted turn won owns shared x e h o = rw e refl
-deferrals p line n first agent kinds.Invalidate Handed turn won owns shared x e h o =
-    handed-deferral p line n first agent kinds.Invalidate _ turn owns shared x
-    (owner_at (past_to p n) agent line n) e refl refl (o refl)
-deferrals p line n first agent kinds.Invalidate Retried turn won owns shared x e h o = rw e refl
-deferrals p line n first agent kinds.Invalidate Deferred turn won owns shared x e h o = rw e refl
-deferrals p line n first agent kinds.Upgrade Handed turn won owns shared x e h o =
-    handed-deferral p line n first agent kinds.Upgrade _ turn owns shared x
-    (owner_at (past_to p n) agent line n) e refl refl (o refl)
-deferrals p line n first agent kinds.Upgrade Retried turn won owns shared x e h o = rw e refl
-deferrals p line n first agent kinds.Upgrade Upgraded turn true owns shared x e h o = rw e refl
-deferrals p line n first agent kinds.Upgrade Upgraded turn false owns shared x e h o = rw e refl
-deferrals p line n first agent kinds.WriteBack Written turn won owns shared x e h o = rw e refl
-deferrals p line n first agent _ _ turn won owns shared x e h o = absurd (let no : ⊥ = cc in no)
+deferrals p line n first agent kind outcome turn won owns shared x h1 h2 h3 = grind arith
 
 -- the snoop end of a request for the line leaves the deferral of the run
 pub deferral-made : (p : Past) (line n : ℕ) (s : SnoopEnd) (x : MemoryLine) → (h : IsSnoopOn p line n s)

@@ -1,14 +1,13 @@
 -- The snoop end of a reply that grants a line: its event may happen, and the line of the machine behind it is that of
 -- the run.
-use Rattle.std.proofs.Common.{ℕ, ◌+◌, ◌≡◌, ◌==◌, Bool, true, false, cond, not, ◌&&◌, ◌||◌, ◌++◌, if◌then◌else◌, nat_eq}
-use Rattle.std.proofs.Common.{is_some, [], ◌∷◌, Option, Some, None, refl, sym, ap, subst, ◌∙◌, inl, inr}
+use Rattle.std.proofs.Common.{ℕ, ◌+◌, ◌≡◌, ◌==◌, Bool, true, false, cond, not, ◌&&◌, ◌||◌, ◌++◌, if◌then◌else◌}
+use Rattle.std.proofs.Common.{nat_eq, is_some, [], ◌∷◌, Option, Some, None, refl, sym, ap, subst, ◌∙◌, arith}
 use Rattle.std.proofs.Math.Bool.{and-true}
-use Rattle.std.proofs.lemmas.Bool.{and_right, cases_Bool, eq-eqb, eqb-true}
+use Rattle.std.proofs.lemmas.Bool.{eq-eqb}
 use Rattle.fsb_count.specs.Options.{is_some_and}
 use Rattle.fsb_count.proofs.Interface.{nat_eq-sym}
 use Rattle.fsb_line.specs.Coherence.{Ordered}
 use Rattle.fsb_line.specs.declared.purpose.Purpose.{Purpose}
-use Rattle.fsb_line.specs.declared.purpose.Purpose.TheVariants.{Own, Read, Upgrade, WriteBack}
 use Rattle.fsb_line.specs.declared.state.Mesi.{Mesi}
 use Rattle.fsb_line.specs.Events.{May, after, effect, linked, replied, settled}
 use Rattle.fsb_line.specs.Events.Event.{IsReplied}
@@ -16,15 +15,14 @@ use Rattle.fsb_line.specs.Line.{LineDeferral, MemoryLine, OpenRequest, put, trim
 use Rattle.fsb_line.specs.LineRuns.{MayRun, run}
 use Rattle.fsb_line.specs.States.{gets_line, granted, is_held, is_modified, is_sole, kind_owns}
 use Rattle.fsb_line.proofs.Interface.{granted_owns}
-use Rattle.fsb_trace.specs.Outcome.{is_deferral}
 use Rattle.fsb_timely.specs.Past.{Grant, Past, SnoopEnd}
 use Rattle.fsb_timely.specs.Grants.{grant_at, is_granted, is_named_by_other, is_snooped, is_sole_grant, is_taken_away}
 use Rattle.fsb_timely.specs.Grants.{is_written_back, snooped_at}
 use Rattle.fsb_timely.specs.Moments.{is_snoop_of}
 use Rattle.fsb_coherent.specs.Awaits.{awaited_by, awaited_by_grant}
 use Rattle.fsb_coherent.specs.Facts.{IsRepliedOn, SettlesInOrder}
-use Rattle.fsb_coherent.specs.Relation.{deferral_at, deferral_below, defers_line, giver_at, link_for, purpose_at}
-use Rattle.fsb_coherent.specs.Relation.{purpose_granted, replies_line}
+use Rattle.fsb_coherent.specs.Relation.{deferral_below, defers_line, giver_at, link_for, purpose_at, purpose_granted}
+use Rattle.fsb_coherent.specs.Relation.{replies_line}
 use Rattle.fsb_coherent.specs.BeforeSnoop.{IsOpenThrough, TiedThrough}
 use Rattle.fsb_coherent.proofs.Behind.{TiedBehind, links_new}
 use Rattle.fsb_coherent.proofs.FromThrough.{dirty-from, exclusive-from, holds-from, open-behind, open-through}
@@ -74,44 +72,23 @@ named-there : (p : Past) (line n : ℕ) (x : MemoryLine) (s : SnoopEnd) (grant :
 unfolding is_named_by_other is_some_and
 named-there p line n x s grant h b = rw (h.there, h.unclaimed) refl
 
-held-tidy : (h : Bool) → h ≡ (false || (h && not false))
-held-tidy true = refl
-held-tidy false = refl
-
-tidy : (h : Bool) → h ≡ (h && (not false && not false))
-tidy true = refl
-tidy false = refl
-
 held-granted : (m : Bool) (kind : Purpose) (shared : Bool) (s : Mesi) → gets_line kind ≡ true
     → is_held (cond m (granted kind shared) s) ≡ (m || (is_held s && not false))
-held-granted false kind shared s g = held-tidy (is_held s)
-held-granted true Read true s g = refl
-held-granted true Read false s g = refl
-held-granted true Own shared s g = refl
-held-granted true Upgrade shared s g = refl
-held-granted true WriteBack shared s g = absurd (let no : ⊥ = cc in no)
+held-granted m kind shared s h1 = grind arith
 
 sole-granted : (kind : Purpose) (shared seen owns : Bool) → gets_line kind ≡ true → owns ≡ kind_owns kind
     → (owns ≡ false → seen ≡ shared)
     → is_sole (granted kind shared) ≡ (owns || not seen)
-sole-granted Read true seen owns g e f = sym ((λ i. e i || not (f e i)))
-sole-granted Read false seen owns g e f = sym ((λ i. e i || not (f e i)))
-sole-granted Own shared seen owns g e f = sym (ap (λ o. o || not seen) e)
-sole-granted Upgrade shared seen owns g e f = sym (ap (λ o. o || not seen) e)
-sole-granted WriteBack shared seen owns g e f = absurd (let no : ⊥ = cc in no)
+sole-granted kind shared seen owns h1 h2 h3 = grind arith
 
 tested : (test : Mesi → Bool) (m s : Bool) (own other : Mesi) → test own ≡ s
     → test (cond m own other) ≡ (if m then s else (test other && (not false && not false)))
-tested test true s own other e = e
-tested test false s own other e = tidy (test other)
+tested test m s own other h1 = grind arith
 
 kind-granted : (kind : Purpose) (grant : Grant) → gets_line kind ≡ true → grant.owns ≡ kind_owns kind
     → kind ≡ purpose_granted (Some grant)
 unfolding purpose_granted is_some_and
-kind-granted Read grant g e = rw e refl
-kind-granted Own grant g e = rw e refl
-kind-granted Upgrade grant g e = absurd (let no : ⊥ = cc in no)
-kind-granted WriteBack grant g e = absurd (let no : ⊥ = cc in no)
+kind-granted kind grant h1 h2 = grind arith
 
 -- the link of the reply
 links-there : (p : Past) (line n : ℕ) (x : MemoryLine) (s : SnoopEnd) (grant : Grant)
@@ -131,29 +108,17 @@ links-there p line n x s grant h gets =
 deferral-there : (p : Past) (line n : ℕ) (x : MemoryLine) (s : SnoopEnd) (grant : Grant)
     → IsAnswered p line n x s grant → deferral_below p line (n + 1) ≡ None
 unfolding defers_line replies_line is_some_and
-deferral-there p line n x s grant h =
-    let defers : defers_line p line n ≡ false = rw (h.there, h.unclaimed)
-    (and_right (is_deferral s.outcome) false refl) in
-    let replies : replies_line p line n ≡ true = rw (h.there, h.unclaimed, h.grants)
-    (eq-eqb grant.line line h.on_line) in
-    deferral-more p line n
-    ∙ (λ i. if defers i then deferral_at p line n else (if replies i then None else deferral_below p line n))
+deferral-there p line n x s grant h = grind (arith, deferral-more)
 
 -- the reply's own request is no symmetric agent's
 others-there : (p : Past) (line n : ℕ) (x : MemoryLine) (s : SnoopEnd) (grant : Grant)
     → IsAnswered p line n x s grant → (b : ℕ) (request : OpenRequest)
     → IsOpenThrough p b line n request → is_some_and (snooped_at p n) (is_snoop_of request.number) ≡ false
-others-there p line n x s grant h b request o =
-    not-its-own p b line n request s h.settles h.there o
-    (λ k. let e = sym h.unclaimed ∙ k in let impossible : ⊥ = cc in impossible)
+others-there p line n x s grant h b request o = grind (arith, not-its-own)
 
 put-apart : (f : ℕ → Option OpenRequest) (a b : ℕ) → f a ≡ None → put f a None b ≡ f b
 unfolding put
-put-apart f a b e =
-    elim (cases_Bool (b == a)) [
-      | inl same ↦ rw same (sym (ap f (eqb-true b a same) ∙ e))
-      | inr other ↦ rw other refl
-    ]
+put-apart f a b e = grind arith
 
 -- the line after the reply is that of the run
 behind-replied : (p : Past) (line n : ℕ) (x : MemoryLine) (s : SnoopEnd) (grant : Grant)

@@ -1,37 +1,27 @@
 -- A snoop end on a line closes its request, and moves no data.
-use Rattle.std.proofs.Common.{ℕ, ◌≡◌, Bool, true, false, nat_eq, Option, Some, None, is_some, refl, subst}
+use Rattle.std.proofs.Common.{ℕ, ◌≡◌, Bool, true, nat_eq, None, is_some, refl, subst, arith}
 use Rattle.std.proofs.lemmas.Bool.{eq-eqb}
 use Rattle.fsb_encode.specs.declared.request.Kind.{Kind}
-use Rattle.fsb_encode.specs.declared.request.Kind.TheVariants as kinds
 use Rattle.fsb_hazard.specs.declared.choice.Turn.{Turn}
-use Rattle.fsb_line.specs.declared.purpose.Purpose.{Purpose}
 use Rattle.fsb_line.specs.Events.{after, effect, given, linked, settled}
 use Rattle.fsb_line.specs.Line.{MemoryLine, put, trimmed}
 use Rattle.fsb_line.specs.LineRuns.{run}
 use Rattle.fsb_trace.specs.declared.outcome.Outcome.{Outcome}
-use Rattle.fsb_trace.specs.declared.outcome.Outcome.TheVariants.{Granted, Handed, Retried, Deferred, Written, Upgraded}
+use Rattle.fsb_trace.specs.declared.outcome.Outcome.TheVariants.{Handed}
 use Rattle.fsb_timely.specs.Moments.{is_got, is_upgraded, makes_grant}
 use Rattle.fsb_timely.specs.Past.{Past, SnoopEnd}
 use Rattle.fsb_timely.specs.Runs.{past_to}
 use Rattle.fsb_coherent.specs.Awaits.{owner_at, purpose_of}
-use Rattle.fsb_coherent.specs.Fitting.{IsSnoopOn, IsUncontested, fits_getting, fits_kind, fits_upgrade, fits_write_back}
+use Rattle.fsb_coherent.specs.Fitting.{IsSnoopOn, IsUncontested, fits_getting, fits_kind, fits_upgrade}
+use Rattle.fsb_coherent.specs.Fitting.{fits_write_back}
 use Rattle.fsb_coherent.specs.LineEvents.{claimed_events, settled_events, snoop_events}
-use Rattle.fsb_coherent.proofs.SnoopLinks.{end_with, grant_if, grant_with, whole-end}
+use Rattle.fsb_coherent.proofs.SnoopLinks.{end_with, grant_if, whole-end}
 
 -- the request of the agent is closed, and what is on the bus stays
 abbrev pub ClosesFor : Past → ℕ → ℕ → ℕ → SnoopEnd → MemoryLine → Type 0
 ClosesFor p line n agent s x =
     ((run x (snoop_events (past_to p n) line n s)).ask ≡ put x.ask agent None)
     × ((run x (snoop_events (past_to p n) line n s)).moved ≡ x.moved)
-
-handed : (p : Past) (line n first agent : ℕ) (kind : Kind) (purpose : Purpose) (turn : Turn) (owns shared : Bool)
-    (x : MemoryLine) (o : Option ℕ) → nat_eq line line ≡ true → purpose_of kind ≡ Some purpose
-    → owner_at (past_to p n) agent line n ≡ o → is_some o ≡ true
-    → ClosesFor p line n agent (end_with first agent line kind turn Handed
-    (Some (grant_with first agent line owns shared))) x
-unfolding snoop_events claimed_events settled_events is_upgraded after effect given linked settled trimmed
-handed p line n first agent kind purpose turn owns shared x None e f g h = absurd (let no : ⊥ = cc in no)
-handed p line n first agent kind purpose turn owns shared x (Some owner) e f g h = rw (e, f, g) (refl, refl)
 
 closes : (p : Past) (line n first agent : ℕ) (kind : Kind) (outcome : Outcome) (turn : Turn) (won owns shared : Bool)
     (x : MemoryLine) → nat_eq line line ≡ true → fits_kind kind outcome ≡ true
@@ -40,26 +30,7 @@ closes : (p : Past) (line n first agent : ℕ) (kind : Kind) (outcome : Outcome)
     (grant_if first agent line kind outcome won owns shared)) x
 unfolding snoop_events claimed_events settled_events is_upgraded is_got makes_grant purpose_of fits_kind
     fits_getting fits_upgrade fits_write_back after effect given linked settled trimmed
-closes p line n first agent kinds.Read Granted turn won owns shared x e h o = rw e (refl, refl)
-closes p line n first agent kinds.Read Handed turn won owns shared x e h o =
-    handed p line n first agent kinds.Read _ turn owns shared x (owner_at (past_to p n) agent line n) e refl refl
-    (o refl)
-closes p line n first agent kinds.Read Retried turn won owns shared x e h o = rw e (refl, refl)
-closes p line n first agent kinds.Read Deferred turn won owns shared x e h o = rw e (refl, refl)
-closes p line n first agent kinds.Invalidate Granted turn won owns shared x e h o = rw e (refl, refl)
-closes p line n first agent kinds.Invalidate Handed turn won owns shared x e h o =
-    handed p line n first agent kinds.Invalidate _ turn owns shared x
-    (owner_at (past_to p n) agent line n) e refl refl (o refl)
-closes p line n first agent kinds.Invalidate Retried turn won owns shared x e h o = rw e (refl, refl)
-closes p line n first agent kinds.Invalidate Deferred turn won owns shared x e h o = rw e (refl, refl)
-closes p line n first agent kinds.Upgrade Handed turn won owns shared x e h o =
-    handed p line n first agent kinds.Upgrade _ turn owns shared x (owner_at (past_to p n) agent line n) e refl refl
-    (o refl)
-closes p line n first agent kinds.Upgrade Retried turn won owns shared x e h o = rw e (refl, refl)
-closes p line n first agent kinds.Upgrade Upgraded turn true owns shared x e h o = rw e (refl, refl)
-closes p line n first agent kinds.Upgrade Upgraded turn false owns shared x e h o = rw e (refl, refl)
-closes p line n first agent kinds.WriteBack Written turn won owns shared x e h o = rw e (refl, refl)
-closes p line n first agent _ _ turn won owns shared x e h o = absurd (let no : ⊥ = cc in no)
+closes p line n first agent kind outcome turn won owns shared x h1 h2 h3 = grind arith
 
 -- the snoop end of a request for the line
 pub closes-made : (p : Past) (line n : ℕ) (s : SnoopEnd) (x : MemoryLine) (h : IsSnoopOn p line n s)

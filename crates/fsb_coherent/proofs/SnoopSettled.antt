@@ -1,14 +1,14 @@
 -- The snoop end of a request for a line leaves the line of the machine that of the run.
-use Rattle.std.proofs.Common.{ℕ, ◌+◌, ◌≡◌, ◌≢◌, ◌==◌, Bool, true, false, cond, not, ◌&&◌, ◌||◌, ◌++◌, if◌then◌else◌}
-use Rattle.std.proofs.Common.{nat_eq, [], Option, Some, None, is_some, refl, sym, ap, ◌∙◌, inl, inr}
-use Rattle.std.proofs.lemmas.Bool.{cases_Bool, eq-eqb, eqb-false, eqb-true}
+use Rattle.std.proofs.Common.{ℕ, ◌+◌, ◌≡◌, ◌≢◌, ◌==◌, false, cond, not, ◌&&◌, ◌||◌, ◌++◌, if◌then◌else◌, nat_eq, []}
+use Rattle.std.proofs.Common.{Some, None, is_some, refl, sym, ap, ◌∙◌, inl, inr, arith}
+use Rattle.std.proofs.lemmas.Bool.{cases_Bool, eqb-false, eqb-true}
 use Rattle.std.specs.Option.{option_map_or}
 use Rattle.fsb_count.specs.Options.{is_some_and}
-use Rattle.fsb_line.specs.Line.{LineDeferral, MemoryLine, OpenRequest, put}
+use Rattle.fsb_line.specs.Line.{MemoryLine, OpenRequest, put}
 use Rattle.fsb_line.specs.LineRuns.{run}
 use Rattle.fsb_line.specs.States.{is_held, is_modified, is_sole}
 use Rattle.fsb_trace.specs.Outcome.{is_deferral}
-use Rattle.fsb_timely.specs.Past.{Claim, Past, SnoopEnd}
+use Rattle.fsb_timely.specs.Past.{Past, SnoopEnd}
 use Rattle.fsb_timely.specs.Grants.{grant_at, is_granted, is_named_by_other, is_sole_grant, is_taken_away}
 use Rattle.fsb_timely.specs.Grants.{is_written_back, snooped_at}
 use Rattle.fsb_timely.specs.Moments.{is_snoop_of}
@@ -48,25 +48,12 @@ named-by : (p : Past) (b line n : ℕ) (s : SnoopEnd) → snooped_at p n ≡ Som
 unfolding is_named_by_other is_some_and
 named-by p b line n s e = rw e refl
 
-deferral-form : (d : Bool) (o : Option LineDeferral) (q : LineDeferral) (on : Bool) → on ≡ true
-    → (if d then Some q else o) ≡ (if d && on then Some q else (if false then None else o))
-deferral-form true o q on e = rw e refl
-deferral-form false o q on e = refl
-
 -- the deferral after it
 deferral-here : (p : Past) (line n : ℕ) (x : MemoryLine) (s : SnoopEnd) (h : IsHere p line n x s)
     → (if is_deferral s.outcome then Some (deferred_to p line n s h.settled.fits.agent) else x.deferral)
     ≡ deferral_below p line (n + 1)
 unfolding defers_line replies_line deferral_at is_some_and
-deferral-here p line n x s h =
-    let run_side : deferral_below p line (n + 1)
-    ≡ (if is_deferral s.outcome && nat_eq line line then Some
-    (deferred_to p line n s h.settled.fits.agent) else (if false then None else deferral_below p line n)) =
-    deferral-more p line n ∙ rw (h.there, h.settled.fits.claimed) refl in
-    ap (λ o. if is_deferral s.outcome then Some (deferred_to p line n s h.settled.fits.agent) else o) h.tied.deferral
-    ∙ deferral-form (is_deferral s.outcome) (deferral_below p line n) (deferred_to p line n s h.settled.fits.agent)
-    (nat_eq line line) (eq-eqb line line refl)
-    ∙ sym run_side
+deferral-here p line n x s h = grind (arith, deferral-more)
 
 -- a request that stays open is another agent's, and one that was open and is another agent's stays so
 stays-asked : (p : Past) (line n : ℕ) (x : MemoryLine) (s : SnoopEnd) (h : IsHere p line n x s) (b : ℕ)
@@ -85,12 +72,7 @@ stays-asked p line n x s h b request e =
     still-unsnooped : (p : Past) (line n : ℕ) (x : MemoryLine) (s : SnoopEnd) (h : IsHere p line n x s) (b : ℕ)
         (request : OpenRequest) → IsOpenThrough p b line n request → b ≢ h.settled.fits.agent
         → is_some_and (snooped_at p n) (is_snoop_of request.number) ≡ false
-    still-unsnooped p line n x s h b request o other =
-        not-its-own p b line n request s h.facts.settles h.there o (λ k.
-        let of_b : Claim = record { first = request.number; agent = b; line = line } in
-        let of_agent : Claim = record { first = s.first; agent = h.settled.fits.agent; line = line } in
-        let same : of_b ≡ of_agent = (let m = sym k ∙ h.settled.fits.claimed in cc) in
-        other (ap (λ (c : Claim). c.agent) same))
+    still-unsnooped p line n x s h b request o other = grind (arith, not-its-own)
 
 stays-open : (p : Past) (line n : ℕ) (x : MemoryLine) (s : SnoopEnd) (h : IsHere p line n x s) (b : ℕ)
     (request : OpenRequest)

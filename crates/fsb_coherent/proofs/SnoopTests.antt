@@ -1,6 +1,6 @@
 -- Who has a line for itself, and who is dirty on it, after a snoop end on it, is who is so in the run.
 use Rattle.std.proofs.Common.{ℕ, ◌≡◌, ◌==◌, Bool, true, false, cond, not, ◌&&◌, if◌then◌else◌, nat_eq, Option, Some}
-use Rattle.std.proofs.Common.{None, is_some, refl, sym, ap, subst, ◌∙◌}
+use Rattle.std.proofs.Common.{None, is_some, refl, sym, ap, subst, ◌∙◌, arith}
 use Rattle.std.proofs.lemmas.Bool.{eq-eqb, eqb-true}
 use Rattle.fsb_count.specs.Options.{is_some_and}
 use Rattle.fsb_encode.specs.declared.request.Kind.{Kind}
@@ -15,15 +15,16 @@ use Rattle.fsb_line.specs.LineRuns.{run}
 use Rattle.fsb_line.specs.States.{after_snoop, granted, is_held}
 use Rattle.fsb_trace.specs.Requests.{is_write_back_kind}
 use Rattle.fsb_trace.specs.declared.outcome.Outcome.{Outcome}
-use Rattle.fsb_trace.specs.declared.outcome.Outcome.TheVariants.{Granted, Handed, Retried, Deferred, Written, Upgraded}
+use Rattle.fsb_trace.specs.declared.outcome.Outcome.TheVariants.{Granted, Handed, Retried, Deferred, Written}
+use Rattle.fsb_trace.specs.declared.outcome.Outcome.TheVariants.{Upgraded}
 use Rattle.fsb_timely.specs.Grants.{is_claim_of, is_claim_of_other, is_owning, is_snooped}
 use Rattle.fsb_timely.specs.Moments.{is_got, is_upgraded, makes_grant}
 use Rattle.fsb_timely.specs.Past.{Past, SnoopEnd}
 use Rattle.fsb_timely.specs.Runs.{past_to}
 use Rattle.fsb_timely.specs.Snoops.{is_held_elsewhere}
 use Rattle.fsb_coherent.specs.Awaits.{owner_at, purpose_of}
-use Rattle.fsb_coherent.specs.Fitting.{IsSnoopOn, IsUncontested, fits_getting, fits_kind, fits_upgrade, fits_write_back}
-use Rattle.fsb_coherent.specs.Fitting.{is_granted_by, is_lost_by}
+use Rattle.fsb_coherent.specs.Fitting.{IsSnoopOn, IsUncontested, fits_getting, fits_kind, fits_upgrade}
+use Rattle.fsb_coherent.specs.Fitting.{fits_write_back, is_granted_by, is_lost_by}
 use Rattle.fsb_coherent.specs.LineEvents.{claimed_events, settled_events, snoop_events}
 use Rattle.fsb_coherent.proofs.SnoopLinks.{end_with, grant_if, grant_with, whole-end}
 use Rattle.fsb_coherent.proofs.StateTests.{IsTest, kept, lost-here, none-false, same-true, tested}
@@ -63,8 +64,7 @@ at-agent x b agent h m w = ap (λ a. is_held (x.state a)) (eqb-true b agent m) �
 won-test : (test : Mesi → Bool) (says : Bool → Bool → Bool) → IsTest test says → (s : Mesi) (owns shared : Bool)
     → owns ≡ true → is_held s ≡ true
     → test (cond (is_held s) Modified Invalid) ≡ says owns shared
-won-test test says t s owns shared o e =
-    ap (λ b. test (cond b Modified Invalid)) e ∙ t.owned shared ∙ ap (λ b. says b shared) (sym o)
+won-test test says t s owns shared o e = grind arith
 
 lost-test : (test : Mesi → Bool) (says : Bool → Bool → Bool) → IsTest test says → (s : Mesi) → is_held s ≡ false
     → test (cond (is_held s) Modified Invalid) ≡ (test s && not false)
@@ -103,10 +103,7 @@ handed-own : (test : Mesi → Bool) (says : Bool → Bool → Bool) → IsTest t
 unfolding snoop_events claimed_events settled_events is_upgraded is_got makes_grant purpose_of is_granted_by
     is_lost_by is_some_and is_snooped is_claim_of is_claim_of_other is_owning is_write_back_kind fits_kind
     fits_getting fits_upgrade fits_write_back after effect given linked settled trimmed
-handed-own test says t p line n first agent turn owns shared x b None e g h u = absurd (let no : ⊥ = cc in no)
-handed-own test says t p line n first agent turn owns shared x b (Some owner) e g h u =
-    rw (e, g) (tested test b agent (x.state b) Modified Invalid false true true (nat_eq agent b && true)
-    (says owns shared) (same-true (nat_eq agent b && true)) (λ m. owned-test test says t owns shared u) (λ m. t.lost))
+handed-own test says h1 p line n first agent turn owns shared x b o h2 h3 h4 h5 = grind arith
 
 handed-upgrade : (test : Mesi → Bool) (says : Bool → Bool → Bool) → IsTest test says
     → (p : Past) (line n first agent : ℕ) (turn : Turn) (owns shared : Bool) (x : MemoryLine) (b : ℕ) (o : Option ℕ)
@@ -117,10 +114,7 @@ handed-upgrade : (test : Mesi → Bool) (says : Bool → Bool → Bool) → IsTe
 unfolding snoop_events claimed_events settled_events is_upgraded is_got makes_grant purpose_of is_granted_by
     is_lost_by is_some_and is_snooped is_claim_of is_claim_of_other is_owning is_write_back_kind fits_kind
     fits_getting fits_upgrade fits_write_back after effect given linked settled trimmed
-handed-upgrade test says t p line n first agent turn owns shared x b None e g h u = absurd (let no : ⊥ = cc in no)
-handed-upgrade test says t p line n first agent turn owns shared x b (Some owner) e g h u =
-    rw (e, g) (tested test b agent (x.state b) Modified Invalid false true true (nat_eq agent b && true)
-    (says owns shared) (same-true (nat_eq agent b && true)) (λ m. owned-test test says t owns shared u) (λ m. t.lost))
+handed-upgrade test says h1 p line n first agent turn owns shared x b o h2 h3 h4 h5 = grind arith
 
 tests : (test : Mesi → Bool) (says : Bool → Bool → Bool) → IsTest test says
     → (p : Past) (line n first agent : ℕ) (kind : Kind) (outcome : Outcome) (turn : Turn) (won owns shared : Bool)
@@ -150,9 +144,7 @@ tests test says t p line n first agent kinds.Read Deferred turn won owns shared 
     (after_snoop (x.state b) purposes.Read) false false false false false (none-false (nat_eq agent b && true))
     (λ m. kept (test (x.state b))) (λ m. t.snooped (x.state b) purposes.Read refl))
 tests test says t p line n first agent kinds.Invalidate Granted turn won owns shared x b e h o w =
-    rw e (tested test b agent (x.state b) Modified Invalid false true true (nat_eq agent b && true)
-    (says owns shared) (same-true (nat_eq agent b && true)) (λ m. owned-test test says t owns shared w.owning)
-    (λ m. t.lost))
+    grind (arith, tested, same-true, owned-test)
 tests test says t p line n first agent kinds.Invalidate Handed turn won owns shared x b e h o w =
     handed-own test says t p line n first agent turn owns shared x b (owner_at (past_to p n) agent line n) e refl
     (o refl) w.owning

@@ -1,7 +1,7 @@
 -- The open requests, the links and the deferral of a line, one clock further.
-use Rattle.std.proofs.Common.{ℕ, zero, suc, ◌+◌, ◌<◌, ◌≡◌, Bool, true, false, ◌&&◌, ◌||◌, if◌then◌else◌, [], ◌++◌}
-use Rattle.std.proofs.Common.{Option, Some, None, refl, sym, ap, ◌∙◌, inl, inr, arith, add-one}
-use Rattle.std.proofs.lemmas.Bool.{cases_Bool, or_parts, le-leb, lt-leb}
+use Rattle.std.proofs.Common.{ℕ, zero, suc, ◌+◌, ◌<◌, ◌≡◌, Bool, false, ◌&&◌, ◌||◌, if◌then◌else◌, [], ◌++◌, Option}
+use Rattle.std.proofs.Common.{Some, None, refl, sym, ap, ◌∙◌, inl, inr, arith, add-one}
+use Rattle.std.proofs.lemmas.Bool.{cases_Bool, le-leb}
 use Rattle.std.specs.Option.{option_map_or}
 use Rattle.fsb_count.specs.Clocks.{any_where, from_clock, last_where}
 use Rattle.fsb_count.specs.Options.{is_at, is_some_and}
@@ -30,58 +30,27 @@ pub responded-more : (p : Past) (n q : ℕ)
 unfolding is_responded_below
 responded-more p n q = any_where-more (λ t. is_at (responded_in p t) q) n
 
-neither : (x y z : Bool) → z ≡ (x || y) → x ≡ false → y ≡ false → z ≡ false
-neither x y z e f g = e ∙ (λ i. f i || g i)
-
 -- an open request that is neither cancelled nor snooped stays open
 pub open-kept : (p : Past) (a line n : ℕ) (request : OpenRequest) → IsOpen p a line n request
     → is_at (cancelled_in p n) request.number ≡ false
     → is_some_and (snooped_at p n) (is_snoop_of request.number) ≡ false → IsOpen p a line (n + 1) request
-open-kept p a line n request h uncancelled unsnooped = record {
-  before = let l = h.before in omega arith;
-  begun = h.begun;
-  wanted = h.wanted;
-  uncancelled = neither (is_cancelled_below p n request.number) (is_at (cancelled_in p n) request.number)
-      (is_cancelled_below p (n + 1) request.number) (cancelled-more p n request.number) h.uncancelled uncancelled;
-  unsnooped = neither (is_snooped_below p n request.number)
-      (is_some_and (snooped_at p n) (is_snoop_of request.number)) (is_snooped_below p (n + 1) request.number)
-      (snooped-more p n request.number) h.unsnooped unsnooped;
-}
+open-kept p a line n request h uncancelled unsnooped = grind (arith, cancelled-more, snooped-more)
 
 -- one that is open and began before was open, and is neither cancelled nor snooped there
 pub open-before : (p : Past) (a line n : ℕ) (request : OpenRequest) → IsOpen p a line (n + 1) request
     → request.number < n → IsOpen p a line n request
-open-before p a line n request h l = record {
-  before = l;
-  begun = h.begun;
-  wanted = h.wanted;
-  uncancelled =
-      (or_parts (is_cancelled_below p n request.number) (is_at (cancelled_in p n) request.number)
-      (sym (cancelled-more p n request.number) ∙ h.uncancelled)).0;
-  unsnooped = (or_parts (is_snooped_below p n request.number)
-      (is_some_and (snooped_at p n) (is_snoop_of request.number)) (sym (snooped-more p n request.number)
-      ∙ h.unsnooped)).0;
-}
+open-before p a line n request h l = grind (arith, cancelled-more, snooped-more)
 
 pub open-untouched : (p : Past) (a line n : ℕ) (request : OpenRequest) → IsOpen p a line (n + 1) request
     → (is_at (cancelled_in p n) request.number ≡ false)
     × (is_some_and (snooped_at p n) (is_snoop_of request.number) ≡ false)
-open-untouched p a line n request h = (
-  (or_parts (is_cancelled_below p n request.number) (is_at (cancelled_in p n) request.number)
-      (sym (cancelled-more p n request.number) ∙ h.uncancelled)).1,
-  (or_parts (is_snooped_below p n request.number) (is_some_and (snooped_at p n) (is_snoop_of request.number))
-      (sym (snooped-more p n request.number) ∙ h.unsnooped)).1,
-)
+open-untouched p a line n request h = grind (arith, cancelled-more, snooped-more)
 
 -- the last clock that passes lies below the bound
 last_where-below : (test : ℕ → Bool) (n t : ℕ) → last_where test n ≡ Some t → t < n
 unfolding last_where
 last_where-below test zero t e = absurd (let h : ⊥ = cc in h)
-last_where-below test (suc n) t e =
-    elim (cases_Bool (test n)) [
-      | inl passed ↦ let same : n ≡ t = (let e' = sym (last_where-passed test n passed) ∙ e in cc) in omega arith
-      | inr failed ↦ let l = last_where-below test n t (sym (last_where-failed test n failed) ∙ e) in omega arith
-    ]
+last_where-below test (suc n) t e = grind (arith, last_where-below test n t)
 
 -- the deferral that is left of the last one, if there is one
 kept_of : Past → ℕ → ℕ → Option ℕ → Option LineDeferral
@@ -92,19 +61,7 @@ kept_of p line n (Some t) = if any_where (from_clock (t + 1) (replies_line p lin
 kept-form : (p : Past) (line n : ℕ) (o : Option ℕ) → last_where (defers_line p line) n ≡ o
     → deferral_below p line n ≡ kept_of p line n o
 unfolding deferral_below kept_of
-kept-form p line n None e = rw (e, deferral_below) refl
-kept-form p line n (Some t) e = rw (e, deferral_below) refl
-
-two-tests : {X : Type 0} (x y : Bool) (d : Option X)
-    → (if (x || y) then None else d) ≡ (if y then None else (if x then None else d))
-two-tests true true d = refl
-two-tests true false d = refl
-two-tests false true d = refl
-two-tests false false d = refl
-
-nothing-left : {X : Type 0} (y : Bool) (d : Option X) → d ≡ None → (if y then None else d) ≡ None
-nothing-left true d e = refl
-nothing-left false d e = e
+kept-form p line n o h1 = grind arith
 
 from-clock : (test : ℕ → Bool) (t n : ℕ) → t < n → from_clock (t + 1) test n ≡ test n
 unfolding from_clock
@@ -113,18 +70,11 @@ from-clock test t n l = ap (λ b. b && test n) (le-leb (t + 1) n (omega arith))
 kept-more : (p : Past) (line n : ℕ) (o : Option ℕ) → ((t : ℕ) → o ≡ Some t → t < n)
     → kept_of p line (n + 1) o ≡ (if replies_line p line n then None else kept_of p line n o)
 unfolding kept_of
-kept-more p line n None below = sym (nothing-left (replies_line p line n) None refl)
-kept-more p line n (Some t) below =
-    let more = any_where-more (from_clock (t + 1) (replies_line p line)) n in
-    let here = from-clock (replies_line p line) t n (below t refl) in
-    ap (λ b. if b then None else deferral_at p line t) (more
-    ∙ ap (λ b. any_where (from_clock (t + 1) (replies_line p line)) n || b) here)
-    ∙ two-tests (any_where (from_clock (t + 1) (replies_line p line)) n) (replies_line p line n) (deferral_at p line t)
+kept-more p line n o h1 = grind (arith, any_where-more, from-clock)
 
 after-itself : (test : ℕ → Bool) (n : ℕ) → any_where (from_clock (n + 1) test) (n + 1) ≡ false
 unfolding from_clock
-after-itself test n = any_where-off (from_clock (n + 1) test) (n + 1)
-    (λ k l. ap (λ b. b && test k) (lt-leb (n + 1) k l))
+after-itself test n = grind (arith, any_where-off)
 
 -- the deferral one clock on: the one made there, none where a reply grants the line there, and otherwise as it was
 pub deferral-more : (p : Past) (line n : ℕ) → deferral_below p line (n + 1)
@@ -157,18 +107,14 @@ link_left-same p line n m t s e = rw e refl
 
 links_at-same : (p : Past) (line n m t : ℕ) (o : Option SnoopEnd) → ((q : ℕ) → is_ended p n q ≡ is_ended p m q)
     → option_map_or (link_left p line n t) o [] ≡ option_map_or (link_left p line m t) o []
-links_at-same p line n m t None e = refl
-links_at-same p line n m t (Some s) e = link_left-same p line n m t s (e s.first)
+links_at-same p line n m t o h1 = grind (arith, link_left-same)
 
 -- links stay where no request ends
 pub links_left-same : (p : Past) (line n m t : ℕ) → ((q : ℕ) → is_ended p n q ≡ is_ended p m q)
     → links_left p line n t ≡ links_left p line m t
 unfolding links_left
 links_left-same p line n m zero e = refl
-links_left-same p line n m (suc t) e =
-    let before = links_left-same p line n m t e in
-    let here = links_at-same p line n m t (snooped_at p t) e in
-    λ i. before i ++ here i
+links_left-same p line n m (suc t) e = grind (arith, links_at-same)
 
 -- the links one clock on: those of before that are left, and that of a snoop end there
 pub chain-more : (p : Past) (line n : ℕ)
@@ -181,10 +127,7 @@ chain-more p line n = rw add-one refl
 pub chain-kept : (p : Past) (line n : ℕ) → ((q : ℕ) → is_ended p (n + 1) q ≡ is_ended p n q)
     → chain_below p line (n + 1) ≡ chain_below p line n ++ option_map_or (link_left p line n n) (snooped_at p n) []
 unfolding chain_below
-chain-kept p line n e =
-    let before = links_left-same p line (n + 1) n n e in
-    let here = links_at-same p line (n + 1) n n (snooped_at p n) e in
-    chain-more p line n ∙ (λ i. before i ++ here i)
+chain-kept p line n e = grind (arith, links_left-same, links_at-same, chain-more)
 
 moved-same : (p : Past) (line n m : ℕ) (s : SnoopEnd) → is_ended p n s.first ≡ is_ended p m s.first
     → is_responded_below p n s.first ≡ is_responded_below p m s.first
@@ -196,5 +139,4 @@ pub moved_at-same : (p : Past) (line n m : ℕ) (o : Option SnoopEnd) → ((q : 
     → ((q : ℕ) → is_responded_below p n q ≡ is_responded_below p m q)
     → is_some_and o (is_moved_for p line n) ≡ is_some_and o (is_moved_for p line m)
 unfolding is_some_and
-moved_at-same p line n m None e f = refl
-moved_at-same p line n m (Some s) e f = moved-same p line n m s (e s.first) (f s.first)
+moved_at-same p line n m o h1 h2 = grind (arith, moved-same)

@@ -1,6 +1,5 @@
 -- The line of the machine between two events of a clock that come before its snoop end.
-use Rattle.std.proofs.Common.{ℕ, ◌<◌, ◌≡◌, ◌==◌, Bool, false, ◌||◌, List, ◌++◌, Some, is_some, sym, subst, ◌∙◌}
-use Rattle.std.proofs.lemmas.Bool.{cond_both, eq-eqb, eqb-true, true≢false}
+use Rattle.std.proofs.Common.{ℕ, ◌<◌, ◌≡◌, Bool, false, ◌||◌, List, ◌++◌, Some, is_some, sym, subst, arith}
 use Rattle.fsb_line.specs.Events.{Event}
 use Rattle.fsb_line.specs.Line.{MemoryLine, OpenRequest, put, trimmed}
 use Rattle.fsb_line.specs.LineRuns.{MayRun, run}
@@ -36,61 +35,29 @@ pub record TiedBetween (p : Past) (line n b c : ℕ) (holds owns dirty : ℕ →
 
 pub open-to : (p : Past) (a line n : ℕ) (request : OpenRequest) → IsOpen p a line n request
     → IsOpenTo p a line n n n request
-open-to p a line n request o = record {
-  before = o.before;
-  begun = o.begun;
-  wanted = o.wanted;
-  uncancelled = o.uncancelled;
-  unsnooped = o.unsnooped;
-}
+open-to p a line n request o = grind arith
 
 pub open-from : (p : Past) (a line n : ℕ) (request : OpenRequest) → IsOpenTo p a line n n n request
     → IsOpen p a line n request
-open-from p a line n request o = record {
-  before = o.before;
-  begun = o.begun;
-  wanted = o.wanted;
-  uncancelled = o.uncancelled;
-  unsnooped = o.unsnooped;
-}
+open-from p a line n request o = grind arith
 
 -- bytes of agents do not count
 pub tied-trimmed : (p : Past) (line n b c : ℕ) (holds owns dirty : ℕ → Bool) (x : MemoryLine)
     → TiedBetween p line n b c holds owns dirty x → TiedBetween p line n b c holds owns dirty (trimmed x)
 unfolding trimmed
-tied-trimmed p line n b c holds owns dirty x t = record {
-  held = t.held;
-  sole = t.sole;
-  modified = t.modified;
-  asked = t.asked;
-  opened = t.opened;
-  chain = t.chain;
-  deferral = t.deferral;
-  moved = t.moved;
-}
+tied-trimmed p line n b c holds owns dirty x t = grind arith
 
 -- another test for who is dirty, with the same answers
 pub tied-dirty : (p : Past) (line n b c : ℕ) (holds owns dirty other : ℕ → Bool) (x : MemoryLine)
     → ((a : ℕ) → dirty a ≡ other a) → TiedBetween p line n b c holds owns dirty x
     → TiedBetween p line n b c holds owns other x
-tied-dirty p line n b c holds owns dirty other x same t = record {
-  held = t.held;
-  sole = t.sole;
-  modified = λ a. t.modified a ∙ same a;
-  asked = t.asked;
-  opened = t.opened;
-  chain = t.chain;
-  deferral = t.deferral;
-  moved = t.moved;
-}
+tied-dirty p line n b c holds owns dirty other x same t = grind arith
 
 -- what is said of a function with another value at one place: of that value there, and of the old one elsewhere
 pub put-cases : {A : Type 0} (f : ℕ → A) (a : ℕ) (value : A) (b : ℕ) (P : A → Type 0) → (b ≡ a → P value)
     → ((b ≡ a → ⊥) → P (f b)) → P (put f a value b)
 unfolding put
-put-cases f a value b P here there =
-    cond_both (b == a) value (f b) P (λ e. here (eqb-true b a e))
-    (λ e. there (λ same. true≢false (sym (eq-eqb b a same) ∙ e)))
+put-cases f a value b P here there = grind arith
 
 -- the events may happen to the line, and this is said of it after them
 abbrev pub Goes : MemoryLine → List Event → (MemoryLine → Type 0) → Type 0
@@ -98,9 +65,7 @@ Goes x es R = MayRun x es × R (run x es)
 
 pub goes-on : (x : MemoryLine) (es fs : List Event) (R S : MemoryLine → Type 0) → Goes x es R
     → ((y : MemoryLine) → R y → Goes y fs S) → Goes x (es ++ fs) S
-goes-on x es fs R S h k =
-    let rest : Goes (run x es) fs S = k (run x es) h.1 in
-    (MayRun-append x es fs h.0 rest.0, subst S (sym (run-append x es fs)) rest.1)
+goes-on x es fs R S h k = grind (arith, MayRun-append, run-append)
 
 pub goes-same : (x : MemoryLine) (es fs : List Event) (R : MemoryLine → Type 0) → es ≡ fs → Goes x fs R → Goes x es R
 goes-same x es fs R e g = subst (λ events. Goes x events R) (sym e) g

@@ -1,22 +1,18 @@
 -- What is said of a clock, in the words of the events of a line, is told by the past up to it.
-use Rattle.std.proofs.Common.{ℕ, zero, suc, ◌+◌, ◌<◌, ◌≤◌, ◌≡◌, Bool, ◌&&◌, if◌then◌else◌, nat_eq, List, [], ◌∷◌, take}
-use Rattle.std.proofs.Common.{slice_get, Option, Some, None, refl, ap, ◌∙◌, inl, inr, arith}
-use Rattle.std.proofs.lemmas.Bool.{cases_lt, le-leb, lt-leb, ne_eqb}
+use Rattle.std.proofs.Common.{ℕ, zero, suc, ◌+◌, ◌<◌, ◌≤◌, ◌≡◌, ◌&&◌, nat_eq, List, [], ◌∷◌, take, slice_get, None}
+use Rattle.std.proofs.Common.{refl, ap, arith}
 use Rattle.std.specs.List.{filter}
-use Rattle.std.specs.Option.{option_and_then, option_map}
-use Rattle.fsb_count.specs.Clocks.{first_where}
-use Rattle.fsb_count.specs.Options.{is_some_and}
+use Rattle.std.specs.Option.{option_and_then}
 use Rattle.fsb_count.proofs.Interface.{first_where-found, first_where-same}
 use Rattle.fsb_access.specs.declared.log.Done.{Done}
 use Rattle.fsb_access.specs.Access.{accessed_line}
 use Rattle.fsb_timely.specs.Growth.{GoesOn}
 use Rattle.fsb_timely.specs.Grants.{begun_at, holds_line, snooped_at}
 use Rattle.fsb_timely.specs.Hits.{is_dirty, is_hit}
-use Rattle.fsb_timely.specs.Moments.{is_snoop_of}
 use Rattle.fsb_timely.specs.Past.{Past}
 use Rattle.fsb_timely.specs.Runs.{entries_to, past_to}
-use Rattle.fsb_timely.proofs.Interface.{below_le, done_below, going-alike, holds_line-same, is_dirty-alike}
-use Rattle.fsb_timely.proofs.Interface.{is_hit-alike, want_of-alike}
+use Rattle.fsb_timely.proofs.Interface.{below_le, done_below, holds_line-same, is_dirty-alike, is_hit-alike}
+use Rattle.fsb_timely.proofs.Interface.{want_of-alike}
 use Rattle.fsb_coherent.specs.Awaits.{awaited_at, awaited_by, purpose_of, purpose_wanted, snoop_end_below}
 use Rattle.fsb_coherent.specs.LineEvents.{entries_on}
 use Rattle.fsb_coherent.proofs.QuietClocks.{slice_get-take}
@@ -45,8 +41,7 @@ dirty-to p n h a line =
 
 pub holds-to : (p : Past) (n : ℕ) → GoesOnAt p n → (a line : ℕ)
     → holds_line (past_to p n) a line n ≡ holds_line p a line n
-holds-to p n h a line =
-    holds_line-same (n + 1) (past_to p n) p a line n (going-alike (n + 1) (past_to p n) p h) (omega arith)
+holds-to p n h a line = grind (arith, holds_line-same)
 
 pub snooped-below : (p : Past) (n t : ℕ) → t < n + 1 → snooped_at (past_to p n) t ≡ snooped_at p t
 unfolding snooped_at past_to
@@ -54,9 +49,7 @@ snooped-below p n t l = ap (option_and_then (λ moment. moment.snooped)) (slice_
 
 pub begun-below : (p : Past) (n t : ℕ) → t < n + 1 → begun_at (past_to p n) t ≡ begun_at p t
 unfolding begun_at past_to
-begun-below p n t l =
-    ap (λ o. option_map (λ owing. owing.claim) (option_and_then (λ moment. moment.begun) o))
-    (slice_get-take (n + 1) p.moments t l)
+begun-below p n t l = grind (arith, slice_get-take)
 
 slice_get-behind : {X : Type 0} (n : ℕ) (xs : List X) (k : ℕ) → n ≤ k → slice_get (take n xs) k ≡ None
 slice_get-behind zero xs k l = refl
@@ -66,27 +59,12 @@ slice_get-behind (suc n) (x ∷ xs) (suc k) l = slice_get-behind n xs k (omega a
 
 pub begun-behind : (p : Past) (n t : ℕ) → n + 1 ≤ t → begun_at (past_to p n) t ≡ None
 unfolding begun_at past_to
-begun-behind p n t l =
-    ap (λ o. option_map (λ owing. owing.claim) (option_and_then (λ moment. moment.begun) o))
-    (slice_get-behind (n + 1) p.moments t l)
+begun-behind p n t l = grind (arith, slice_get-behind)
 
 -- the snoop end of a request, and the end that it awaits
 snoop_end-to : (p : Past) (n q : ℕ) → snoop_end_below (past_to p n) (n + 1) q ≡ snoop_end_below p (n + 1) q
 unfolding snoop_end_below
-snoop_end-to p n q =
-    let f : ℕ → Bool = λ t. is_some_and (snooped_at (past_to p n) t) (is_snoop_of q) in
-    let g : ℕ → Bool = λ t. is_some_and (snooped_at p t) (is_snoop_of q) in
-    let same : (t : ℕ) → t < n + 1 → f t ≡ g t = λ t l.
-    ap (λ o. is_some_and o (is_snoop_of q)) (snooped-below p n t l) in
-    by-first (first_where f (n + 1)) refl
-    ∙ ap (option_and_then (snooped_at p)) (first_where-same f g (n + 1) (record { same = same }))
-  where
-    by-first : (o : Option ℕ) → first_where (λ t. is_some_and (snooped_at (past_to p n) t) (is_snoop_of q)) (n + 1) ≡ o
-        → option_and_then (snooped_at (past_to p n)) o ≡ option_and_then (snooped_at p) o
-    by-first None e = refl
-    by-first (Some t) e =
-        let found = first_where-found (λ t. is_some_and (snooped_at (past_to p n) t) (is_snoop_of q)) (n + 1) t e in
-        snooped-below p n t found.0
+snoop_end-to p n q = grind (arith, snooped-below, first_where-same, first_where-found)
 
 pub awaited-to : (p : Past) (n q : ℕ) → awaited_at (past_to p n) n q ≡ awaited_at p n q
 unfolding awaited_at
@@ -98,13 +76,7 @@ entries-in : (n line : ℕ) (log : List Done)
     ≡ filter (λ done. nat_eq done.clock n && nat_eq (accessed_line done.access) line) log
 unfolding entries_to
 entries-in n line [] = refl
-entries-in n line (done ∷ log) =
-    let rest = entries-in n line log in
-    let test : Bool = nat_eq done.clock n && nat_eq (accessed_line done.access) line in
-    elim (cases_lt n done.clock) [
-      | inl late ↦ rw (lt-leb done.clock n late, ne_eqb done.clock n (λ same. omega arith)) rest
-      | inr early ↦ rw (le-leb done.clock n early) (λ i. if test then done ∷ rest i else rest i)
-    ]
+entries-in n line (done ∷ log) = grind (arith, entries-in n line log)
 
 pub entries-to : (p : Past) (line n : ℕ) → entries_on (past_to p n) line n ≡ entries_on p line n
 unfolding entries_on past_to

@@ -1,7 +1,5 @@
 -- A timely run whose plan keeps the bounds is accepted: no rule is broken at any of its clocks.
-use Rattle.std.proofs.Common.{ℕ, ◌+◌, ◌<◌, ◌≡◌, false, ◌&&◌, None, is_some, length, take, nat_lt, refl, ap, ◌∙◌, arith}
-use Rattle.std.proofs.Common.{below_more}
-use Rattle.std.proofs.lemmas.Bool.{and_right}
+use Rattle.std.proofs.Common.{ℕ, ◌<◌, ◌≡◌, false, None, is_some, length, refl, ap, arith, below_more}
 use Rattle.fsb_count.proofs.Interface.{first_where-off}
 use Rattle.fsb_signal.specs.declared.marks.Marks.{Marks}
 use Rattle.fsb_signal.specs.Parity.{marks_in}
@@ -31,10 +29,7 @@ use Rattle.fsb_lawful.proofs.SnoopResults.{keeps-12}
 
 no-rule : (m : Marks) (w : Trace) → Keeps m 0 w
 unfolding is_broken
-no-rule m w = record {
-  unbroken = λ c. ap (λ b. nat_lt c (length w) && b) (breaks-none m (take (c + 1) w) c)
-      ∙ and_right _ _ refl;
-}
+no-rule m w = grind (arith, breaks-none)
 
 none-below : (m : Marks) (w : Trace) (j : ℕ) → j < 0 → Keeps m j w
 none-below m w j l = absurd (omega arith)

@@ -1,8 +1,7 @@
 -- The clock from which a live request is answered: what it rests on, and that it stays.
-use Rattle.std.proofs.Common.{ℕ, zero, suc, ◌+◌, ◌<◌, ◌≤◌, ◌≡◌, true, ◌||◌, Option, Some, None, max, refl, ap, arith}
+use Rattle.std.proofs.Common.{ℕ, zero, suc, ◌+◌, ◌<◌, ◌≤◌, ◌≡◌, true, ◌||◌, Option, Some, max, refl, ap, arith}
 use Rattle.std.proofs.Common.{add-one, subst, length}
 use Rattle.std.specs.Option.{option_map}
-use Rattle.std.proofs.lemmas.Bool.{lt-ltb}
 use Rattle.fsb_count.specs.Options.{is_some_and, is_before, greater_of}
 use Rattle.fsb_count.specs.Clocks.{count_where, nth_where}
 use Rattle.fsb_count.proofs.Interface.{count_where-above, nth_where-found, nth_where-there, nth_where-at}
@@ -21,29 +20,18 @@ use Rattle.fsb_laws.proofs.Interface.{HasAnswer, clear_parts}
 -- the parts of the clock from which the first request is answered, and of that of another one
 first_parts : (w : Trace) (f : ℕ) (o : Option ℕ) → snoop_end_of w 0 ≡ o → option_map (λ s. s + 2) o ≡ Some f
     → (s : ℕ) × (snoop_end_of w 0 ≡ Some s) × (s + 2 ≡ f)
-first_parts w f None e g = absurd (let no : ⊥ = cc in no)
-first_parts w f (Some s) e g = (s, e, cc)
+first_parts w f o h1 h2 = grind arith
 
 next_parts : (w : Trace) (i f : ℕ) (o p : Option ℕ) → snoop_end_of w (suc i) ≡ o → end_of w i ≡ p
     → greater_of (option_map (λ s. s + 2) o) (option_map (λ t. t + 1) p) ≡ Some f
     → (s t : ℕ) × (snoop_end_of w (suc i) ≡ Some s) × (end_of w i ≡ Some t) × (max (s + 2) (t + 1) ≡ f)
 unfolding greater_of
-next_parts w i f None p e g h = absurd (let no : ⊥ = cc in no)
-next_parts w i f (Some s) None e g h = absurd (let no : ⊥ = cc in no)
-next_parts w i f (Some s) (Some t) e g h = (s, t, e, g, cc)
+next_parts w i f o p h1 h2 h3 = grind arith
 
 -- from that clock on it may be answered
 pub answer_from-answer : (w : Trace) (i f : ℕ) → answer_from w i ≡ Some f → HasAnswer w f i
 unfolding answer_from two_after_snoop is_clear_before is_before is_some_and
-answer_from-answer w zero f e =
-    let p = first_parts w f (snoop_end_of w 0) refl e in
-    record { snoop = p.0; is_snoop = p.1; before = omega (arith, p.2); clear = refl }
-answer_from-answer w (suc i) f e =
-    let p = next_parts w i f (snoop_end_of w (suc i)) (end_of w i) refl refl e in
-    let s : ℕ = p.0 in
-    let t : ℕ = p.1 in
-    let top : max (s + 2) (t + 1) ≡ f = p.4 in
-    record { snoop = s; is_snoop = p.2; before = omega arith; clear = rw p.3 (lt-ltb t f (omega arith)) }
+answer_from-answer w i f h1 = grind (arith, next_parts)
 
 -- it stays
 pub answer_from-stays : (n : ℕ) (w v : Trace) (i f : ℕ) → AgreeTo n w v → f ≤ n → answer_from w i ≡ Some f

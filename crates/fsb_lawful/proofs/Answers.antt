@@ -1,7 +1,7 @@
 -- Rules 13 and 15: responses and TRDY# of a timely run come in time.
 use Rattle.std.proofs.Common.{ℕ, ◌+◌, ◌<◌, ◌≡◌, Bool, true, false, not, ◌&&◌, length, take, refl, sym, ap, ◌∙◌, arith}
-use Rattle.std.proofs.Common.{inl, inr, subst}
-use Rattle.std.proofs.lemmas.Bool.{and_parts, le-leb, or_from}
+use Rattle.std.proofs.Common.{subst}
+use Rattle.std.proofs.lemmas.Bool.{and_parts, or_from}
 use Rattle.fsb_count.specs.Options.{is_some_and, is_before}
 use Rattle.fsb_count.proofs.Interface.{any_where-found, count_where-mono, is_before-parts}
 use Rattle.fsb_signal.specs.declared.lines.TheConstants.Lines.{TRDY}
@@ -21,7 +21,8 @@ use Rattle.fsb_timely.specs.Transfers.{is_ready_due}
 use Rattle.fsb_lawful.specs.Keeps.{Keeps}
 use Rattle.fsb_lawful.proofs.Keeping.{and-fails, keeps}
 use Rattle.fsb_lawful.proofs.OneAnswer.{transfers-at, one_answer, answered-next, ready-then}
-use Rattle.fsb_lawful.proofs.Responding.{Responding, IsReadyDue, responding-answer, ready-answer, one-ready, ready-now}
+use Rattle.fsb_lawful.proofs.Responding.{Responding, IsReadyDue, responding-answer, ready-answer, one-ready}
+use Rattle.fsb_lawful.proofs.Responding.{ready-now}
 
 -- a response comes when it may
 pub answers-in-time : (r : Run) (c : ℕ) → Timely r → c < length r.trace
@@ -75,8 +76,7 @@ ready_rightly r c h l t =
 taken_in_time : (w : Trace) (wait c i : ℕ) → Responding w wait c i → takes w i ≡ true
     → is_ready_in_time w c i ≡ true
 unfolding is_ready_in_time is_some_and
-taken_in_time w wait c i (inl k) t = rw k.is_ready (le-leb (k.ready + 2) c (omega (arith, k.waits)))
-taken_in_time w wait c i (inr k) t = let no : true ≡ false = sym t ∙ k.takes_none in absurd (cc no)
+taken_in_time w wait c i h1 h2 = grind arith
 
 responds_by : (v : Trace) (c : ℕ) → responds_soundly v c ≡ true → responds_at v c ≡ true
 unfolding responds_soundly
@@ -93,13 +93,7 @@ late r c h l e =
 
 wrong : (r : Run) (c : ℕ) → Timely r → c < length r.trace → is_target_ready_wrong (run_to r c).trace c ≡ false
 unfolding is_target_ready_wrong
-wrong r c h l =
-    let v = (run_to r c).trace in
-    let i = next_response v c in
-    or_from (line_at TRDY v c && is_ready_wrongly v c i)
-    (responds_soundly v c && takes v i && not (is_ready_in_time v c i))
-    (and-fails (line_at TRDY v c) (is_ready_wrongly v c i) (λ t. ready_rightly r c h l t))
-    (and-fails (responds_soundly v c && takes v i) (not (is_ready_in_time v c i)) (λ t. late r c h l t))
+wrong r c h l = grind (arith, ready_rightly, late)
 
 -- rule 15
 pub keeps-15 : (m : Marks) (r : Run) → Timely r → Keeps m 15 r.trace

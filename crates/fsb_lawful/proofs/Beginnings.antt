@@ -1,13 +1,13 @@
 -- Rules 2, 4, 5 and 6: a request of a timely run begins only where it may.
-use Rattle.std.proofs.Common.{ℕ, ◌+◌, ◌<◌, ◌≡◌, Bool, true, false, not, ◌||◌, Option, Some, None, length, take, nat_lt}
-use Rattle.std.proofs.Common.{nat_le, is_none, refl, sym, ◌∙◌, ap}
+use Rattle.std.proofs.Common.{ℕ, ◌+◌, ◌<◌, ◌≡◌, Bool, true, false, not, ◌||◌, Option, Some, length, take, nat_lt}
+use Rattle.std.proofs.Common.{nat_le, is_none, refl, ◌∙◌, ap, arith}
 use Rattle.std.proofs.lemmas.Bool.{and_parts, ltb-true, lt-leb}
 use Rattle.fsb_count.specs.Options.{is_some_and}
 use Rattle.fsb_signal.specs.declared.lines.TheConstants.Lines.{ADS, BNR}
 use Rattle.fsb_signal.specs.declared.marks.Marks.{Marks}
 use Rattle.fsb_signal.specs.Samples.{line_at}
 use Rattle.fsb_trace.specs.At.{Trace, line_back}
-use Rattle.fsb_trace.specs.Winner.{winner_at, winner_after, requesters_before}
+use Rattle.fsb_trace.specs.Winner.{winner_at}
 use Rattle.fsb_trace.specs.Flight.{in_flight}
 use Rattle.fsb_trace.specs.declared.who.Who.{Who}
 use Rattle.fsb_trace.specs.Rules.{is_request_too_soon, is_queue_full, is_request_blocked, has_no_winner}
@@ -15,10 +15,10 @@ use Rattle.fsb_trace.proofs.Interface.{breaks-2, breaks-4, breaks-5, breaks-6, w
 use Rattle.fsb_timely.specs.Past.{Past}
 use Rattle.fsb_timely.specs.Runs.{Run, run_to, past_of, past_to}
 use Rattle.fsb_timely.specs.Starts.{is_kept_back, is_spaced, has_room, has_free_winner, may_begin, drives_ads}
-use Rattle.fsb_timely.specs.Starts.{drives_pair, starts_requests}
+use Rattle.fsb_timely.specs.Starts.{starts_requests}
 use Rattle.fsb_timely.specs.Timely.{holds_in, holds_at, Timely}
 use Rattle.fsb_lawful.specs.Keeps.{Keeps}
-use Rattle.fsb_lawful.proofs.Keeping.{and-fails, and4, not-true, same-beq, keeps}
+use Rattle.fsb_lawful.proofs.Keeping.{and-fails, and4, not-true, keeps}
 
 -- what a trace has at a clock where a request begins
 pub record Begins (v : Trace) (c : ℕ) : Type 0 where
@@ -31,8 +31,7 @@ pub record Begins (v : Trace) (c : ℕ) : Type 0 where
 
 some-winner : (o : Option Who) (test : Who → Bool) → is_some_and o test ≡ true → (who : Who) × (o ≡ Some who)
 unfolding is_some_and
-some-winner None test e = absurd (let no : ⊥ = cc in no)
-some-winner (Some who) test e = (who, refl)
+some-winner o test h1 = grind arith
 
 begins-by : (r : Run) (p : Past) (c : ℕ) → may_begin r p c ≡ true → Begins r.trace c
 unfolding may_begin is_spaced has_room has_free_winner
@@ -52,10 +51,7 @@ begins-by r p c e =
 begins-where : (r : Run) (p : Past) (c : ℕ) → starts_requests r p c ≡ true → line_at ADS r.trace c ≡ true
     → Begins r.trace c
 unfolding starts_requests drives_ads
-begins-where r p c e t =
-    let same = same-beq (line_at ADS r.trace c) (may_begin r p c)
-    (and_parts (drives_ads r p c) (drives_pair r p c) e).0 in
-    begins-by r p c (sym same ∙ t)
+begins-where r p c e t = grind (arith, begins-by)
 
 -- where a request of a timely run begins
 pub begins-at : (r : Run) (c : ℕ) → Timely r → c < length r.trace → line_at ADS (take (c + 1) r.trace) c ≡ true
@@ -73,10 +69,7 @@ spaced r c h l t = (begins-at r c h l t).not_before
 pub not-low : (v : Trace) (c : ℕ) (who : Who) (b : Bool) → nat_lt c 2 ≡ b → winner_at v c ≡ Some who
     → nat_lt c 2 ≡ false
 unfolding winner_at
-not-low v c who false e w = e
-not-low v c who true e w =
-    absurd (let none : winner_after v c (requesters_before v c) ≡ None =
-    winner_after-low v c (requesters_before v c) e in let no : ⊥ = cc in no)
+not-low v c who b h1 h2 = grind (arith, winner_after-low)
 
 far : (v : Trace) (c : ℕ) → Begins v c → (nat_lt c 2 || line_back ADS v c 1 || line_back ADS v c 2) ≡ false
 far v c h = rw (not-low v c h.who (nat_lt c 2) refl h.wins, h.not_before, h.nor_before) refl
@@ -98,10 +91,7 @@ keeps-2 m r h = keeps m 2 r.trace (λ c l.
 -- rule 4
 pub keeps-4 : (m : Marks) (r : Run) → Timely r → Keeps m 4 r.trace
 unfolding is_queue_full
-keeps-4 m r h = keeps m 4 r.trace (λ c l.
-    let v = take (c + 1) r.trace in
-    breaks-4 m v c ∙ and-fails (line_at ADS v c) (nat_le 8 (length (in_flight v c)))
-    (λ t. no_full v c (begins-at r c h l t)))
+keeps-4 m r h = grind (arith, keeps, breaks-4, no_full, begins-at)
 
 -- rule 5
 pub keeps-5 : (m : Marks) (r : Run) → Timely r → Keeps m 5 r.trace
@@ -113,6 +103,4 @@ keeps-5 m r h = keeps m 5 r.trace (λ c l.
 -- rule 6
 pub keeps-6 : (m : Marks) (r : Run) → Timely r → Keeps m 6 r.trace
 unfolding has_no_winner
-keeps-6 m r h = keeps m 6 r.trace (λ c l.
-    let v = take (c + 1) r.trace in
-    breaks-6 m v c ∙ and-fails (line_at ADS v c) (is_none (winner_at v c)) (λ t. won v c (begins-at r c h l t)))
+keeps-6 m r h = grind (arith, keeps, breaks-6, won, begins-at)

@@ -1,8 +1,7 @@
 -- The request that begins in a timely run is the one that its winner would begin.
-use Rattle.std.proofs.Common.{ℕ, suc, ◌+◌, ◌-◌, ◌<◌, ◌≡◌, Bool, true, false, Option, Some, None, length, nat_eq, refl}
-use Rattle.std.proofs.Common.{sym, ap, ◌∙◌, arith, add-one}
-use Rattle.std.specs.Option.{option_map, option_and_then}
-use Rattle.std.proofs.lemmas.Bool.{and_parts, eqb-true, le-leb}
+use Rattle.std.proofs.Common.{ℕ, suc, ◌+◌, ◌<◌, ◌≡◌, Bool, true, false, Option, Some, None, length, refl, sym, ap}
+use Rattle.std.proofs.Common.{arith}
+use Rattle.std.specs.Option.{option_map}
 use Rattle.fsb_count.specs.Options.{is_some_and}
 use Rattle.fsb_encode.specs.Decoded.{is_pair}
 use Rattle.fsb_encode.specs.declared.request.Pair.{Pair}
@@ -11,11 +10,10 @@ use Rattle.fsb_encode.specs.Request.{is_lawful_request, pairs_of}
 use Rattle.fsb_encode.proofs.Interface.{request_of_coded}
 use Rattle.fsb_signal.specs.declared.lines.TheConstants.Lines.{ADS}
 use Rattle.fsb_signal.specs.Samples.{line_at}
-use Rattle.fsb_trace.specs.At.{Trace, line_back, known_pair, known_pair_at, request_at}
+use Rattle.fsb_trace.specs.At.{Trace, line_back, known_pair_at, request_at}
 use Rattle.fsb_timely.specs.Past.{Past}
 use Rattle.fsb_timely.specs.Runs.{Run, run_to, past_of, past_to}
-use Rattle.fsb_timely.specs.Starts.{request_begun, request_begun_before, pair_due, drives_ads, drives_pair}
-use Rattle.fsb_timely.specs.Starts.{starts_requests}
+use Rattle.fsb_timely.specs.Starts.{request_begun, request_begun_before, pair_due, drives_pair, starts_requests}
 use Rattle.fsb_timely.specs.Timely.{holds_in, holds_at, Timely}
 use Rattle.fsb_lawful.proofs.Beginnings.{spaced}
 use Rattle.fsb_lawful.proofs.Cuts.{slice_get-take, past-twice, line-to}
@@ -23,11 +21,7 @@ use Rattle.fsb_lawful.proofs.CutRuns.{run-twice}
 
 same-pair : (p q : Pair) → is_pair p q ≡ true → p ≡ q
 unfolding is_pair
-same-pair p q e =
-    let a = and_parts (nat_eq p.addr q.addr) (nat_eq p.req q.req) e in
-    let addr = eqb-true p.addr q.addr a.0 in
-    let req = eqb-true p.req q.req a.1 in
-    λ i. record { addr = addr i; req = req i }
+same-pair p q e = grind arith
 
 -- the words of a clock are those of a request that is there
 pair-there : (f : Request → Pair) (o : Option Request) (k : Option Pair)
@@ -52,9 +46,7 @@ due-second r p c f t = rw (pair_due, f, t) refl
 as-due : (r : Run) (p : Past) (c : ℕ) (o : Option Pair) → starts_requests r p c ≡ true → pair_due r p c ≡ o
     → is_some_and o (λ due. is_some_and (known_pair_at r.trace c) (is_pair due)) ≡ true
 unfolding starts_requests drives_pair
-as-due r p c o e same =
-    sym (ap (λ x. is_some_and x (λ due. is_some_and (known_pair_at r.trace c) (is_pair due))) same)
-    ∙ (and_parts (drives_ads r p c) (drives_pair r p c) e).1
+as-due r p c o e same = grind arith
 
 -- the first clock of a request has its first words
 first-words : (r : Run) (p : Past) (c : ℕ) → starts_requests r p c ≡ true → line_at ADS r.trace c ≡ true
@@ -75,11 +67,7 @@ before-is : (r : Run) (d : ℕ)
     → request_begun_before (run_to r (suc d)) (past_to (past_of r) (suc d)) (suc d)
     ≡ request_begun (run_to r d) (past_to (past_of r) d) d
 unfolding request_begun_before
-before-is r d =
-    let one : suc d - 1 ≡ d = omega arith in
-    let run = run-twice r d (suc d) (omega arith) in
-    let past = past-twice (past_of r) d (suc d) (omega arith) in
-    rw one (λ i. request_begun (run i) (past i) d)
+before-is r d = grind (arith, run-twice, past-twice)
 
 -- the request that the winner at d would begin
 abbrev pub begun_of : Run → ℕ → Option Request
@@ -88,30 +76,23 @@ begun_of r d = request_begun (run_to r d) (past_to (past_of r) d) d
 pub ads-back : (r : Run) (d : ℕ) → suc d < length r.trace
     → line_at ADS (run_to r d).trace d ≡ line_back ADS (run_to r (suc d)).trace (suc d) 1
 unfolding line_back
-ads-back r d l =
-    let one : suc d - 1 ≡ d = omega arith in
-    rw (le-leb 1 (suc d) (omega arith), one) (line-to ADS r d (suc d) (omega arith) l)
+ads-back r d l = grind (arith, line-to)
 
 -- no request begins in the second clock of another
 no-second : (r : Run) (d : ℕ) → Timely r → suc d < length r.trace → line_at ADS (run_to r d).trace d ≡ true
     → (b : Bool) → line_at ADS (run_to r (suc d)).trace (suc d) ≡ b
     → line_at ADS (run_to r (suc d)).trace (suc d) ≡ false
-no-second r d h l t false e = e
-no-second r d h l t true e =
-    let no : false ≡ true = sym (spaced r (suc d) h l e) ∙ sym (ads-back r d l) ∙ t in absurd (cc no)
+no-second r d h1 h2 h3 b h4 = grind (arith, spaced, ads-back)
 
 words-to : (r : Run) (d : ℕ) → known_pair_at (run_to r d).trace d ≡ known_pair_at (run_to r (suc d)).trace d
 unfolding known_pair_at run_to
-words-to r d =
-    ap (option_and_then known_pair) (slice_get-take (d + 1) r.trace d (omega arith)
-    ∙ sym (slice_get-take (suc d + 1) r.trace d (omega arith)))
+words-to r d = grind (arith, slice_get-take)
 
 decoded-from : (v : Trace) (d : ℕ) (q : Request) → is_lawful_request q ≡ true
     → known_pair_at v d ≡ Some (pairs_of q).0 → known_pair_at v (d + 1) ≡ Some (pairs_of q).1
     → request_at v d ≡ Some q
 unfolding request_at
-decoded-from v d q lawful e f =
-    rw (e, f) (request_of_coded q (pairs_of q).0 (pairs_of q).1 (record { lawful = lawful; clocks = refl }))
+decoded-from v d q lawful e f = grind (arith, request_of_coded)
 
 -- the request that begins at d is decoded from its two clocks, where it is lawful
 pub begun-decoded : (r : Run) (d : ℕ) → Timely r → suc d < length r.trace → line_at ADS (run_to r d).trace d ≡ true
@@ -119,14 +100,4 @@ pub begun-decoded : (r : Run) (d : ℕ) → Timely r → suc d < length r.trace 
     × (is_lawful_request q ≡ true → request_at (run_to r (suc d)).trace d ≡ Some q)
 unfolding holds_at holds_in
 begun-decoded r d h l t =
-    let first = first-words (run_to r d) (past_to (past_of r) d) d (h.request_starts.at d (omega arith)) t in
-    let none = no-second r d h l t (line_at ADS (run_to r (suc d)).trace (suc d)) refl in
-    let second = second-words (run_to r (suc d)) (past_to (past_of r) (suc d)) (suc d)
-    (h.request_starts.at (suc d) l) none (sym (ads-back r d l) ∙ t) in
-    let q : Request = first.0 in
-    let same : second.0 ≡ q = (let e = sym second.1 ∙ before-is r d ∙ first.1 in cc) in (
-      q,
-      first.1,
-      λ lawful. decoded-from (run_to r (suc d)).trace d q lawful (sym (words-to r d)
-          ∙ first.2) (rw add-one (second.2 ∙ ap (λ x. Some (pairs_of x).1) same)),
-    )
+    grind (arith, first-words, no-second, second-words, ads-back, before-is, decoded-from, words-to)

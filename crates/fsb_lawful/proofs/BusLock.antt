@@ -1,14 +1,15 @@
 -- Rule 9: the bus lock of a timely run begins with a request.
-use Rattle.std.proofs.Common.{ℕ, zero, suc, ◌+◌, ◌-◌, ◌<◌, ◌≤◌, ◌≡◌, Bool, true, false, not, ◌&&◌, ◌||◌, Option, Some}
-use Rattle.std.proofs.Common.{None, length, take, nat_eq, nat_le, refl, sym, ap, ◌∙◌, ◌⊎◌, arith, inl, inr, add-one}
+use Rattle.std.proofs.Common.{ℕ, zero, suc, ◌+◌, ◌-◌, ◌<◌, ◌≤◌, ◌≡◌, Bool, true, false, ◌&&◌, Option, Some, None}
+use Rattle.std.proofs.Common.{length, take, nat_eq, nat_le, refl, sym, ap, ◌∙◌, ◌⊎◌, arith, inl, inr, add-one}
 use Rattle.std.specs.List.{slice_get, list_any}
 use Rattle.std.specs.Option.{option_and_then, option_map}
 use Rattle.std.proofs.lemmas.Bool.{eqb-true, le-leb}
 use Rattle.std.proofs.lemmas.List.{length-take-le}
 use Rattle.fsb_count.specs.Options.{is_some_and}
 use Rattle.fsb_count.specs.Clocks.{AgreeBelow, any_where, from_clock, count_where, nth_where, last_where, holds_since}
-use Rattle.fsb_count.proofs.Interface.{any_where-at, any_where-found, any_where-same, holds_since-more, nth_where-found}
-use Rattle.fsb_signal.specs.declared.lines.TheConstants.Lines.{ADS, AERR, LOCK}
+use Rattle.fsb_count.proofs.Interface.{any_where-at, any_where-found, any_where-same, holds_since-more}
+use Rattle.fsb_count.proofs.Interface.{nth_where-found}
+use Rattle.fsb_signal.specs.declared.lines.TheConstants.Lines.{ADS, LOCK}
 use Rattle.fsb_signal.specs.declared.marks.Marks.{Marks}
 use Rattle.fsb_signal.specs.Samples.{line_at}
 use Rattle.fsb_trace.specs.At.{Trace, line_back, responds_at, response_code_at}
@@ -17,7 +18,7 @@ use Rattle.fsb_trace.specs.Outcome.{response_code_of}
 use Rattle.fsb_trace.specs.Requests.{is_live, live_clock_of}
 use Rattle.fsb_trace.specs.Rules.{is_lock_alone}
 use Rattle.fsb_trace.proofs.Interface.{breaks-9}
-use Rattle.fsb_timely.specs.BusLock.{is_begun_by, wants_lock, is_locked_request, ends_locked_item, is_lock_retried}
+use Rattle.fsb_timely.specs.BusLock.{is_begun_by, is_locked_request, ends_locked_item, is_lock_retried}
 use Rattle.fsb_timely.specs.BusLock.{is_lock_cancelled, is_release, is_released_before, keeps_lock, drives_lock}
 use Rattle.fsb_timely.specs.Moments.{moment_at, begun_with, retried_at, responded_at, cancelled_at}
 use Rattle.fsb_timely.specs.Past.{Past, Owing}
@@ -34,27 +35,18 @@ use Rattle.fsb_lawful.proofs.Keeping.{and3, same-beq, keeps}
 since-same : (gain gain' loss loss' : ℕ → Bool) (n : ℕ) → AgreeBelow n gain gain' → AgreeBelow n loss loss'
     → holds_since gain loss n ≡ holds_since gain' loss' n
 unfolding holds_since from_clock
-since-same gain gain' loss loss' n a b =
-    let last = last-same gain gain' n a in
-    let any : (d : ℕ) → any_where (from_clock (d + 1) loss) n ≡ any_where (from_clock (d + 1) loss') n =
-    λ d. any_where-same (from_clock (d + 1) loss) (from_clock (d + 1) loss') n
-    (record { same = λ c l. ap (λ x. nat_le (d + 1) c && x) (b.same c l) }) in
-    λ i. elim (last i) [ None ↦ false | Some d ↦ not (any d i) ]
+since-same gain gain' loss loss' n a b = grind (arith, last-same, any_where-same)
 
 -- a locked request up to c is one of the whole past
 request-to : (p : Past) (a c t : ℕ) → t ≤ c → is_locked_request (past_to p c) a t ≡ is_locked_request p a t
 unfolding is_locked_request is_begun_by
-request-to p a c t l =
-    let begun = begun-to p c t l in
-    let past = past-twice p t c l in
-    λ i. elim (is_some_and (begun i) (λ claim. nat_eq claim.agent a)) [ true ↦ wants_lock (past i) a t | false ↦ false ]
+request-to p a c t l = grind (arith, begun-to, past-twice)
 
 -- the request of a moment, which begins at c or below
 named-to : (p : Past) (a c : ℕ) (o : Option ℕ) → ((q : ℕ) → o ≡ Some q → q ≤ c)
     → is_some_and o (is_locked_request (past_to p c) a) ≡ is_some_and o (is_locked_request p a)
 unfolding is_some_and
-named-to p a c None h = refl
-named-to p a c (Some q) h = request-to p a c q (h q refl)
+named-to p a c o h1 = grind (arith, request-to)
 
 -- the entries of clock t
 entry-to : (p : Past) (a c t : ℕ) → t ≤ c
@@ -84,45 +76,24 @@ retried_at-below w t q e = by-test (nat_eq (response_code_at w t) (response_code
 
 cancelled_at-below : (w : Trace) (t q : ℕ) → cancelled_at w t ≡ Some q → q ≤ t
 unfolding cancelled_at
-cancelled_at-below w t q e = by-test (nat_le 3 t && line_at AERR w t && line_at ADS w (t - 3)) e
-  where
-    by-test : (b : Bool) → elim b [ true ↦ Some (t - 3) | false ↦ None ] ≡ Some q → q ≤ t
-    by-test true e = let same : t - 3 ≡ q = cc in omega arith
-    by-test false e = absurd (let no : ⊥ = cc in no)
+cancelled_at-below w t q e = grind arith
 
 -- the moment of t names requests that begin at t or below
 retried-below : (r : Run) (t q : ℕ) → t < length r.trace
     → option_and_then (λ moment. moment.retried) (slice_get (past_of r).moments t) ≡ Some q → q ≤ t
 unfolding past_of run_to moment_at
-retried-below r t q l e =
-    let e' = rw (moment-at r (length r.trace) t l) at e in
-    let below = retried_at-below (take (t + 1) r.trace) t q e' in
-    let cut = length-take-le (t + 1) r.trace (omega arith) in omega arith
+retried-below r t q l e = grind (arith, moment-at, retried_at-below, length-take-le)
 
 cancelled-below : (r : Run) (t q : ℕ) → t < length r.trace
     → option_and_then (λ moment. moment.cancelled) (slice_get (past_of r).moments t) ≡ Some q → q ≤ t
 unfolding past_of run_to moment_at
-cancelled-below r t q l e =
-    let e' = rw (moment-at r (length r.trace) t l) at e in cancelled_at-below (take (t + 1) r.trace) t q e'
+cancelled-below r t q l e = grind (arith, moment-at, cancelled_at-below)
 
 -- a release up to c is one of the whole past
 release-to : (r : Run) (a c t : ℕ) → t ≤ c → c < length r.trace
     → is_release (past_to (past_of r) c) a t ≡ is_release (past_of r) a t
 unfolding is_release is_lock_retried is_lock_cancelled
-release-to r a c t l m =
-    let p : Past = past_of r in
-    let moment = moments-to p c t l in
-    let ended = entry-to p a c t l in
-    let retried =
-    ap (λ o. is_some_and (option_and_then (λ moment. moment.retried) o) (is_locked_request (past_to p c) a))
-    moment ∙ named-to p a c (option_and_then (λ moment. moment.retried) (slice_get p.moments t))
-    (λ q e. let low = retried-below r t q (omega arith) e in omega arith) in
-    let cancelled =
-    ap (λ o. is_some_and (option_and_then (λ moment. moment.cancelled) o)
-    (is_locked_request (past_to p c) a)) moment
-    ∙ named-to p a c (option_and_then (λ moment. moment.cancelled) (slice_get p.moments t))
-    (λ q e. let low = cancelled-below r t q (omega arith) e in omega arith) in
-    λ i. ended i || retried i || cancelled i
+release-to r a c t l m = grind (arith, moments-to, entry-to, named-to, retried-below, cancelled-below)
 
 released-to : (r : Run) (a c t : ℕ) → t ≤ c → c < length r.trace
     → is_released_before (past_to (past_of r) c) a t ≡ is_released_before (past_of r) a t
@@ -133,44 +104,29 @@ released-to r a c t l m = ap (λ b. nat_le 1 t && b) (release-to r a c (t - 1) (
 keeps-to : (r : Run) (a c n : ℕ) → n ≤ c + 1 → c < length r.trace
     → holds_since (is_locked_request (past_to (past_of r) c) a) (is_released_before (past_to (past_of r) c) a) n
     ≡ holds_since (is_locked_request (past_of r) a) (is_released_before (past_of r) a) n
-keeps-to r a c n l m =
-    since-same (is_locked_request (past_to (past_of r) c) a) (is_locked_request (past_of r) a)
-    (is_released_before (past_to (past_of r) c) a) (is_released_before (past_of r) a) n
-    (record { same = λ t k. request-to (past_of r) a c t (omega arith) })
-    (record { same = λ t k. released-to r a c t (omega arith) m })
+keeps-to r a c n l m = grind (arith, since-same, request-to, released-to)
 
 -- an agent locks the bus at c, or did so at the clock before
 either : (r : Run) (a c : ℕ) → c < length r.trace → keeps_lock (past_to (past_of r) c) c a ≡ true
     → (is_locked_request (past_of r) a c ≡ true)
     ⊎ (holds_since (is_locked_request (past_of r) a) (is_released_before (past_of r) a) c ≡ true)
 unfolding keeps_lock
-either r a c l e =
-    let whole = sym (keeps-to r a c (c + 1) (omega arith) l) ∙ e in
-    split (is_locked_request (past_of r) a c) _ (is_released_before (past_of r) a c)
-    (sym (holds_since-more (is_locked_request (past_of r) a) (is_released_before (past_of r) a) c) ∙ whole)
-  where
-    split : (g h l : Bool) → (g || (h && not l)) ≡ true → (g ≡ true) ⊎ (h ≡ true)
-    split true h l e = inl refl
-    split false true l e = inr refl
-    split false false l e = absurd (let no : ⊥ = cc in no)
+either r a c l e = grind (arith, keeps-to, holds_since-more)
 
 begun-ads : (p : Past) (w : Trace) (c : ℕ) (b : Bool) (test : Owing → Bool) → line_at ADS w c ≡ b
     → is_some_and (begun_with p w c) test ≡ true → line_at ADS w c ≡ true
 unfolding is_some_and begun_with
-begun-ads p w c true test e h = e
-begun-ads p w c false test e h = let no : false ≡ true = rw (e, begun_with) at h in absurd (cc no)
+begun-ads p w c b test h1 h2 = grind arith
 
 some-map : {A B : Type 0} (o : Option A) (f : A → B) (test : B → Bool)
     → is_some_and (option_map f o) test ≡ is_some_and o (λ x. test (f x))
 unfolding is_some_and
-some-map None f test = refl
-some-map (Some x) f test = refl
+some-map o f test = grind arith
 
 request-begins : (p : Past) (a c : ℕ) (b : Bool) → is_begun_by p a c ≡ b → is_locked_request p a c ≡ true
     → is_begun_by p a c ≡ true
 unfolding is_locked_request
-request-begins p a c true e h = e
-request-begins p a c false e h = let no : false ≡ true = rw (e, is_locked_request) at h in absurd (cc no)
+request-begins p a c b h1 h2 = grind arith
 
 -- a locked request begins with ADS#
 request-ads : (r : Run) (a c : ℕ) → c < length r.trace → is_locked_request (past_of r) a c ≡ true
@@ -185,8 +141,7 @@ request-ads r a c l h =
 agent-locks : (r : Run) (p : Past) (c : ℕ) → drives_lock r p c ≡ true → line_at LOCK r.trace c ≡ true
     → (a : ℕ) × (a < 4) × (keeps_lock p c a ≡ true)
 unfolding drives_lock
-agent-locks r p c e t =
-    any_where-found (keeps_lock p c) 4 (sym (same-beq (line_at LOCK r.trace c) (any_where (keeps_lock p c) 4) e) ∙ t)
+agent-locks r p c e t = grind (arith, any_where-found)
 
 locks-from : (r : Run) (p : Past) (c a : ℕ) → drives_lock r p c ≡ true → a < 4 → keeps_lock p c a ≡ true
     → line_at LOCK r.trace c ≡ true
@@ -203,8 +158,7 @@ locked-before : (r : Run) (a c : ℕ) → Timely r → c < length r.trace → a 
     → holds_since (is_locked_request (past_of r) a) (is_released_before (past_of r) a) c ≡ true
     → line_back LOCK (run_to r c).trace c 1 ≡ true
 unfolding holds_at holds_in keeps_lock line_back
-locked-before r a zero h l m e =
-    absurd (none-yet (is_locked_request (past_of r) a) (is_released_before (past_of r) a) e)
+locked-before r a zero h l m e = grind (arith, none-yet)
 locked-before r a (suc c) h l m e =
     let there = locks-from (run_to r c) (past_to (past_of r) c) c a (h.bus_lock.at c (omega arith)) m
     (keeps-to r a c (c + 1) (omega arith) (omega arith) ∙ rw (add-one c) e) in
@@ -221,20 +175,9 @@ begins r c h l t =
       | inr old ↦ inr (locked-before r a.0 c h l a.1 old)
     ]
 
-alone : (k b s : Bool) → (k ≡ true → (s ≡ true) ⊎ (b ≡ true)) → (k && not b && not s) ≡ false
-alone false b s h = refl
-alone true true s h = refl
-alone true false true h = refl
-alone true false false h = elim (h refl) [
-  | inl e ↦ absurd (let no : ⊥ = cc in no)
-  | inr e ↦ absurd (let no : ⊥ = cc in no)
-]
-
 at-clock : (r : Run) (c : ℕ) → Timely r → c < length r.trace → is_lock_alone (run_to r c).trace c ≡ false
 unfolding is_lock_alone
-at-clock r c h l =
-    let v = (run_to r c).trace in
-    alone (line_at LOCK v c) (line_back LOCK v c 1) (line_at ADS v c) (begins r c h l)
+at-clock r c h l = grind (arith, begins)
 
 -- rule 9
 pub keeps-9 : (m : Marks) (r : Run) → Timely r → Keeps m 9 r.trace

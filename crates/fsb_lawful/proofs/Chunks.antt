@@ -1,7 +1,7 @@
 -- The four chunks of a transfer: when they come, and how many came below a clock.
-use Rattle.std.proofs.Common.{ℕ, zero, suc, ◌+◌, ◌*◌, ◌<◌, ◌≤◌, ◌≡◌, Bool, true, false, ◌||◌, Option, Some, None}
-use Rattle.std.proofs.Common.{is_some, nat_eq, refl, arith, if◌then◌else◌}
-use Rattle.std.proofs.lemmas.Bool.{eqb-true, eq-eqb, or_left, or_right}
+use Rattle.std.proofs.Common.{ℕ, zero, suc, ◌+◌, ◌*◌, ◌<◌, ◌≤◌, ◌≡◌, Bool, true, ◌||◌, Option, Some, None, is_some}
+use Rattle.std.proofs.Common.{nat_eq, refl, arith, if◌then◌else◌}
+use Rattle.std.proofs.lemmas.Bool.{eq-eqb, or_left}
 use Rattle.fsb_count.specs.Clocks.{count_where}
 use Rattle.fsb_count.proofs.Interface.{count_where-above, first_where-found, first_where-none}
 use Rattle.fsb_trace.specs.Timing.{chunk_from}
@@ -19,10 +19,7 @@ pub record ChunkPlace (gap r t : ℕ) : Type 0 where
 
 chunk_by : (gap r t : ℕ) (o : Option ℕ) → chunk_from gap t r ≡ o → is_some o ≡ true → ChunkPlace gap r t
 unfolding chunk_from
-chunk_by gap r t None e h = absurd (let no : ⊥ = cc in no)
-chunk_by gap r t (Some n) e h =
-    let f = first_where-found (λ n. nat_eq t (r + n * (1 + gap))) 4 n e in
-    record { number = n; few = f.0; place = eqb-true t (r + n * (1 + gap)) f.1 }
+chunk_by gap r t o h1 h2 = grind (arith, first_where-found)
 
 chunk-place : (gap r t : ℕ) → is_chunk gap r t ≡ true → ChunkPlace gap r t
 chunk-place gap r t h = chunk_by gap r t (chunk_from gap t r) refl h
@@ -44,10 +41,8 @@ place_is : (gap r t n : ℕ) → n < 4 → t ≡ r + n * (1 + gap)
     → (nat_eq t r || nat_eq t (r + (1 + gap)) || nat_eq t (r + 2 * (1 + gap))) ≡ true)) × (r ≤ t)
     × (t ≤ r + 3 * (1 + gap))
 place_is gap r t zero l e = (λ m. or_left _ _ (or_left _ _ (eq-eqb t r (omega arith))), omega arith, omega arith)
-place_is gap r t (suc zero) l e =
-    (λ m. or_left _ _ (or_right _ _ (eq-eqb t (r + (1 + gap)) (omega arith))), omega arith, omega arith)
-place_is gap r t (suc (suc zero)) l e =
-    (λ m. or_right _ _ (eq-eqb t (r + 2 * (1 + gap)) (omega arith)), omega arith, omega arith)
+place_is gap r t (suc zero) l e = grind arith
+place_is gap r t (suc (suc zero)) l e = grind arith
 place_is gap r t (suc (suc (suc zero))) l e = (λ m. absurd (omega arith), omega arith, omega arith)
 place_is gap r t (suc (suc (suc (suc n)))) l e = absurd (omega arith)
 
@@ -66,10 +61,7 @@ count-less p q (suc k) h = let before = count-less p q k (λ n l. h n (omega ari
   where
     step : (a b : Bool) → (a ≡ true → b ≡ true) → count_where p k ≤ count_where q k
         → count_where p k + (if a then 1 else 0) ≤ count_where q k + (if b then 1 else 0)
-    step true true f l = omega arith
-    step true false f l = absurd (let e = f refl in let no : ⊥ = cc in no)
-    step false true f l = omega arith
-    step false false f l = omega arith
+    step a b h1 h2 = grind arith
 
 -- up to the last chunk three came at most
 pub chunks-few : (gap r m : ℕ) → m ≤ r + 3 * (1 + gap) → count_where (is_chunk gap r) m ≤ 3

@@ -1,6 +1,5 @@
 -- Rule 3: the words of a request are those of a lawful one.
-use Rattle.std.proofs.Common.{ℕ, zero, suc, ◌+◌, ◌-◌, ◌<◌, ◌≡◌, true, false, ◌&&◌, length, take, is_none, refl, ap, ◌∙◌}
-use Rattle.std.proofs.Common.{arith}
+use Rattle.std.proofs.Common.{ℕ, zero, suc, ◌+◌, ◌<◌, ◌≡◌, true, false, length, take, is_none, refl, ap, ◌∙◌, arith}
 use Rattle.fsb_signal.specs.declared.lines.TheConstants.Lines.{ADS}
 use Rattle.fsb_signal.specs.declared.marks.Marks.{Marks}
 use Rattle.fsb_trace.specs.At.{Trace, line_back, request_at}
@@ -11,7 +10,7 @@ use Rattle.fsb_timely.specs.Timely.{Timely}
 use Rattle.fsb_lawful.specs.Beginning.{WantsLawfully}
 use Rattle.fsb_lawful.specs.Keeps.{Keeps}
 use Rattle.fsb_lawful.proofs.Begun.{ads-back, begun-decoded}
-use Rattle.fsb_lawful.proofs.Keeping.{and-fails, keeps}
+use Rattle.fsb_lawful.proofs.Keeping.{keeps}
 
 none-back : (v : Trace) → line_back ADS v zero 1 ≡ false
 unfolding line_back
@@ -27,13 +26,8 @@ there r d h wants l t =
 at-clock : (r : Run) (c : ℕ) → Timely r → WantsLawfully r → c < length r.trace
     → is_code_unlawful (run_to r c).trace c ≡ false
 unfolding is_code_unlawful
-at-clock r zero h wants l = ap (λ b. b && is_none (request_at (run_to r zero).trace (zero - 1)))
-    (none-back (run_to r zero).trace)
-at-clock r (suc d) h wants l =
-    let one : suc d - 1 ≡ d = omega arith in
-    let v = (run_to r (suc d)).trace in
-    and-fails (line_back ADS v (suc d) 1) (is_none (request_at v (suc d - 1)))
-    (λ t. ap (λ k. is_none (request_at v k)) one ∙ there r d h wants l t)
+at-clock r zero h wants l = grind (arith, none-back)
+at-clock r (suc d) h wants l = grind (arith, there)
 
 -- rule 3
 pub keeps-3 : (m : Marks) (r : Run) → Timely r → WantsLawfully r → Keeps m 3 r.trace

@@ -1,6 +1,6 @@
 -- A run that is cut at a clock is a run, and its past is the past up to that clock.
-use Rattle.std.proofs.Common.{ℕ, zero, suc, ◌+◌, ◌<◌, ◌≤◌, ◌≡◌, true, false, not, [], ◌∷◌, ◌++◌, Some, length, take}
-use Rattle.std.proofs.Common.{slice_get, refl, sym, ap, ◌∙◌, arith, inl, inr}
+use Rattle.std.proofs.Common.{ℕ, zero, suc, ◌+◌, ◌<◌, ◌≤◌, ◌≡◌, true, false, not, Some, length, take, slice_get, refl}
+use Rattle.std.proofs.Common.{sym, ap, ◌∙◌, arith, inl, inr}
 use Rattle.std.specs.Option.{option_map_or}
 use Rattle.std.proofs.lemmas.Bool.{and_parts, cases_lt}
 use Rattle.std.proofs.lemmas.List.{length-take-le, take-append-le, take_all}
@@ -14,8 +14,8 @@ use Rattle.fsb_trace.specs.Agree.{AgreeTo}
 use Rattle.fsb_trace.specs.Requests.{is_live, is_cancelled, live_clock_of}
 use Rattle.fsb_trace.specs.Snoop.{snoop_end_of}
 use Rattle.fsb_trace.proofs.Interface.{AgreeTo-sym, live_clock_of-stays, snoop_end_of-clock}
-use Rattle.fsb_timely.specs.Moments.{choice_at, moment_at}
-use Rattle.fsb_timely.specs.Runs.{Run, requests_below, entries_to, run_to, moments_below, past_of, past_to}
+use Rattle.fsb_timely.specs.Moments.{choice_at}
+use Rattle.fsb_timely.specs.Runs.{Run, requests_below, run_to, moments_below, past_of, past_to}
 use Rattle.fsb_timely.specs.Snoops.{live_choice}
 use Rattle.fsb_timely.proofs.Interface.{length-moments}
 use Rattle.fsb_lawful.proofs.Cuts.{slice_get-take, take-twice, entries-twice, run_to-agrees}
@@ -23,12 +23,7 @@ use Rattle.fsb_lawful.proofs.Cuts.{slice_get-take, take-twice, entries-twice, ru
 -- the run up to t of the run up to c
 requests-twice : (w : Trace) (t c : ℕ) → t ≤ c → requests_below (take (c + 1) w) (t + 1) ≡ requests_below w (t + 1)
 unfolding requests_below line_at
-requests-twice w t c l =
-    count_where-same (line_at ADS (take (c + 1) w)) (line_at ADS w) (t + 1)
-    (record {
-      same = λ d m. ap (λ o. option_map_or (λ s. has_line s ADS) o false)
-          (slice_get-take (c + 1) w d (omega arith));
-    })
+requests-twice w t c l = grind (arith, count_where-same, slice_get-take)
 
 requests-more : (w : Trace) (n m : ℕ) → n ≤ m → requests_below w n ≤ requests_below w m
 unfolding requests_below
@@ -36,29 +31,16 @@ requests-more w n m k = count_where-mono (line_at ADS w) n m k
 
 choices-twice : (r : Run) (t c : ℕ) → t ≤ c → (run_to (run_to r c) t).choices ≡ (run_to r t).choices
 unfolding run_to
-choices-twice r t c l =
-    ap (λ n. take n (take (requests_below r.trace (c + 1)) r.choices)) (requests-twice r.trace t c l)
-    ∙ take-twice (requests_below r.trace (t + 1)) (requests_below r.trace (c + 1)) r.choices
-    (requests-more r.trace (t + 1) (c + 1) (omega arith))
+choices-twice r t c l = grind (arith, requests-twice, take-twice, requests-more)
 
 pub run-twice : (r : Run) (t c : ℕ) → t ≤ c → run_to (run_to r c) t ≡ run_to r t
 unfolding run_to
-run-twice r t c l =
-    let choices = choices-twice r t c l in
-    let holds = take-twice (t + 1) (c + 1) r.holds (omega arith) in
-    let trace = take-twice (t + 1) (c + 1) r.trace (omega arith) in
-    let log = entries-twice t c r.log l in
-    λ i. record { plan = r.plan; choices = choices i; holds = holds i; trace = trace i; log = log i }
+run-twice r t c l = grind (arith, choices-twice, take-twice, entries-twice)
 
 moments-cut : (r : Run) (c n : ℕ) → n ≤ c + 1 → moments_below (run_to r c) n ≡ moments_below r n
 unfolding moments_below run_to
 moments-cut r c zero l = refl
-moments-cut r c (suc n) l =
-    let before = moments-cut r c n (omega arith) in
-    let run = run-twice r n c (omega arith) in
-    let log = entries-twice n c r.log (omega arith) in
-    λ i. before i ++ moment_at (record { plan = r.plan; moments = before i; log = log i }) (run i).choices
-    (run i).trace n ∷ []
+moments-cut r c (suc n) l = grind (arith, run-twice, moments-cut r c n (omega arith))
 
 -- the moments below a clock begin those below a later one
 moments-begin : (r : Run) (n m : ℕ) → n ≤ m → take n (moments_below r m) ≡ moments_below r n
@@ -76,11 +58,7 @@ moments-begin r n (suc m) l =
 -- the past of a run that is cut
 pub past-cut : (r : Run) (c : ℕ) → c < length r.trace → past_of (run_to r c) ≡ past_to (past_of r) c
 unfolding past_of past_to run_to
-past-cut r c l =
-    let size : length (take (c + 1) r.trace) ≡ c + 1 = length-take-le (c + 1) r.trace (omega arith) in
-    let whole = moments-begin r (c + 1) (length r.trace) (omega arith) in
-    let moments = ap (moments_below (run_to r c)) size ∙ moments-cut r c (c + 1) (omega arith) ∙ sym whole in
-    λ i. record { plan = r.plan; moments = moments i; log = entries_to c r.log }
+past-cut r c l = grind (arith, length-take-le, moments-begin, moments-cut)
 
 -- the run up to a clock has that clock last
 pub length-cut : (r : Run) (c : ℕ) → c < length r.trace → length (run_to r c).trace ≡ c + 1

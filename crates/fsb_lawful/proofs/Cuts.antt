@@ -1,11 +1,11 @@
 -- A past that is cut at a clock has the same up to that clock.
-use Rattle.std.proofs.Common.{ℕ, zero, suc, ◌+◌, ◌<◌, ◌≤◌, ◌≡◌, Bool, true, false, cond, ◌||◌, List, [], ◌∷◌, length}
-use Rattle.std.proofs.Common.{take, nat_le, refl, sym, ap, ◌∙◌, arith, inl, inr}
+use Rattle.std.proofs.Common.{ℕ, zero, suc, ◌+◌, ◌<◌, ◌≤◌, ◌≡◌, Bool, true, false, ◌||◌, List, [], ◌∷◌, length, take}
+use Rattle.std.proofs.Common.{nat_le, refl, sym, ap, ◌∙◌, arith, inl, inr}
 use Rattle.std.specs.List.{slice_get, list_any}
-use Rattle.std.specs.Option.{option_and_then, option_map, option_map_or}
+use Rattle.std.specs.Option.{option_and_then}
 use Rattle.fsb_signal.specs.declared.lines.Lines.{Lines}
-use Rattle.fsb_signal.specs.Samples.{has_line, line_at}
-use Rattle.std.proofs.lemmas.Bool.{cases_Bool, leb-false, lt-leb}
+use Rattle.fsb_signal.specs.Samples.{line_at}
+use Rattle.std.proofs.lemmas.Bool.{cases_Bool}
 use Rattle.std.proofs.lemmas.List.{length-take-le}
 use Rattle.fsb_access.specs.declared.log.Done.{Done}
 use Rattle.fsb_trace.specs.Agree.{AgreeTo}
@@ -29,39 +29,23 @@ take-twice (suc m) (suc n) (x ∷ xs) l = ap (λ ys. x ∷ ys) (take-twice m n x
 pub line-to : (line : Lines) (r : Run) (c d : ℕ) → c ≤ d → d < length r.trace
     → line_at line (run_to r c).trace c ≡ line_at line (run_to r d).trace c
 unfolding line_at run_to
-line-to line r c d l m =
-    let sample = slice_get-take (c + 1) r.trace c (omega arith)
-    ∙ sym (slice_get-take (d + 1) r.trace c (omega arith)) in
-    ap (λ o. option_map_or (λ s. has_line s line) o false) sample
+line-to line r c d l m = grind (arith, slice_get-take)
 
 -- the run and the run up to a clock agree so far
 pub run_to-agrees : (r : Run) (c : ℕ) → c < length r.trace → AgreeTo (c + 1) r.trace (run_to r c).trace
 unfolding run_to
-run_to-agrees r c l = record {
-  left = omega arith;
-  right = let e = length-take-le (c + 1) r.trace (omega arith) in omega arith;
-  same = λ t m. sym (slice_get-take (c + 1) r.trace t m);
-}
+run_to-agrees r c l = grind (arith, length-take-le, slice_get-take)
 
 -- a log that is cut twice
 pub entries-twice : (t c : ℕ) (log : List Done) → t ≤ c → entries_to t (entries_to c log) ≡ entries_to t log
 unfolding entries_to
 entries-twice t c [] l = refl
-entries-twice t c (done ∷ log) l =
-    elim (cases_Bool (nat_le done.clock c)) [
-      | inl early ↦ rw early (ap (λ xs. cond (nat_le done.clock t) (done ∷ xs) xs) (entries-twice t c log l))
-      | inr late ↦
-          let more : c < done.clock = leb-false done.clock c late in
-          rw (late, lt-leb done.clock t (omega arith)) (entries-twice t c log l)
-    ]
+entries-twice t c (done ∷ log) l = grind (arith, entries-twice t c log l)
 
 -- the past up to t of the past up to c
 pub past-twice : (p : Past) (t c : ℕ) → t ≤ c → past_to (past_to p c) t ≡ past_to p t
 unfolding past_to
-past-twice p t c l =
-    let moments = take-twice (t + 1) (c + 1) p.moments (omega arith) in
-    let log = entries-twice t c p.log l in
-    λ i. record { plan = p.plan; moments = moments i; log = log i }
+past-twice p t c l = grind (arith, take-twice, entries-twice)
 
 -- a moment of the past up to c
 pub moments-to : (p : Past) (c t : ℕ) → t ≤ c → slice_get (past_to p c).moments t ≡ slice_get p.moments t
@@ -70,8 +54,7 @@ moments-to p c t l = slice_get-take (c + 1) p.moments t (omega arith)
 
 pub begun-to : (p : Past) (c t : ℕ) → t ≤ c → begun_at (past_to p c) t ≡ begun_at p t
 unfolding begun_at
-begun-to p c t l = ap (λ o. option_map (λ owing. owing.claim) (option_and_then (λ moment. moment.begun) o))
-    (moments-to p c t l)
+begun-to p c t l = grind (arith, moments-to)
 
 pub snooped-to : (p : Past) (c t : ℕ) → t ≤ c → snooped_at (past_to p c) t ≡ snooped_at p t
 unfolding snooped_at
@@ -90,5 +73,4 @@ any-entry test t c (done ∷ log) l h =
     ]
   where
     fails : nat_le done.clock c ≡ false → (b : Bool) → test done ≡ b → test done ≡ false
-    fails late false e = e
-    fails late true e = absurd (let more = leb-false done.clock c late in let same = h done e in omega arith)
+    fails h1 b h2 = grind arith

@@ -1,9 +1,8 @@
 -- Rule 16: DRDY# and DBSY# of a timely run are those of the request that responded last.
-use Rattle.std.proofs.Common.{ℕ, zero, suc, ◌+◌, ◌*◌, ◌<◌, ◌≤◌, ◌≡◌, Bool, true, false, not, ◌&&◌, ◌||◌, Some, None}
-use Rattle.std.proofs.Common.{is_some, length, take, nat_le, nat_lt, refl, sym, ap, ◌∙◌, arith, inl, inr}
+use Rattle.std.proofs.Common.{ℕ, zero, suc, ◌+◌, ◌*◌, ◌<◌, ◌≤◌, ◌≡◌, Bool, true, false, ◌&&◌, Some, None, is_some}
+use Rattle.std.proofs.Common.{length, take, nat_lt, refl, sym, ap, ◌∙◌, arith, inl, inr}
 use Rattle.std.specs.Option.{option_and_then}
-use Rattle.std.proofs.lemmas.Bool.{cases_Bool, cases_eq, cases_lt, and_right, le-leb, lt-leb, le-ltb, lt-ltb, ltb-true}
-use Rattle.std.proofs.lemmas.Bool.{ltb-false}
+use Rattle.std.proofs.lemmas.Bool.{cases_Bool, cases_lt, le-leb, lt-ltb}
 use Rattle.fsb_count.specs.Options.{is_some_and}
 use Rattle.fsb_count.specs.Clocks.{any_where, count_where, from_clock}
 use Rattle.fsb_count.proofs.Interface.{any_where-at, any_where-off, count_where-mono, count_where-passed}
@@ -20,8 +19,8 @@ use Rattle.fsb_trace.specs.Timing.{chunk_from, is_busy_from}
 use Rattle.fsb_trace.proofs.Interface.{breaks-16, AgreeTo-sym, end_of-moving, line_at-agree, outcome_of-stays}
 use Rattle.fsb_trace.proofs.Interface.{responds_at-agree, response_clock_of-stays}
 use Rattle.fsb_laws.specs.Progress.{response_count}
-use Rattle.fsb_laws.proofs.Interface.{clear_parts, has_answer, is_transferring-last, is_transferring-none, last_is_live}
-use Rattle.fsb_laws.proofs.Interface.{response_past, response_there, transferring_form}
+use Rattle.fsb_laws.proofs.Interface.{clear_parts, has_answer, is_transferring-last, is_transferring-none}
+use Rattle.fsb_laws.proofs.Interface.{last_is_live, response_past, response_there, transferring_form}
 use Rattle.fsb_timely.specs.Runs.{Run, run_to, past_of}
 use Rattle.fsb_timely.specs.Snoops.{live_choice}
 use Rattle.fsb_timely.specs.Timely.{Timely}
@@ -68,10 +67,7 @@ busy-form r t i p h l e =
 no-data : (v : Run) (t i : ℕ) → response_clock_of v.trace i ≡ None
     → (has_data_at v (past_of v) t i ≡ false) × (is_busy_at v (past_of v) t i ≡ false)
 unfolding has_data_at is_busy_at is_some_and
-no-data v t i e = (
-  and_right _ _ (ap (λ o. is_some (option_and_then (chunk_from (live_choice v i).gap t) o)) e),
-  and_right _ _ (ap (λ o. is_some_and o (is_busy_from (live_choice v i).gap t)) e),
-)
+no-data v t i e = grind arith
 
 -- what the data lines of t are, where live request i responded last
 pub record LastMoves (r : Run) (t i : ℕ) : Type 0 where
@@ -81,18 +77,13 @@ pub record LastMoves (r : Run) (t i : ℕ) : Type 0 where
 only-one : (f : ℕ → Bool) (n i : ℕ) (b : Bool) → i < n → f i ≡ b → ((j : ℕ) → (j ≡ i → ⊥) → f j ≡ false)
     → any_where f n ≡ b
 only-one f n i true l e other = any_where-at f n i l e
-only-one f n i false l e other =
-    any_where-off f n (λ j m. elim (cases_eq j i) [ inl same ↦ ap f same ∙ e | inr differs ↦ other j differs ])
+only-one f n i false l e other = grind (arith, any_where-off)
 
 -- how many responded up to a clock
 counted : (r : Run) (u t : ℕ) → u ≤ t → t < length r.trace
     → response_count (run_to r u).trace ≡ count_where (responds_at (run_to r t).trace) (u + 1)
 unfolding response_count
-counted r u t l m =
-    let agree = cuts-agree r u t l m in
-    ap (count_where (responds_at (run_to r u).trace)) (length-cut r u (omega arith))
-    ∙ count_where-same (responds_at (run_to r u).trace) (responds_at (run_to r t).trace) (u + 1)
-    (record { same = λ d k. responds_at-agree (u + 1) (run_to r u).trace (run_to r t).trace d agree k })
+counted r u t l m = grind (arith, cuts-agree, length-cut, count_where-same, responds_at-agree)
 
 -- from its response up to before the next one a request is the one that responded last
 last-between : (r : Run) (u t j p q : ℕ) → u ≤ t → t < length r.trace
@@ -126,8 +117,7 @@ chunk-there r u t j p h l m k e low moves =
 chunk-before : (gap p u : ℕ) (test : ℕ → Bool) (b : Bool) → u < p → is_chunk gap p u ≡ b
     → from_clock p test u ≡ is_chunk gap p u
 unfolding from_clock
-chunk-before gap p u test true l e = let k = chunk-bounds gap p u e in let low = k.0 in absurd (omega arith)
-chunk-before gap p u test false l e = rw (lt-leb p u l) (sym e)
+chunk-before gap p u test b h1 h2 = grind (arith, chunk-bounds)
 
 -- what is told of a request that responded up to u is told later
 same-moves : (r : Run) (u t j p : ℕ) → Timely r → u ≤ t → t < length r.trace
@@ -182,11 +172,7 @@ past-data : (gap p t : ℕ) (moves b d : Bool) → (moves ≡ true → p + 3 * (
     → is_busy_from gap t p ≡ d
     → ((moves && is_chunk gap p t) ≡ false) × ((moves && is_busy_from gap t p) ≡ false)
 unfolding is_busy_from
-past-data gap p t false b d past e f = (refl, refl)
-past-data gap p t true true d past e f = let k = chunk-bounds gap p t e in let high = k.1 in
-    let more = past refl in absurd (omega arith)
-past-data gap p t true false d past e f = let more = past refl in
-    (e, and_right (nat_le p t) (nat_lt t (p + 3 * (1 + gap))) (le-ltb t (p + 3 * (1 + gap)) (omega arith)))
+past-data gap p t moves b d h1 h2 h3 = grind (arith, chunk-bounds)
 
 -- a request before the last one has no data any more
 earlier-none : (r : Run) (t i j : ℕ) → Timely r → t < length r.trace
@@ -264,15 +250,6 @@ quiet r c h l count =
           (λ j m. (no-data v c j (none j)).1),
     )
 
--- what the rule says of the data lines, and of whether data are on the way at the clock and after it
-rule-by : (d b now after : Bool) → (d ≡ true → now ≡ true) → b ≡ after
-    → (d && not now || not b && after || b && not after) ≡ false
-rule-by true true true after f g = rw (sym g) refl
-rule-by true false true after f g = rw (sym g) refl
-rule-by true b false after f g = absurd (let e = f refl in let no : ⊥ = cc in no)
-rule-by false true now after f g = rw (sym g) refl
-rule-by false false now after f g = rw (sym g) refl
-
 -- the transfer of the request that responded last, by its chunks
 transfer-is : (r : Run) (c i p m : ℕ) → Timely r → c < length r.trace
     → response_count (run_to r c).trace ≡ suc i → response_clock_of (run_to r c).trace i ≡ Some p → c ≤ m
@@ -280,26 +257,15 @@ transfer-is : (r : Run) (c i p m : ℕ) → Timely r → c < length r.trace
     → is_transferring (run_to r c).trace m
     ≡ (moves_data (run_to r c).trace i && nat_lt (count_where (from_clock p (line_at DRDY (run_to r c).trace)) m) 4)
 transfer-is r c i p m h l count e low high =
-    let v = (run_to r c).trace in
-    let size = length-cut r c l in
-    is_transferring-last v m i (orderly-at r c h l) count (omega arith) ∙ transferring_form v m i p e
+    grind (arith, length-cut, is_transferring-last, orderly-at, transferring_form)
 
 few-by : (gap p m k : ℕ) (b : Bool) → k ≡ count_where (is_chunk gap p) m → nat_lt m (p + 3 * (1 + gap) + 1) ≡ b
     → nat_lt k 4 ≡ b
-few-by gap p m k true e f =
-    let few = chunks-few gap p m (let l = ltb-true m (p + 3 * (1 + gap) + 1) f in omega arith) in
-    lt-ltb k 4 (omega arith)
-few-by gap p m k false e f =
-    let all = chunks-all gap p m (let l = ltb-false m (p + 3 * (1 + gap) + 1) f in omega arith) in
-    le-ltb k 4 (omega arith)
+few-by gap p m k b h1 h2 = grind (arith, chunks-few, chunks-all)
 
 busy-by : (gap p c : ℕ) (b : Bool) → p ≤ c → nat_lt (c + 1) (p + 3 * (1 + gap) + 1) ≡ b → is_busy_from gap c p ≡ b
 unfolding is_busy_from
-busy-by gap p c true l e =
-    rw (le-leb p c l) (lt-ltb c (p + 3 * (1 + gap)) (let m = ltb-true (c + 1) (p + 3 * (1 + gap) + 1) e in omega arith))
-busy-by gap p c false l e =
-    rw (le-leb p c l) (le-ltb c (p + 3 * (1 + gap)) (let m = ltb-false (c + 1) (p + 3 * (1 + gap) + 1) e in
-    omega arith))
+busy-by gap p c b h1 h2 = grind arith
 
 -- where data move, a clock with a chunk has a transfer on the way, and DBSY# goes on as long
 moving : (r : Run) (c i p : ℕ) → Timely r → c < length r.trace → response_count (run_to r c).trace ≡ suc i
@@ -362,10 +328,7 @@ by-count r c (suc i) h l count =
 
 at-clock : (r : Run) (c : ℕ) → Timely r → c < length r.trace → is_data_wrong (run_to r c).trace c ≡ false
 unfolding is_data_wrong
-at-clock r c h l =
-    let v = (run_to r c).trace in
-    let k = by-count r c (response_count v) h l refl in
-    rule-by (line_at DRDY v c) (line_at DBSY v c) (is_transferring v c) (is_transferring v (c + 1)) k.0 k.1
+at-clock r c h l = grind (arith, by-count)
 
 -- rule 16
 pub keeps-16 : (m : Marks) (r : Run) → Timely r → Keeps m 16 r.trace

@@ -1,23 +1,22 @@
 -- A due request stays due until its reply begins.
-use Rattle.std.proofs.Common.{ℕ, suc, ◌+◌, ◌<◌, ◌≤◌, ◌≡◌, Bool, true, false, not, ◌&&◌, ◌||◌, List, Option, Some, None}
-use Rattle.std.proofs.Common.{is_some, length, nat_le, nat_lt, slice_index, refl, sym, ap, subst, ◌∙◌, arith, inl, inr}
-use Rattle.std.proofs.lemmas.Bool.{and_from, and_parts, false_from_ne_true, cases_lt, le-leb, leb-true, lt-ltb}
-use Rattle.std.proofs.lemmas.Bool.{or_right}
+use Rattle.std.proofs.Common.{ℕ, suc, ◌+◌, ◌<◌, ◌≤◌, ◌≡◌, true, false, not, ◌&&◌, ◌||◌, List, Option, Some, None}
+use Rattle.std.proofs.Common.{is_some, length, nat_le, slice_index, refl, sym, ap, subst, ◌∙◌, arith, inl, inr}
+use Rattle.std.proofs.lemmas.Bool.{and_from, and_parts, false_from_ne_true, cases_lt, le-leb, lt-ltb, or_right}
 use Rattle.fsb_count.specs.Options.{is_before, is_some_and}
 use Rattle.fsb_count.proofs.Interface.{any_where-at, any_where-off, first_where-found, first_where-none}
 use Rattle.fsb_signal.proofs.Interface.{line_at-past}
-use Rattle.fsb_signal.specs.declared.lines.TheConstants.Lines.{ADS, AERR}
+use Rattle.fsb_signal.specs.declared.lines.TheConstants.Lines.{ADS}
 use Rattle.fsb_signal.specs.Samples.{line_at}
 use Rattle.fsb_trace.specs.declared.who.Who.TheVariants.{Priority}
 use Rattle.fsb_trace.specs.At.{Trace, request_at}
 use Rattle.fsb_trace.specs.Deferral.{answers, due_at, is_answered, is_due, later_of}
-use Rattle.fsb_trace.specs.Flight.{has_ended, is_dropped, is_in_flight, is_reply_to}
+use Rattle.fsb_trace.specs.Flight.{is_dropped, is_in_flight, is_reply_to}
 use Rattle.fsb_trace.specs.Outcome.{is_deferral, is_settled_deferred, response_clock_of}
 use Rattle.fsb_trace.specs.Requests.{have_same_id, is_cancelled, is_live, is_reply, live_count, live_request_of}
 use Rattle.fsb_trace.specs.Snoop.{snoop_end_of}
 use Rattle.fsb_trace.specs.Winner.{begins_at}
-use Rattle.fsb_trace.proofs.Interface.{line_at-agree, live_request_of-stays, request_at-agree, response_clock_of-stays}
-use Rattle.fsb_trace.proofs.Interface.{snoop_end_of-stays}
+use Rattle.fsb_trace.proofs.Interface.{line_at-agree, live_request_of-stays, request_at-agree}
+use Rattle.fsb_trace.proofs.Interface.{response_clock_of-stays, snoop_end_of-stays}
 use Rattle.fsb_laws.proofs.Interface.{last_is_live, response_counted}
 use Rattle.fsb_timely.specs.Moments.{number_of_turn, turns_in}
 use Rattle.fsb_timely.specs.Runs.{Run, past_of, past_to, run_to}
@@ -26,7 +25,6 @@ use Rattle.fsb_timely.specs.Timely.{Timely}
 use Rattle.fsb_timely.specs.Transfers.{settled_of}
 use Rattle.fsb_lawful.specs.Beginning.{WantsLawfully}
 use Rattle.fsb_lawful.proofs.CutRuns.{cuts-agree, length-cut, past-cut}
-use Rattle.fsb_lawful.proofs.Keeping.{and3, and4, not-true}
 use Rattle.fsb_lawful.proofs.OrderlyRuns.{orderly-at}
 use Rattle.fsb_lawful.proofs.RepliesBegun.{reply-before, reply-is}
 use Rattle.fsb_lawful.proofs.ResponseCodes.{told-as-settled}
@@ -36,9 +34,7 @@ reply-parts : (w : Trace) (i q : ℕ) → is_reply_to w i q ≡ true
     → (line_at ADS w q ≡ true) × (is_reply (request_at w q) ≡ true)
     × (have_same_id (request_at w q) (live_request_of w i) ≡ true)
 unfolding is_reply_to
-reply-parts w i q e =
-    let a = and4 (line_at ADS w q) (is_reply (request_at w q))
-    (have_same_id (request_at w q) (live_request_of w i)) _ e in (a.0, a.1, a.2)
+reply-parts w i q e = grind arith
 
 -- a reply that began before the clock before is one there, too
 same-reply : (r : Run) (d i s t q : ℕ) → suc d < length r.trace → snoop_end_of (run_to r d).trace i ≡ Some s
@@ -61,26 +57,7 @@ live-before : (r : Run) (d q : ℕ) → suc d < length r.trace → q < d
     → (is_in_flight (run_to r (suc d)).trace (suc d) q || is_live (run_to r (suc d)).trace q) ≡ true
     → is_live (run_to r d).trace q ≡ true
 unfolding is_live is_cancelled is_in_flight is_dropped
-live-before r d q l early ads e =
-    let v = (run_to r d).trace in
-    let w = (run_to r (suc d)).trace in
-    let agree = cuts-agree r d (suc d) (omega arith) l in
-    let size = length-cut r d (omega arith) in
-    let there = line_at-agree ADS (d + 1) v w q agree (omega arith) ∙ ads in
-    and_from (line_at ADS v q) (not (line_at AERR v (q + 3))) there (elim (cases_lt (q + 3) (d + 1)) [
-      | inl shown ↦ ap not (line_at-agree AERR (d + 1) v w (q + 3) agree shown
-          ∙ uncancelled (line_at ADS w q) (nat_lt q (suc d)) (line_at AERR w (q + 3)) (nat_lt (q + 3) (suc d))
-          (has_ended w (suc d) q) (lt-ltb (q + 3) (suc d) (omega arith)) e)
-      | inr hidden ↦ ap not (line_at-past AERR v (q + 3) (omega arith))
-    ])
-  where
-    uncancelled : (a b x n h : Bool) → n ≡ true → ((a && b && not (x && n) && not h) || (a && not x)) ≡ true → x ≡ false
-    uncancelled a b false n h f g = refl
-    uncancelled true true true true true f g = absurd (let no : ⊥ = cc in no)
-    uncancelled true true true true false f g = absurd (let no : ⊥ = cc in no)
-    uncancelled true false true true h f g = absurd (let no : ⊥ = cc in no)
-    uncancelled false b true true h f g = absurd (let no : ⊥ = cc in no)
-    uncancelled a b true false h f g = absurd (let no : ⊥ = cc in no)
+live-before r d q l early ads e = grind (arith, cuts-agree, length-cut, line_at-agree, and_from, lt-ltb, line_at-past)
 
 -- who is answered at the next clock was answered already, where no reply begins
 unanswered : (r : Run) (d i s t : ℕ) → suc d < length r.trace → snoop_end_of (run_to r d).trace i ≡ Some s
@@ -110,8 +87,7 @@ unanswered r d i s t l e f below low none not_yet =
 response-parts : (o : Option ℕ) (later c : ℕ) → is_some_and o (λ t. nat_le (t + 1 + later) c) ≡ true
     → (t : ℕ) × (o ≡ Some t) × (t + 1 + later ≤ c)
 unfolding is_some_and
-response-parts None later c e = absurd (let no : ⊥ = cc in no)
-response-parts (Some t) later c e = (t, refl, leb-true (t + 1 + later) c e)
+response-parts o later c h1 = grind arith
 
 still-late : (o : Option ℕ) (t later later' c : ℕ) → o ≡ Some t → later ≡ later' → t + 1 + later ≤ c
     → is_some_and o (λ t. nat_le (t + 1 + later') (suc c)) ≡ true
@@ -123,10 +99,7 @@ due-parts : (w : Trace) (turns : List ℕ) (c i : ℕ) → is_due w turns c i �
     × (is_some_and (response_clock_of w i) (λ t. nat_le (t + 1 + later_of (slice_index turns i)) c) ≡ true)
     × (is_answered w c i ≡ false)
 unfolding is_due
-due-parts w turns c i e =
-    let a = and3 (is_settled_deferred w turns i)
-    (is_some_and (response_clock_of w i) (λ t. nat_le (t + 1 + later_of (slice_index turns i)) c))
-    (not (is_answered w c i)) e in (a.0, a.1, not-true (is_answered w c i) a.2)
+due-parts w turns c i e = grind arith
 
 due-from : (w : Trace) (turns : List ℕ) (c i : ℕ) → is_settled_deferred w turns i ≡ true
     → is_some_and (response_clock_of w i) (λ t. nat_le (t + 1 + later_of (slice_index turns i)) c) ≡ true
@@ -171,8 +144,7 @@ due-next r d i h l none due =
 some-due : (w : Trace) (turns : List ℕ) (c : ℕ) (o : Option ℕ) → due_at w turns c ≡ o → is_some o ≡ true
     → (i : ℕ) × (is_due w turns c i ≡ true)
 unfolding due_at
-some-due w turns c None e f = absurd (let no : ⊥ = cc in no)
-some-due w turns c (Some i) e f = (i, (first_where-found (is_due w turns c) (live_count w) i e).1)
+some-due w turns c o h1 h2 = grind (arith, first_where-found)
 
 is-some-due : (w : Trace) (turns : List ℕ) (c i : ℕ) (o : Option ℕ) → due_at w turns c ≡ o → i < live_count w
     → is_due w turns c i ≡ true → is_some o ≡ true

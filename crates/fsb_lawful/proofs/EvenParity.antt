@@ -1,49 +1,33 @@
 -- Rules 19 and 20: the parity of a timely run of profile 2 is even; in profile 1 no parity is declared.
-use Rattle.std.proofs.Common.{ℕ, ◌+◌, ◌<◌, ◌≡◌, Bool, true, false, not, ◌&&◌, ◌||◌, Option, Some, None, length, take}
-use Rattle.std.proofs.Common.{nat_eq, refl, ◌∙◌, ap}
+use Rattle.std.proofs.Common.{ℕ, ◌+◌, ◌<◌, ◌≡◌, Bool, true, false, Option, length, take, nat_eq, arith}
 use Rattle.std.specs.List.{slice_get}
 use Rattle.std.specs.Option.{option_map_or}
 use Rattle.fsb_count.specs.Options.{is_some_and}
-use Rattle.fsb_signal.specs.declared.lines.TheConstants.Lines.{ADS, AP0, AP1, RP}
 use Rattle.fsb_signal.specs.declared.sample.Sample.{Sample}
-use Rattle.fsb_signal.specs.Samples.{has_unknown, is_known_word}
-use Rattle.fsb_signal.specs.Parity.{marks_in, is_low_address_even, is_high_address_even, is_request_even}
-use Rattle.fsb_signal.specs.Parity.{is_address_odd, is_request_odd}
-use Rattle.fsb_trace.specs.Rules.{has_parity_at, is_address_parity_wrong, is_request_parity_wrong}
-use Rattle.fsb_trace.specs.Rules.{is_marked_address_wrong, is_marked_request_wrong}
+use Rattle.fsb_signal.specs.Parity.{marks_in, is_address_odd, is_request_odd}
+use Rattle.fsb_trace.specs.Rules.{is_address_parity_wrong, is_request_parity_wrong, is_marked_address_wrong}
+use Rattle.fsb_trace.specs.Rules.{is_marked_request_wrong}
 use Rattle.fsb_trace.proofs.Interface.{breaks-19, breaks-20}
 use Rattle.fsb_timely.specs.ParityLines.{is_even_sample, drives_parity}
 use Rattle.fsb_timely.specs.Past.{Past}
 use Rattle.fsb_timely.specs.Runs.{Run, run_to, past_of, past_to}
 use Rattle.fsb_timely.specs.Timely.{holds_in, holds_at, Timely}
 use Rattle.fsb_lawful.specs.Keeps.{Keeps}
-use Rattle.fsb_lawful.proofs.Keeping.{and-fails, and3, keeps}
-
--- a test with a part that fails, fails
-last-fails : (a b x : Bool) → x ≡ true → (a && b && not x) ≡ false
-last-fails true true x e = ap not e
-last-fails true false x e = refl
-last-fails false b x e = refl
+use Rattle.fsb_lawful.proofs.Keeping.{keeps}
 
 not_odd-address : (s : Sample) → is_even_sample s ≡ true → is_address_odd s ≡ false
 unfolding is_even_sample is_address_odd
-not_odd-address s e =
-    let a = and3 (is_low_address_even s) (is_high_address_even s) (is_request_even s) e in
-    last-fails (is_known_word s.addr) (not (has_unknown s AP0 || has_unknown s AP1))
-    (is_low_address_even s && is_high_address_even s) (rw (a.0, a.1) refl)
+not_odd-address s e = grind arith
 
 not_odd-request : (s : Sample) → is_even_sample s ≡ true → is_request_odd s ≡ false
 unfolding is_even_sample is_request_odd
-not_odd-request s e =
-    let a = and3 (is_low_address_even s) (is_high_address_even s) (is_request_even s) e in
-    last-fails (is_known_word s.req) (not (has_unknown s ADS || has_unknown s RP)) (is_request_even s) a.2
+not_odd-request s e = grind arith
 
 -- a test that the sample rules out, of a sample that may not be there
 not_odd : (odd : Sample → Bool) (o : Option Sample) → ((s : Sample) → is_even_sample s ≡ true → odd s ≡ false)
     → is_some_and o is_even_sample ≡ true → option_map_or odd o false ≡ false
 unfolding is_some_and
-not_odd odd None h e = refl
-not_odd odd (Some s) h e = h s e
+not_odd odd o h1 h2 = grind arith
 
 even-at : (r : Run) (p : Past) (c : ℕ) → nat_eq r.plan.profile 2 ≡ true → drives_parity r p c ≡ true
     → is_some_and (slice_get r.trace c) is_even_sample ≡ true
@@ -58,31 +42,19 @@ even-there r c h l two = even-at (run_to r c) (past_to (past_of r) c) c two (h.p
 address-kept : (r : Run) (c : ℕ) → Timely r → c < length r.trace → nat_eq r.plan.profile 2 ≡ true
     → is_address_parity_wrong (take (c + 1) r.trace) c ≡ false
 unfolding is_address_parity_wrong
-address-kept r c h l two =
-    let v = take (c + 1) r.trace in
-    and-fails (has_parity_at v c) (option_map_or is_address_odd (slice_get v c) false)
-    (λ t. not_odd is_address_odd (slice_get v c) not_odd-address (even-there r c h l two))
+address-kept r c h l two = grind (arith, not_odd, not_odd-address, even-there)
 
 request-kept : (r : Run) (c : ℕ) → Timely r → c < length r.trace → nat_eq r.plan.profile 2 ≡ true
     → is_request_parity_wrong (take (c + 1) r.trace) c ≡ false
 unfolding is_request_parity_wrong
-request-kept r c h l two =
-    let v = take (c + 1) r.trace in
-    and-fails (has_parity_at v c) (option_map_or is_request_odd (slice_get v c) false)
-    (λ t. not_odd is_request_odd (slice_get v c) not_odd-request (even-there r c h l two))
+request-kept r c h l two = grind (arith, not_odd, not_odd-request, even-there)
 
 -- rule 19
 pub keeps-19 : (r : Run) → Timely r → Keeps (marks_in r.plan.profile) 19 r.trace
 unfolding is_marked_address_wrong
-keeps-19 r h = keeps (marks_in r.plan.profile) 19 r.trace (λ c l.
-    let v = take (c + 1) r.trace in
-    breaks-19 (marks_in r.plan.profile) v c
-    ∙ and-fails (nat_eq r.plan.profile 2) (is_address_parity_wrong v c) (λ two. address-kept r c h l two))
+keeps-19 r h = grind (arith, keeps, breaks-19, address-kept)
 
 -- rule 20
 pub keeps-20 : (r : Run) → Timely r → Keeps (marks_in r.plan.profile) 20 r.trace
 unfolding is_marked_request_wrong
-keeps-20 r h = keeps (marks_in r.plan.profile) 20 r.trace (λ c l.
-    let v = take (c + 1) r.trace in
-    breaks-20 (marks_in r.plan.profile) v c
-    ∙ and-fails (nat_eq r.plan.profile 2) (is_request_parity_wrong v c) (λ two. request-kept r c h l two))
+keeps-20 r h = grind (arith, keeps, breaks-20, request-kept)

@@ -1,36 +1,34 @@
 -- What an agent is granted, and what is brought to it, is for one of its outstanding requests.
-use Rattle.std.proofs.Common.{ℕ, zero, suc, ◌+◌, ◌/◌, ◌<◌, ◌≤◌, ◌≡◌, Bool, true, false, not, ◌&&◌, ◌||◌, [], Option}
-use Rattle.std.proofs.Common.{Some, None, length, nat_eq, refl, sym, ap, subst, ◌∙◌, arith, inl, inr}
+use Rattle.std.proofs.Common.{ℕ, zero, suc, ◌+◌, ◌<◌, ◌≤◌, ◌≡◌, Bool, true, false, not, ◌&&◌, ◌||◌, Option, Some}
+use Rattle.std.proofs.Common.{None, length, nat_eq, refl, sym, ap, subst, ◌∙◌, arith, inl, inr}
 use Rattle.std.specs.List.{filter, list_any}
-use Rattle.std.specs.Option.{option_and_then, option_map, option_map_or}
-use Rattle.std.proofs.lemmas.Bool.{and_from, and_parts, cases_Bool, eq-eqb, eqb-true, false_from_ne_true}
+use Rattle.std.specs.Option.{option_and_then, option_map}
+use Rattle.std.proofs.lemmas.Bool.{and_from, and_parts, cases_Bool, eq-eqb, false_from_ne_true}
 use Rattle.fsb_count.specs.Clocks.{AgreeBelow}
-use Rattle.fsb_count.specs.Options.{is_at, is_before, is_some_and}
+use Rattle.fsb_count.specs.Options.{is_before, is_some_and}
 use Rattle.fsb_count.proofs.Interface.{any_where-found, count_where-same, first_where-carried, is_at-some}
 use Rattle.fsb_count.proofs.Interface.{is_before-parts, nth_where-found, nth_where-one}
 use Rattle.fsb_encode.specs.declared.request.Kind.{Kind}
-use Rattle.fsb_encode.specs.declared.request.Kind.TheVariants.{Reply, Invalidate, Read, WriteBack, Upgrade}
 use Rattle.fsb_encode.specs.declared.request.Request.{Request}
 use Rattle.fsb_hazard.specs.declared.choice.Turn.{Turn}
 use Rattle.fsb_hazard.specs.declared.choice.Turn.TheVariants.{Keep}
 use Rattle.fsb_hazard.specs.Choice.{is_never_held_up}
 use Rattle.fsb_signal.specs.declared.lines.TheConstants.Lines.{ADS, HITM}
 use Rattle.fsb_signal.specs.Samples.{line_at}
-use Rattle.fsb_trace.specs.declared.who.Who.TheVariants.{Symmetric, Priority}
 use Rattle.fsb_trace.specs.At.{Trace, request_at, responds_at}
 use Rattle.fsb_trace.specs.Agree.{AgreeTo}
 use Rattle.fsb_trace.specs.Flight.{is_live_reply_to, is_outstanding, is_reply_to, last_clock_of, outstanding}
 use Rattle.fsb_trace.specs.Flight.{reply_clock_of, reply_end_of, reply_number_of}
 use Rattle.fsb_trace.specs.Outcome.{is_deferral, is_deferred, is_settled_deferred, outcome_by_kind, response_clock_of}
 use Rattle.fsb_trace.specs.Outcome.{settled_by}
-use Rattle.fsb_trace.specs.Requests.{have_same_id, is_live, is_reply, is_reply_kind, line_of, live_clock_of, live_count}
+use Rattle.fsb_trace.specs.Requests.{have_same_id, is_live, is_reply, is_reply_kind, line_of, live_clock_of}
 use Rattle.fsb_trace.specs.Requests.{live_number_of, live_request_of}
 use Rattle.fsb_trace.specs.Response.{end_of}
 use Rattle.fsb_trace.specs.Snoop.{snoop_end_of}
-use Rattle.fsb_trace.proofs.Interface.{AgreeTo-sym, end_of-response, is_live-agree, line_at-agree, live_clock_of-number}
-use Rattle.fsb_trace.proofs.Interface.{live_clock_of-stays, live_request_of-stays, request_at-agree}
-use Rattle.fsb_trace.proofs.Interface.{response_clock_of-stays, snoop_end_of-clock, snoop_end_of-rises}
-use Rattle.fsb_trace.proofs.Interface.{snoop_end_of-stays, winner_at-agree}
+use Rattle.fsb_trace.proofs.Interface.{AgreeTo-sym, end_of-response, is_live-agree, line_at-agree}
+use Rattle.fsb_trace.proofs.Interface.{live_clock_of-number, live_clock_of-stays, live_request_of-stays}
+use Rattle.fsb_trace.proofs.Interface.{request_at-agree, response_clock_of-stays, snoop_end_of-clock}
+use Rattle.fsb_trace.proofs.Interface.{snoop_end_of-rises, snoop_end_of-stays, winner_at-agree}
 use Rattle.fsb_laws.proofs.Interface.{deferred_response, end_after_clock, end_of-kept, is_outstanding-end}
 use Rattle.fsb_laws.proofs.Interface.{last_clock_of-deferred, last_clock_of-plain, live_of_reply}
 use Rattle.fsb_timely.specs.Completions.{brings_at, is_brought}
@@ -56,27 +54,16 @@ use Rattle.fsb_lawful.proofs.Turns.{turned-at}
 
 agent-agree : (n : ℕ) (w v : Trace) (q : ℕ) → AgreeTo n w v → q < n → agent_at w q ≡ agent_at v q
 unfolding agent_at
-agent-agree n w v q a l =
-    let winner = winner_at-agree n w v q a (omega arith) in
-    λ i. elim (winner i) [ Some who ↦ elim who [ Symmetric b ↦ Some b | Priority ↦ None ] | None ↦ None ]
+agent-agree n w v q a l = grind (arith, winner_at-agree)
 
 line-agree : (n : ℕ) (w v : Trace) (q : ℕ) → AgreeTo n w v → q < n → line_of w q ≡ line_of v q
 unfolding line_of
-line-agree n w v q a l =
-    let winner = winner_at-agree n w v q a (omega arith) in
-    let sample = a.same q l in
-    λ i. elim (winner i) [
-      | Some who ↦ elim who [ Symmetric b ↦ option_map (λ s. s.addr.bits / 4) (sample i) | Priority ↦ None ]
-      | None ↦ None
-    ]
+line-agree n w v q a l = grind (arith, winner_at-agree)
 
 -- who claims what shows at the first clock
 claim-agree : (n : ℕ) (w v : Trace) (q : ℕ) → AgreeTo n w v → q < n → claim_at w q ≡ claim_at v q
 unfolding claim_at
-claim-agree n w v q a l =
-    let agent = agent-agree n w v q a l in
-    let line = line-agree n w v q a l in
-    λ i. option_and_then (λ x. option_map (λ y. record { first = q; agent = x; line = y }) (line i)) (agent i)
+claim-agree n w v q a l = grind (arith, agent-agree, line-agree)
 
 -- the request of a claim, as its agent knows it
 begun-claim : (r : Run) (q : ℕ) (claim : Claim) → q < length r.trace → line_at ADS r.trace q ≡ true
@@ -160,46 +147,29 @@ response-within w i t e = (nth_where-found (responds_at w) i (length w) t e).0
 unfinished-itself : (r : Run) (e i : ℕ) → e < length r.trace → HasNoEnd r e i
     → is_before (last_clock_of (run_to r e).trace i) (length (run_to r e).trace) ≡ false
 unfinished-itself r e i l none =
-    let v = (run_to r e).trace in
-    let size : length v ≡ e + 1 = length-cut r e l in
-    false_from_ne_true _ (λ t.
-    let x = is_before-parts (last_clock_of v i) (length v) t in
-    let below = x.2 in
-    elim (cases_Bool (is_deferred v i)) [
-      | inl put_off ↦
-          let p = deferred_response v i put_off in
-          let m = response-within v i p.0 p.1 in
-          none p.0 p.2 (omega arith)
-      | inr plain ↦ none x.0 (sym (last_clock_of-plain v i plain) ∙ x.1) (omega arith)
-    ])
-
-by-kind : (request : Request) (kind : Kind) → request.kind ≡ kind → is_deferral (outcome_by_kind (Some request)) ≡ false
-unfolding outcome_by_kind is_deferral
-by-kind request Reply e = rw e refl
-by-kind request Invalidate e = rw e refl
-by-kind request Read e = rw e refl
-by-kind request WriteBack e = rw e refl
-by-kind request Upgrade e = rw e refl
+    grind (
+      arith,
+      length-cut,
+      false_from_ne_true,
+      is_before-parts,
+      deferred_response,
+      response-within,
+      last_clock_of-plain,
+    )
 
 by-request : (o : Option Request) → is_deferral (outcome_by_kind o) ≡ false
 unfolding outcome_by_kind is_deferral
-by-request None = refl
-by-request (Some request) = by-kind request request.kind refl
+by-request o = grind arith
 
 -- what is kept is not put off
 kept : (w : Trace) (i s : ℕ) (b : Bool) → line_at HITM w s ≡ b
     → is_deferral (settled_by w (number_of_turn Keep) i s) ≡ false
 unfolding settled_by number_of_turn is_deferral
-kept w i s true e = rw e refl
-kept w i s false e = rw e (by-request (live_request_of w i))
+kept w i s b h1 = grind (arith, by-request)
 
 reply-held : (kind : Kind) → is_reply_kind kind ≡ true → is_never_held_up kind ≡ true
 unfolding is_reply_kind
-reply-held Reply e = refl
-reply-held Invalidate e = absurd (let no : ⊥ = cc in no)
-reply-held Read e = absurd (let no : ⊥ = cc in no)
-reply-held WriteBack e = absurd (let no : ⊥ = cc in no)
-reply-held Upgrade e = absurd (let no : ⊥ = cc in no)
+reply-held kind h1 = grind arith
 
 -- a request that was settled as Deferred, in the run up to e
 record IsPutOff (r : Run) (e j : ℕ) : Type 0 where
@@ -238,8 +208,7 @@ put-off r e i j t h l low snoop less deferred =
     let one = turned.there in
     let two = tied.1.there in
     let same : tied.0 ≡ turned.end = cc in
-    let told : is_deferral tied.0.outcome ≡ true =
-    sym (ap (λ o. is_some_and o is_deferral) tied.1.outcome) ∙ deferred in
+    let told : is_deferral tied.0.outcome ≡ true = grind arith in
     let settled = ap (λ o. is_some_and o is_deferral) turned.outcome
     ∙ ap (λ x. is_deferral x.outcome) (sym same) ∙ told in
     record {
@@ -391,12 +360,7 @@ granted-owed r a (suc e) line h l f =
 ending : (r : Run) (c q : ℕ) → c < length r.trace → is_end_at (past_of r) c q ≡ true
     → (i : ℕ) × (end_of (run_to r c).trace i ≡ Some c) × (live_clock_of (run_to r c).trace i ≡ Some q)
 unfolding is_end_at ended_requests past_of moment_at requests_ending_at
-ending r c q l e =
-    let u = (run_to r c).trace in
-    let ended = ap (λ o. list_any (nat_eq q) (option_map_or (λ moment. moment.ended) o []))
-    (moment-at r (length r.trace) c l) in
-    let k = any-from (λ i. is_at (end_of u i) c) (live_clock_of u) (nat_eq q) (live_count u) (sym ended ∙ e) in
-    (k.0, is_at-some (end_of u k.0) c k.1.there, k.1.gives ∙ ap Some (sym (eqb-true q k.1.given k.1.passes)))
+ending r c q l e = grind (arith, moment-at, any-from, is_at-some)
 
 -- it is the one that granted the line
 same-number : (r : Run) (c i j q : ℕ) → Timely r → c < length r.trace → end_of (run_to r c).trace i ≡ Some c
@@ -449,7 +413,4 @@ brought-owed r a (suc e) need h l f =
 
 -- in a timely run an agent gets what it has asked for
 pub grants-are-owed : (r : Run) → Timely r → GrantsAreOwed r
-grants-are-owed r h = record {
-  granted = λ a c line l e. granted-owed r a c line h l e;
-  brought = λ a c need l e. brought-owed r a c need h l e;
-}
+grants-are-owed r h = grind (arith, granted-owed, brought-owed)

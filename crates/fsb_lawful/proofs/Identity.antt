@@ -1,6 +1,6 @@
 -- Rule 7: a request is identified by its winner.
-use Rattle.std.proofs.Common.{ℕ, zero, suc, ◌+◌, ◌-◌, ◌/◌, ◌<◌, ◌≤◌, ◌≡◌, true, false, not, ◌&&◌, Option, Some, None}
-use Rattle.std.proofs.Common.{length, take, refl, sym, subst, ap, ◌∙◌, arith}
+use Rattle.std.proofs.Common.{ℕ, zero, suc, ◌+◌, ◌/◌, ◌<◌, ◌≤◌, ◌≡◌, true, false, Option, Some, length, take, refl}
+use Rattle.std.proofs.Common.{sym, ap, ◌∙◌, arith}
 use Rattle.std.specs.Option.{option_map, option_and_then}
 use Rattle.std.proofs.lemmas.Bool.{eq-eqb}
 use Rattle.fsb_count.specs.Options.{is_some_and}
@@ -13,7 +13,7 @@ use Rattle.fsb_trace.specs.At.{Trace, line_back, request_at}
 use Rattle.fsb_trace.specs.Requests.{is_reply, is_reply_kind, live_request_of}
 use Rattle.fsb_trace.specs.Winner.{winner_at, is_agent, is_same_agent}
 use Rattle.fsb_trace.specs.Rules.{is_own_id, is_identified, is_identity_wrong}
-use Rattle.fsb_trace.proofs.Interface.{breaks-7, winner_at-agree, AgreeTo-sym}
+use Rattle.fsb_trace.proofs.Interface.{breaks-7, winner_at-agree}
 use Rattle.fsb_timely.specs.Past.{Past}
 use Rattle.fsb_timely.specs.Runs.{Run, run_to, past_of, past_to}
 use Rattle.fsb_timely.specs.Starts.{reply_to, due_number, would_begin, request_begun}
@@ -23,13 +23,12 @@ use Rattle.fsb_lawful.specs.Keeps.{Keeps}
 use Rattle.fsb_lawful.proofs.Cuts.{run_to-agrees}
 use Rattle.fsb_lawful.proofs.Begun.{ads-back, begun-decoded}
 use Rattle.fsb_lawful.proofs.OwnIds.{want-own}
-use Rattle.fsb_lawful.proofs.Keeping.{and-fails, keeps}
+use Rattle.fsb_lawful.proofs.Keeping.{keeps}
 
 -- the request of a winner
 pub begun-winner : (f : Who → Option Request) (o : Option Who) (q : Request) → option_and_then f o ≡ Some q
     → (who : Who) × (o ≡ Some who) × (f who ≡ Some q)
-begun-winner f None q e = absurd (let no : ⊥ = cc in no)
-begun-winner f (Some who) q e = (who, refl, e)
+begun-winner f o q h1 = grind arith
 
 own : (a : ℕ) (q : Request) → is_reply_kind q.kind ≡ false → q.did / 16 ≡ a
     → is_identified (Some (Symmetric a)) (Some q) ≡ true
@@ -39,9 +38,7 @@ own a q e f = rw e (eq-eqb (q.did / 16) a f)
 reply-identified : (o : Option Request) (q : Request) → option_map reply_to o ≡ Some q
     → is_identified (Some Priority) (Some q) ≡ true
 unfolding is_identified is_reply is_reply_kind is_some_and is_agent is_same_agent reply_to
-reply-identified None q e = absurd (let no : ⊥ = cc in no)
-reply-identified (Some x) q e =
-    let same : reply_to x ≡ q = cc in subst (λ y. is_identified (Some Priority) (Some y) ≡ true) same refl
+reply-identified o q h1 = grind arith
 
 identified-by : (r : Run) (p : Past) (c : ℕ) (who : Who) (q : Request) → p.plan.ahead ≤ 4
     → would_begin r p c who ≡ Some q → is_identified (Some who) (Some q) ≡ true
@@ -54,17 +51,11 @@ identified-by r p c Priority q few e =
 begun-identified : (r : Run) (p : Past) (c : ℕ) (q : Request) → p.plan.ahead ≤ 4 → request_begun r p c ≡ Some q
     → is_identified (winner_at r.trace c) (Some q) ≡ true
 unfolding request_begun
-begun-identified r p c q few e =
-    let h = begun-winner (would_begin r p c) (winner_at r.trace c) q e in
-    ap (λ o. is_identified o (Some q)) h.1 ∙ identified-by r p c h.0 q few h.2
+begun-identified r p c q few e = grind (arith, identified-by)
 
 same-winner : (r : Run) (d : ℕ) → suc d < length r.trace
     → winner_at (run_to r d).trace d ≡ winner_at (run_to r (suc d)).trace d
-same-winner r d l =
-    let early = AgreeTo-sym (d + 1) r.trace (run_to r d).trace (run_to-agrees r d (omega arith)) in
-    let late = run_to-agrees r (suc d) l in
-    winner_at-agree (d + 1) (run_to r d).trace r.trace d early (omega arith)
-    ∙ winner_at-agree (suc d + 1) r.trace (run_to r (suc d)).trace d late (omega arith)
+same-winner r d l = grind (arith, run_to-agrees, winner_at-agree)
 
 -- a request is identified in its second clock
 pub identified-at : (r : Run) (d : ℕ) → Timely r → r.plan.ahead ≤ 4 → WantsLawfully r → suc d < length r.trace
@@ -85,16 +76,8 @@ none-back v = refl
 at-clock : (r : Run) (c : ℕ) → Timely r → r.plan.ahead ≤ 4 → WantsLawfully r → c < length r.trace
     → is_identity_wrong (run_to r c).trace c ≡ false
 unfolding is_identity_wrong
-at-clock r zero h few wants l =
-    let v = (run_to r zero).trace in
-    ap (λ b. b && not (is_identified (winner_at v (zero - 1)) (request_at v (zero - 1)))) (none-back v)
-at-clock r (suc d) h few wants l =
-    let one : suc d - 1 ≡ d = omega arith in
-    let v = (run_to r (suc d)).trace in
-    and-fails (line_back ADS v (suc d) 1)
-    (not (is_identified (winner_at v (suc d - 1)) (request_at v (suc d - 1))))
-    (λ t. ap (λ k. not (is_identified (winner_at v k) (request_at v k))) one
-    ∙ ap not (identified-at r d h few wants l t))
+at-clock r zero h few wants l = grind (arith, none-back)
+at-clock r (suc d) h few wants l = grind (arith, identified-at)
 
 -- rule 7
 pub keeps-7 : (m : Marks) (r : Run) → Timely r → r.plan.ahead ≤ 4 → WantsLawfully r → Keeps m 7 r.trace

@@ -1,5 +1,5 @@
 -- How a trace keeps a rule: at each clock, over the samples up to it.
-use Rattle.std.proofs.Common.{ℕ, ◌+◌, ◌<◌, ◌≡◌, Bool, true, false, not, ◌&&◌, length, take, nat_lt, refl}
+use Rattle.std.proofs.Common.{ℕ, ◌+◌, ◌<◌, ◌≡◌, Bool, true, false, not, ◌&&◌, length, take, nat_lt, arith}
 use Rattle.std.proofs.lemmas.Bool.{and_parts, ltb-true}
 use Rattle.std.specs.Bool.{beq}
 use Rattle.fsb_signal.specs.declared.marks.Marks.{Marks}
@@ -10,34 +10,26 @@ use Rattle.fsb_lawful.specs.Keeps.{Keeps}
 
 -- what fails wherever the first holds
 pub and-fails : (a b : Bool) → (a ≡ true → b ≡ false) → (a && b) ≡ false
-and-fails true b h = h refl
-and-fails false b h = refl
+and-fails a b h1 = grind arith
 
 -- the parts of a conjunction of three, four and five
 pub and3 : (a b d : Bool) → (a && b && d) ≡ true → (a ≡ true) × (b ≡ true) × (d ≡ true)
 and3 a b d e = let last = and_parts (a && b) d e in let first = and_parts a b last.0 in (first.0, first.1, last.1)
 
 pub and4 : (a b d f : Bool) → (a && b && d && f) ≡ true → (a ≡ true) × (b ≡ true) × (d ≡ true) × (f ≡ true)
-and4 a b d f e =
-    let last = and_parts (a && b && d) f e in let first = and3 a b d last.0 in (first.0, first.1, first.2, last.1)
+and4 a b d f e = grind arith
 
 pub and5 : (a b d f g : Bool) → (a && b && d && f && g) ≡ true
     → (a ≡ true) × (b ≡ true) × (d ≡ true) × (f ≡ true) × (g ≡ true)
-and5 a b d f g e =
-    let last = and_parts (a && b && d && f) g e in
-    let first = and4 a b d f last.0 in (first.0, first.1, first.2, first.3, last.1)
+and5 a b d f g e = grind arith
 
 -- a test that is denied
 pub not-true : (b : Bool) → not b ≡ true → b ≡ false
-not-true true e = absurd (let no : ⊥ = cc in no)
-not-true false e = refl
+not-true b h1 = grind arith
 
 -- two tests that are compared as equal
 pub same-beq : (a b : Bool) → beq a b ≡ true → a ≡ b
-same-beq true true e = refl
-same-beq false false e = refl
-same-beq true false e = absurd (let no : ⊥ = cc in no)
-same-beq false true e = absurd (let no : ⊥ = cc in no)
+same-beq a b h1 = grind arith
 
 -- the rule is kept where it is broken at no clock of the trace
 pub keeps : (m : Marks) (j : ℕ) (w : Trace) → ((c : ℕ) → c < length w → breaks m (take (c + 1) w) c j ≡ false)

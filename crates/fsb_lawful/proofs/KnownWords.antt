@@ -1,28 +1,25 @@
 -- Rules 1 and 17: nothing in a timely run is unknown.
-use Rattle.std.proofs.Common.{ℕ, zero, suc, ◌+◌, ◌≡◌, Bool, true, false, not, ◌&&◌, List, [], ◌∷◌, take, refl, ◌∙◌, ap}
+use Rattle.std.proofs.Common.{ℕ, zero, suc, ◌≡◌, Bool, true, false, not, List, [], ◌∷◌, take, refl, arith}
 use Rattle.std.specs.List.{list_all, slice_get}
 use Rattle.std.specs.Option.{option_map_or}
 use Rattle.std.proofs.lemmas.Bool.{and_parts}
-use Rattle.fsb_signal.specs.declared.lines.TheConstants.Lines.{DRDY}
 use Rattle.fsb_signal.specs.declared.marks.Marks.{Marks}
 use Rattle.fsb_signal.specs.declared.sample.Sample.{Sample}
-use Rattle.fsb_signal.specs.Samples.{line_at, has_known_lines, is_known_word, is_known, is_known_trace}
+use Rattle.fsb_signal.specs.Samples.{has_known_lines, is_known, is_known_trace}
 use Rattle.fsb_trace.specs.At.{Trace}
 use Rattle.fsb_trace.specs.Rules.{has_unknown_line, has_unknown_data}
 use Rattle.fsb_trace.proofs.Interface.{breaks-1, breaks-17}
 use Rattle.fsb_timely.specs.Runs.{Run}
 use Rattle.fsb_timely.specs.Timely.{Timely}
 use Rattle.fsb_lawful.specs.Keeps.{Keeps}
-use Rattle.fsb_lawful.proofs.Keeping.{and-fails, and4, keeps}
+use Rattle.fsb_lawful.proofs.Keeping.{keeps}
 
 -- what holds of all samples holds of those of a cut trace
 all-cut : {X : Type 0} (test : X → Bool) (n : ℕ) (xs : List X) → list_all test xs ≡ true
     → list_all test (take n xs) ≡ true
 all-cut test zero xs e = refl
 all-cut test (suc n) [] e = refl
-all-cut test (suc n) (x ∷ xs) e =
-    let parts = and_parts (test x) (list_all test xs) e in ap (λ b. b && list_all test (take n xs)) parts.0
-    ∙ all-cut test n xs parts.1
+all-cut test (suc n) (x ∷ xs) e = grind (arith, all-cut test n xs)
 
 -- what holds of all samples and gives that a test fails, fails at each clock
 none-at : {X : Type 0} (test bad : X → Bool) (xs : List X) (c : ℕ) → ((x : X) → test x ≡ true → bad x ≡ false)
@@ -32,12 +29,7 @@ none-at test bad (x ∷ xs) zero h e = h x (and_parts (test x) (list_all test xs
 none-at test bad (x ∷ xs) (suc c) h e = none-at test bad xs c h (and_parts (test x) (list_all test xs) e).1
 
 lines-known : (s : Sample) → is_known s ≡ true → not (has_known_lines s) ≡ false
-lines-known s e =
-    ap not (and4 (has_known_lines s) (is_known_word s.req) (is_known_word s.addr) (is_known_word s.dbus) e).0
-
-data-known : (s : Sample) → is_known s ≡ true → not (is_known_word s.dbus) ≡ false
-data-known s e =
-    ap not (and4 (has_known_lines s) (is_known_word s.req) (is_known_word s.addr) (is_known_word s.dbus) e).3
+lines-known s e = grind arith
 
 no_unknown_line : (v : Trace) (c : ℕ) → is_known_trace v ≡ true → has_unknown_line v c ≡ false
 unfolding has_unknown_line
@@ -45,18 +37,12 @@ no_unknown_line v c e = none-at is_known (λ s. not (has_known_lines s)) v c lin
 
 no_unknown_data : (v : Trace) (c : ℕ) → is_known_trace v ≡ true → has_unknown_data v c ≡ false
 unfolding has_unknown_data
-no_unknown_data v c e =
-    and-fails (line_at DRDY v c) (option_map_or (λ s. not (is_known_word s.dbus)) (slice_get v c) false)
-    (λ t. none-at is_known (λ s. not (is_known_word s.dbus)) v c data-known e)
+no_unknown_data v c e = grind (arith, none-at)
 
 -- rule 1
 pub keeps-1 : (m : Marks) (r : Run) → Timely r → Keeps m 1 r.trace
-keeps-1 m r h =
-    keeps m 1 r.trace (λ c l. breaks-1 m (take (c + 1) r.trace) c
-    ∙ no_unknown_line (take (c + 1) r.trace) c (all-cut is_known (c + 1) r.trace h.known))
+keeps-1 m r h = grind (arith, keeps, breaks-1, no_unknown_line, all-cut)
 
 -- rule 17
 pub keeps-17 : (m : Marks) (r : Run) → Timely r → Keeps m 17 r.trace
-keeps-17 m r h =
-    keeps m 17 r.trace (λ c l. breaks-17 m (take (c + 1) r.trace) c
-    ∙ no_unknown_data (take (c + 1) r.trace) c (all-cut is_known (c + 1) r.trace h.known))
+keeps-17 m r h = grind (arith, keeps, breaks-17, no_unknown_data, all-cut)

@@ -1,10 +1,10 @@
 -- The lines that an agent gets, the IDs that it uses, and so all requests of a run whose plan keeps the bounds.
-use Rattle.std.proofs.Common.{ℕ, zero, suc, ◌+◌, ◌-◌, ◌*◌, ◌/◌, ◌^◌, ◌<◌, ◌≤◌, ◌≡◌, Bool, true, false, not, ◌&&◌, ◌||◌}
-use Rattle.std.proofs.Common.{List, [], ◌∷◌, Option, Some, None, length, drop, take, min, nat_eq, nat_le, nat_lt}
-use Rattle.std.proofs.Common.{slice_get, refl, sym, ap, subst, ◌∙◌, arith, inl, inr, add-one, if◌then◌else◌}
+use Rattle.std.proofs.Common.{ℕ, zero, suc, ◌+◌, ◌-◌, ◌^◌, ◌<◌, ◌≤◌, ◌≡◌, Bool, true, false, not, ◌&&◌, ◌||◌, List}
+use Rattle.std.proofs.Common.{[], ◌∷◌, Option, Some, None, length, drop, take, nat_le, nat_lt, slice_get, refl, sym}
+use Rattle.std.proofs.Common.{ap, subst, ◌∙◌, arith, inl, inr, add-one, if◌then◌else◌}
 use Rattle.std.specs.List.{filter, find, list_all, range_with_len}
 use Rattle.std.specs.Option.{option_and_then, option_map, option_map_or}
-use Rattle.std.proofs.lemmas.Bool.{and_parts, cases_Bool, cases_lt, lt-ltb, ltb-true}
+use Rattle.std.proofs.lemmas.Bool.{and_parts, cases_Bool}
 use Rattle.std.proofs.lemmas.Option.{slice_get_past, slice_get_within}
 use Rattle.fsb_access.specs.ScriptOrder.{script_of}
 use Rattle.fsb_access.specs.declared.item.Item.{Item}
@@ -13,37 +13,35 @@ use Rattle.fsb_count.proofs.Interface.{first_where-found}
 use Rattle.fsb_encode.specs.declared.request.Kind.TheVariants.{Invalidate, Read, Upgrade}
 use Rattle.fsb_encode.specs.declared.request.Request.{Request}
 use Rattle.fsb_encode.specs.declared.request.Pair.{Pair}
-use Rattle.fsb_encode.specs.Decoded.{if_coded_as, is_coded_as, is_pair, kind_of, read_off, request_of}
-use Rattle.fsb_encode.specs.Request.{are_lawful_fields, is_lawful_request, pairs_of}
+use Rattle.fsb_encode.specs.Decoded.{if_coded_as, is_coded_as, kind_of, read_off, request_of}
+use Rattle.fsb_encode.specs.Request.{are_lawful_fields, is_lawful_request}
 use Rattle.fsb_script.specs.Bounds.{is_lawful_item, is_lawful_script}
 use Rattle.fsb_signal.specs.declared.lines.TheConstants.Lines.{ADS, BPRI, LOCK}
 use Rattle.fsb_signal.specs.Samples.{line_at}
 use Rattle.fsb_trace.specs.declared.outcome.Outcome.{Outcome}
 use Rattle.fsb_trace.specs.declared.who.Who.{Who}
-use Rattle.fsb_trace.specs.declared.who.Who.TheVariants.{Symmetric, Priority}
+use Rattle.fsb_trace.specs.declared.who.Who.TheVariants.{Symmetric}
 use Rattle.fsb_trace.specs.At.{Trace, known_pair_at, request_at}
 use Rattle.fsb_trace.specs.Requests.{is_upgrade_kind, line_of, live_clock_of, live_request_of}
 use Rattle.fsb_trace.proofs.Interface.{requesters_before-begun, requesters_before-kept, requesters_before-start}
 use Rattle.fsb_trace.proofs.Interface.{winner_after-high, winner_after-low, winner_by-locked, winner_by-priority}
 use Rattle.fsb_trace.proofs.Interface.{winner_by-symmetric}
-use Rattle.fsb_trace.specs.Winner.{agent_in_order, asks_in_order, first_asking, first_in_order, last_if_asking}
-use Rattle.fsb_trace.specs.Winner.{request_line_of, requesters_before, Requesters, then_begun, winner_after, winner_at}
-use Rattle.fsb_trace.specs.Winner.{winner_by}
+use Rattle.fsb_trace.specs.Winner.{agent_in_order, first_asking, last_if_asking, requesters_before, Requesters}
+use Rattle.fsb_trace.specs.Winner.{then_begun, winner_after, winner_at, winner_by}
 use Rattle.fsb_timely.specs.Grants.{grant_at, is_rival, line_granted_at, lines_granted, snooped_at}
 use Rattle.fsb_timely.specs.Hits.{is_dirty}
 use Rattle.fsb_timely.specs.Moments.{agent_at, claim_at, gives_line, grant_for, grant_of, grant_to, live_claim_of}
-use Rattle.fsb_timely.specs.Moments.{moment_at, number_snooped_at, served_number, snoop_at, snoop_end_for}
-use Rattle.fsb_timely.specs.Moments.{snoop_end_if_begun, snoop_end_with, turns_in}
+use Rattle.fsb_timely.specs.Moments.{moment_at, number_snooped_at, snoop_at, snoop_end_for, snoop_end_if_begun}
+use Rattle.fsb_timely.specs.Moments.{snoop_end_with}
 use Rattle.fsb_timely.specs.Past.{Claim, Grant, Moment, Owing, Past, SnoopEnd}
-use Rattle.fsb_timely.specs.Runs.{Run, moments_below, past_of, past_to, run_to}
+use Rattle.fsb_timely.specs.Runs.{Run, past_of, past_to, run_to}
 use Rattle.fsb_timely.specs.Scripts.{Need, is_idling, items_of, needs_from, next_number, window, window_at}
-use Rattle.fsb_timely.specs.Starts.{due_number, reply_to, request_begun, would_begin}
-use Rattle.fsb_timely.specs.Wants.{free_id, id_of, is_id_used, is_missing, kind_needed, least_of, may_upgrade, owed}
+use Rattle.fsb_timely.specs.Starts.{reply_to, request_begun, would_begin}
+use Rattle.fsb_timely.specs.Wants.{free_id, id_of, is_id_used, is_missing, kind_needed, least_of, owed}
 use Rattle.fsb_timely.specs.Wants.{request_of_kind, victim_of, want_for, want_of, write_back_of}
 use Rattle.fsb_timely.proofs.Interface.{length-moments, moment-at, moment_of}
 use Rattle.fsb_lawful.specs.Beginning.{KeepsBounds, WantsLawfully}
 use Rattle.fsb_lawful.proofs.Cuts.{slice_get-take}
-use Rattle.fsb_lawful.proofs.Identity.{begun-winner}
 use Rattle.fsb_lawful.proofs.OwnIds.{want-few}
 use Rattle.fsb_lawful.proofs.LawfulWants.{all-at, all-drop, all-filter, all-found, all-given, is_fit, window-fits}
 use Rattle.fsb_lawful.proofs.LawfulWants.{window-lawful}
@@ -54,25 +52,17 @@ is_line n = nat_lt n (2 ^ 31)
 
 then-some : {A B : Type 0} (f : A → Option B) (o : Option A) (y : B) → option_and_then f o ≡ Some y
     → (x : A) × (o ≡ Some x) × (f x ≡ Some y)
-then-some f None y e = absurd (let no : ⊥ = cc in no)
-then-some f (Some x) y e = (x, refl, e)
+then-some f o y h1 = grind arith
 
 map-some : {A B : Type 0} (f : A → B) (o : Option A) (y : B) → option_map f o ≡ Some y
     → (x : A) × (o ≡ Some x) × (f x ≡ y)
-map-some f None y e = absurd (let no : ⊥ = cc in no)
-map-some f (Some x) y e = (x, refl, cc)
+map-some f o y h1 = grind arith
 
 -- the line that a request names
 line-by : (w : Trace) (q line : ℕ) (o : Option Who) → winner_at w q ≡ o → line_of w q ≡ Some line
     → is_line line ≡ true
 unfolding line_of
-line-by w q line None e h = absurd (let no : ⊥ = (let h' = rw (e, line_of) at h in cc) in no)
-line-by w q line (Some Priority) e h = absurd (let no : ⊥ = (let h' = rw (e, line_of) at h in cc) in no)
-line-by w q line (Some (Symmetric a)) e h =
-    let h' = rw (e, line_of) at h in
-    let s = map-some (λ s. s.addr.bits / 4) (slice_get w q) line h' in
-    let bits = s.0.addr_bits in
-    let same : s.0.addr.bits / 4 ≡ line = s.2 in lt-ltb line (2 ^ 31) (omega arith)
+line-by w q line o h1 h2 = grind arith
 
 claim-line : (w : Trace) (q : ℕ) (claim : Claim) → claim_at w q ≡ Some claim → is_line claim.line ≡ true
 unfolding claim_at
@@ -86,12 +76,7 @@ claim-line w q claim e =
 grant-line : (p : Past) (w : Trace) (i q s : ℕ) (outcome : Outcome) (grant : Grant) (b : Bool)
     → gives_line p w q s outcome ≡ b → grant_of p w i q s outcome ≡ Some grant → is_line grant.line ≡ true
 unfolding grant_of grant_for live_claim_of grant_to
-grant-line p w i q s outcome grant false e h = absurd (let no : ⊥ = (let h' = rw (e, grant_of) at h in cc) in no)
-grant-line p w i q s outcome grant true e h =
-    let j = then-some (grant_for w q s) (served_number w (turns_in p.moments) i) grant (rw (e, grant_of) at h) in
-    let k = map-some _ (live_claim_of w j.0) grant j.2 in
-    let c = then-some (claim_at w) (live_clock_of w j.0) k.0 k.1 in
-    ap (λ g. is_line g.line) (sym k.2) ∙ claim-line w c.0 k.0 c.2
+grant-line p w i q s outcome grant b h1 h2 = grind (arith, claim-line)
 
 moment-line : (r : Run) (t : ℕ) (s : SnoopEnd) (grant : Grant) → (moment_of r t).snooped ≡ Some s
     → s.grant ≡ Some grant → is_line grant.line ≡ true
@@ -111,33 +96,12 @@ moment-is : (r : Run) (c t : ℕ) (moment : Moment) → slice_get (past_to (past
     → moment ≡ moment_of r t
 unfolding past_to past_of
 moment-is r c t moment e =
-    elim (cases_lt t (c + 1)) [
-      | inl l ↦
-          let whole = sym (slice_get-take (c + 1) (moments_below r (length r.trace)) t l) ∙ e in
-          let within = slice_get_within (moments_below r (length r.trace)) t moment whole in
-          let size = length-moments r (length r.trace) in
-          let there = moment-at r (length r.trace) t (omega arith) in cc
-      | inr l ↦
-          let none = slice_get_past (take (c + 1) (moments_below r (length r.trace))) t
-          (omega (arith, length-take-most (c + 1) (moments_below r (length r.trace)))) in
-          absurd (let no : ⊥ = cc in no)
-    ]
+    grind (arith, slice_get-take, slice_get_within, length-moments, moment-at, slice_get_past, length-take-most)
 
 granted-line : (r : Run) (c a t line : ℕ) → line_granted_at (past_to (past_of r) c) a t ≡ Some line
     → is_line line ≡ true
 unfolding line_granted_at grant_at snooped_at
-granted-line r c a t line e =
-    let g = then-some _ (grant_at (past_to (past_of r) c) t) line e in
-    let s = then-some (λ s. s.grant) (snooped_at (past_to (past_of r) c) t) g.0 g.1 in
-    let m = then-some (λ moment. moment.snooped) (slice_get (past_to (past_of r) c).moments t) s.0 s.1 in
-    let same = moment-is r c t m.0 m.1 in
-    let there = ap (λ moment. moment.snooped) (sym same) ∙ m.2 in
-    to-agent g.0 (nat_eq g.0.agent a) g.2 (moment-line r t s.0 g.0 there s.2)
-  where
-    to-agent : (grant : Grant) (b : Bool) → (elim b [ true ↦ Some grant.line | false ↦ None ]) ≡ Some line
-        → is_line grant.line ≡ true → is_line line ≡ true
-    to-agent grant true f l = let same : grant.line ≡ line = cc in ap is_line (sym same) ∙ l
-    to-agent grant false f l = absurd (let no : ⊥ = cc in no)
+granted-line r c a t line e = grind (arith, moment-is, moment-line)
 
 least-line : (ns : List ℕ) (n : ℕ) → list_all is_line ns ≡ true → least_of ns ≡ Some n → is_line n ≡ true
 unfolding least_of
@@ -148,10 +112,7 @@ least-line (m ∷ ns) n e h =
   where
     least-by : (o : Option ℕ) → least_of ns ≡ o → least_of (m ∷ ns) ≡ Some n → is_line m ≡ true
         → ((k : ℕ) → least_of ns ≡ Some k → is_line k ≡ true) → is_line n ≡ true
-    least-by None f g l rest = let same : m ≡ n = (let g' = rw f at g in cc) in ap is_line (sym same) ∙ l
-    least-by (Some k) f g l rest =
-        let same : min m k ≡ n = (let g' = rw f at g in cc) in
-        let one = ltb-true m (2 ^ 31) l in lt-ltb n (2 ^ 31) (omega arith)
+    least-by o h1 h2 h3 h4 = grind arith
 
 -- a victim is a line that was granted
 victim-line : (r : Run) (c a t line victim : ℕ) → victim_of (past_to (past_of r) c) a t line ≡ Some victim
@@ -168,20 +129,14 @@ id-by : (a : ℕ) (owings : List Owing) (o : Option ℕ) → a < 4 → length ow
     → first_where (λ n. not (is_id_used owings (id_of a n))) (length owings + 1) ≡ o
     → nat_lt (free_id a owings) (2 ^ 8) ≡ true
 unfolding free_id id_of
-id-by a owings None l few e = rw (e, free_id) refl
-id-by a owings (Some n) l few e =
-    let h = first_where-found (λ n. not (is_id_used owings (id_of a n))) (length owings + 1) n e in
-    let below = h.0 in rw (e, free_id) (lt-ltb (a * 16 + n) (2 ^ 8) (omega arith))
+id-by a owings o h1 h2 h3 = grind (arith, first_where-found)
 
 -- the items of an agent are lawful
 script-by : (scripts : List (List Item)) (cache a : ℕ) (o : Option (List Item)) → slice_get scripts a ≡ o
     → list_all (is_lawful_script cache) scripts ≡ true
     → list_all (is_lawful_item cache) (script_of scripts a) ≡ true
 unfolding is_lawful_script
-script-by scripts cache a None e h = rw e refl
-script-by scripts cache a (Some items) e h =
-    rw e (and_parts (nat_le (length items) 4096) (list_all (is_lawful_item cache) items)
-    (all-at (is_lawful_script cache) scripts a items h e)).1
+script-by scripts cache a o h1 h2 = grind (arith, all-at)
 
 window-by : (p : Past) (a n : ℕ) (o : Option Item) → slice_get (items_of p a) n ≡ o
     → list_all (is_lawful_item p.plan.cache) (items_of p a) ≡ true
@@ -195,8 +150,7 @@ window-by p a n (Some item) e h =
 
 windows : (p : Past) (a : ℕ) (o : Option ℕ) → list_all (is_lawful_item p.plan.cache) (items_of p a) ≡ true
     → list_all (is_lawful_item p.plan.cache) (option_map_or (window_at p a) o []) ≡ true
-windows p a None h = refl
-windows p a (Some n) h = window-by p a n (slice_get (items_of p a) n) refl h
+windows p a o h1 = grind (arith, window-by)
 
 -- a need of a window fits
 need-fits : (p : Past) (a c : ℕ) (f : Need → Bool) (need : Need) → KeepsBounds p.plan
@@ -208,18 +162,11 @@ need-fits p a c f need k e =
     (windows p a (next_number p a c)
     (script-by p.plan.scripts p.plan.cache a (slice_get p.plan.scripts a) refl k.lawful_scripts))) e
 
-or-true : (b : Bool) → (b || true) ≡ true
-or-true true = refl
-or-true false = refl
-
 kind-lawful : (alone upgrades : Bool) (need : Need) (did : ℕ) → is_fit need ≡ true → nat_lt did (2 ^ 8) ≡ true
     → is_lawful_request
     (request_of_kind (if not alone then Read else (if upgrades then Upgrade else Invalidate)) need did) ≡ true
 unfolding request_of_kind is_lawful_request are_lawful_fields is_upgrade_kind
-kind-lawful false upgrades need did e f = rw (e, f) refl
-kind-lawful true true need did e f = let a = and_parts (nat_lt need.line (2 ^ 31)) (nat_lt need.chunk 4) e in
-    rw (a.0, a.1, or-true need.locked, f) refl
-kind-lawful true false need did e f = rw (e, f) refl
+kind-lawful alone upgrades need did h1 h2 = grind arith
 
 victim-lawful : (victim did : ℕ) → is_line victim ≡ true → nat_lt did (2 ^ 8) ≡ true
     → is_lawful_request (write_back_of victim did) ≡ true
@@ -232,10 +179,7 @@ want-for : (r : Run) (c a : ℕ) (need : Need) (o : Option ℕ)
     → nat_lt (free_id a (owed (past_to (past_of r) c) a c)) (2 ^ 8) ≡ true
     → is_lawful_request (want_for (past_to (past_of r) c) a c (owed (past_to (past_of r) c) a c) need) ≡ true
 unfolding want_for kind_needed
-want-for r c a need (Some victim) e fit did =
-    rw (e, want_for) (victim-lawful victim _ (victim-line r c a c need.line victim e) did)
-want-for r c a need None e fit did =
-    rw (e, want_for) (kind-lawful need.alone (may_upgrade (past_to (past_of r) c) a c need.line) need _ fit did)
+want-for r c a need o h1 h2 h3 = grind (arith, victim-lawful, victim-line, kind-lawful)
 
 wanted : (r : Run) (c a : ℕ) (request : Request) (b : Bool) → KeepsBounds r.plan
     → (is_idling (past_to (past_of r) c) a c || nat_le r.plan.ahead (length (owed (past_to (past_of r) c) a c))) ≡ b
@@ -267,12 +211,7 @@ want-lawful r c a request k l h =
 last-asking : (w : Trace) (d a : ℕ) (o : Option Who) → last_if_asking w d o ≡ Some (Symmetric a)
     → o ≡ Some (Symmetric a)
 unfolding last_if_asking
-last-asking w d a None e = absurd (let no : ⊥ = cc in no)
-last-asking w d a (Some who) e = by-line (line_at (request_line_of who) w d) e
-  where
-    by-line : (b : Bool) → (if b then Some who else None) ≡ Some (Symmetric a) → Some who ≡ Some (Symmetric a)
-    by-line true f = f
-    by-line false f = absurd (let no : ⊥ = cc in no)
+last-asking w d a o h1 = grind arith
 
 in-order : (first n : ℕ) → agent_in_order first n < 4
 unfolding agent_in_order
@@ -281,36 +220,25 @@ in-order first n = omega arith
 symmetric-four : (w : Trace) (d a first : ℕ)
     → option_map Symmetric (first_asking w d first) ≡ Some (Symmetric a) → a < 4
 unfolding first_asking
-symmetric-four w d a first e =
-    let x = map-some Symmetric (first_asking w d first) (Symmetric a) e in
-    let n = map-some (agent_in_order first) (first_where (asks_in_order w d first) 4) x.0 x.1 in
-    let same : x.0 ≡ a = (let f = x.2 in cc) in
-    let low = in-order first n.0 in
-    let is : agent_in_order first n.0 ≡ x.0 = n.2 in omega arith
+symmetric-four w d a first e = grind (arith, in-order)
 
 by-four : (w : Trace) (d a : ℕ) (requesters : Requesters) (lock priority : Bool) → line_at LOCK w d ≡ lock
     → line_at BPRI w d ≡ priority → ((b : ℕ) → requesters.0 ≡ Some (Symmetric b) → b < 4)
     → winner_by w d requesters ≡ Some (Symmetric a) → a < 4
-by-four w d a requesters true priority e f h g =
-    h a (last-asking w d a requesters.0 (sym (winner_by-locked w d requesters e) ∙ g))
-by-four w d a requesters false true e f h g =
-    absurd (let no = sym (winner_by-priority w d requesters e f) ∙ g in let bad : ⊥ = cc in bad)
-by-four w d a requesters false false e f h g =
-    symmetric-four w d a (first_in_order requesters.1) (sym (winner_by-symmetric w d requesters e f) ∙ g)
+by-four w d a requesters lock priority h1 h2 h3 h4 =
+    grind (arith, last-asking, winner_by-locked, winner_by-priority, symmetric-four, winner_by-symmetric)
 
 after-four : (w : Trace) (c a : ℕ) (requesters : Requesters) (low : Bool) → nat_lt c 2 ≡ low
     → ((b : ℕ) → requesters.0 ≡ Some (Symmetric b) → b < 4) → winner_after w c requesters ≡ Some (Symmetric a)
     → a < 4
-after-four w c a requesters true e h g = absurd (let no = sym (winner_after-low w c requesters e) ∙ g in
-    let bad : ⊥ = cc in bad)
+after-four w c a requesters true e h g = grind (arith, winner_after-low)
 after-four w c a requesters false e h g =
     by-four w (c - 2) a requesters (line_at LOCK w (c - 2)) (line_at BPRI w (c - 2)) refl refl h
     (sym (winner_after-high w c requesters e) ∙ g)
 
 requester-four : (w : Trace) (c b : ℕ) → (requesters_before w c).0 ≡ Some (Symmetric b) → b < 4
 unfolding then_begun
-requester-four w zero b e = absurd (let no = ap (λ x. x.0) (sym (requesters_before-start w)) ∙ e in
-    let bad : ⊥ = cc in bad)
+requester-four w zero b e = grind (arith, requesters_before-start)
 requester-four w (suc c) b e =
     let more = subst (λ n. (requesters_before w n).0 ≡ Some (Symmetric b)) (sym (add-one c)) e in
     elim (cases_Bool (line_at ADS w c)) [
@@ -327,13 +255,7 @@ winner-four w c a e = after-four w c a (requesters_before w c) (nat_lt c 2) refl
 coded-lawful : (r x : Request) (a b : Pair) (t : Bool) → is_coded_as r a b ≡ t → if_coded_as r a b ≡ Some x
     → is_lawful_request x ≡ true
 unfolding if_coded_as is_coded_as
-coded-lawful r x a b true e h =
-    let h' = rw e at h in
-    let same : r ≡ x = cc in
-    ap is_lawful_request (sym same)
-    ∙ (and_parts (is_lawful_request r) (is_pair (pairs_of r).0 a)
-    (and_parts (is_lawful_request r && is_pair (pairs_of r).0 a) (is_pair (pairs_of r).1 b) e).0).0
-coded-lawful r x a b false e h = absurd (let no : ⊥ = (let h' = rw e at h in cc) in no)
+coded-lawful r x a b t h1 h2 = grind arith
 
 decoded-lawful : (w : Trace) (q : ℕ) (x : Request) → request_at w q ≡ Some x → is_lawful_request x ≡ true
 unfolding request_at request_of
@@ -351,21 +273,10 @@ lawful-by : (r : Run) (c : ℕ) (who : Who) (request : Request) → KeepsBounds 
     → winner_at (run_to r c).trace c ≡ Some who
     → would_begin (run_to r c) (past_to (past_of r) c) c who ≡ Some request → is_lawful_request request ≡ true
 unfolding would_begin live_request_of
-lawful-by r c (Symmetric a) request k w e = want-lawful r c a request k (winner-four (run_to r c).trace c a w) e
-lawful-by r c Priority request k w e =
-    let v = (run_to r c).trace in
-    let x = map-some reply_to
-    (option_and_then (live_request_of v) (due_number (run_to r c) (past_to (past_of r) c) c)) request e in
-    let i = then-some (live_request_of v) (due_number (run_to r c) (past_to (past_of r) c) c) x.0 x.1 in
-    let q = then-some (request_at v) (live_clock_of v i.0) x.0 i.2 in
-    ap is_lawful_request (sym x.2) ∙ reply-lawful x.0 (decoded-lawful v q.0 x.0 q.2)
+lawful-by r c who request h1 h2 h3 =
+    grind (arith, want-lawful, winner-four, map-some, then-some, reply-lawful, decoded-lawful)
 
 -- where the plan keeps the bounds, each request that a winner would begin is lawful
 pub wants-lawfully : (r : Run) → KeepsBounds r.plan → WantsLawfully r
 unfolding request_begun
-wants-lawfully r k = record {
-  lawful = λ c request e.
-      let won = begun-winner (would_begin (run_to r c) (past_to (past_of r) c) c)
-      (winner_at (run_to r c).trace c) request e in
-      lawful-by r c won.0 request k won.1 won.2;
-}
+wants-lawfully r k = grind (arith, lawful-by)

@@ -1,8 +1,8 @@
 -- What is listed: of the clocks that pass a test, what each of them gives.
-use Rattle.std.proofs.Common.{ℕ, zero, suc, ◌<◌, ◌≤◌, ◌≡◌, Bool, true, false, ◌&&◌, ◌||◌, List, [], ◌∷◌, Option, Some}
-use Rattle.std.proofs.Common.{None, length, refl, sym, ap, subst, ◌∙◌, arith, inl, inr, if◌then◌else◌}
+use Rattle.std.proofs.Common.{ℕ, zero, suc, ◌<◌, ◌≤◌, ◌≡◌, Bool, true, ◌&&◌, ◌||◌, List, [], ◌∷◌, Option, Some}
+use Rattle.std.proofs.Common.{length, arith, inl, inr, if◌then◌else◌}
 use Rattle.std.specs.List.{filter, filter_map, list_any}
-use Rattle.std.proofs.lemmas.Bool.{cases_Bool, cases_lt, or_left, or_right}
+use Rattle.std.proofs.lemmas.Bool.{cases_Bool, or_left, or_right}
 use Rattle.std.proofs.lemmas.List.{length-append}
 use Rattle.std.proofs.lemmas.List.Elements.{filter-append, filter_map-append}
 use Rattle.std.proofs.lemmas.List.Folds.{list_any-append}
@@ -27,8 +27,7 @@ any-kept g f (x ∷ xs) e =
     ]
   where
     kept : (b both rest : Bool) → (both ≡ true → rest ≡ true) → (b || both) ≡ true → (b || rest) ≡ true
-    kept true both rest h k = refl
-    kept false both rest h k = h k
+    kept b both rest h1 h2 = grind arith
 
 -- the last clock of a list
 last-any : {Y : Type 0} (t : ℕ → Bool) (g : ℕ → Option Y) (f : Y → Bool) (q : ℕ) → IsListed t g f q
@@ -45,15 +44,7 @@ pub any-listed : {Y : Type 0} (t : ℕ → Bool) (g : ℕ → Option Y) (f : Y �
 unfolding all_where
 any-listed t g f zero q l k = absurd (omega arith)
 any-listed t g f (suc n) q l k =
-    ap (list_any f) (filter_map-append g (all_where t n) (if t n then n ∷ [] else []))
-    ∙ list_any-append f (filter_map g (all_where t n)) (filter_map g (if t n then n ∷ [] else []))
-    ∙ elim (cases_lt q n) [
-      | inl m ↦ or_left _ _ (any-listed t g f n q m k)
-      | inr m ↦
-          let same : q ≡ n = omega arith in
-          or_right _ _ (subst (λ i. list_any f (filter_map g (if t i then i ∷ [] else [])) ≡ true) same
-          (last-any t g f q k))
-    ]
+    grind (arith, filter_map-append, list_any-append, or_left, or_right, last-any, any-listed t g f n q)
 
 -- and the list is at least as long as there are such clocks
 pub few-listed : {Y : Type 0} (some t : ℕ → Bool) (g : ℕ → Option Y) (f : Y → Bool) (n : ℕ)
@@ -62,35 +53,10 @@ pub few-listed : {Y : Type 0} (some t : ℕ → Bool) (g : ℕ → Option Y) (f 
 unfolding all_where count_where
 few-listed some t g f zero h = omega arith
 few-listed some t g f (suc n) h =
-    let before = few-listed some t g f n (λ q l. h q (omega arith)) in
-    let whole = ap (λ xs. length (filter f xs)) (filter_map-append g (all_where t n) (if t n then n ∷ [] else []))
-    ∙ ap length (filter-append f (filter_map g (all_where t n)) (filter_map g (if t n then n ∷ [] else [])))
-    ∙ length-append (filter f (filter_map g (all_where t n))) (filter f (filter_map g (if t n then n ∷ [] else []))) in
-    elim (cases_Bool (some n)) [
-      | inl found ↦ let one = last-length t g f n (h n (omega arith) found) in rw found (omega arith)
-      | inr none ↦ rw none (omega arith)
-    ]
-
--- what is found in the list is what one of its clocks gives
-last-from : {Y : Type 0} (t : ℕ → Bool) (g : ℕ → Option Y) (f : Y → Bool) (q : ℕ) (b : Bool) (o : Option Y)
-    → t q ≡ b → g q ≡ o → list_any f (filter_map g (if t q then q ∷ [] else [])) ≡ true → IsListed t g f q
-last-from t g f q false o e h k = absurd (let no : ⊥ = (let k' = rw e at k in cc) in no)
-last-from t g f q true None e h k = absurd (let no : ⊥ = (let k' = rw (e, h) at k in cc) in no)
-last-from t g f q true (Some y) e h k =
-    record { there = e; given = y; gives = h; passes = alone (f y) (let k' = rw (e, h) at k in k') }
-  where
-    alone : (b : Bool) → (b || false) ≡ true → b ≡ true
-    alone true e = refl
-    alone false e = absurd (let no : ⊥ = cc in no)
+    grind (arith, filter_map-append, filter-append, length-append, last-length, few-listed some t g f n)
 
 pub any-from : {Y : Type 0} (t : ℕ → Bool) (g : ℕ → Option Y) (f : Y → Bool) (n : ℕ)
     → list_any f (filter_map g (all_where t n)) ≡ true → (q : ℕ) × IsListed t g f q
 unfolding all_where
 any-from t g f zero e = absurd (let no : ⊥ = cc in no)
-any-from t g f (suc n) e =
-    let parts = sym (list_any-append f (filter_map g (all_where t n)) (filter_map g (if t n then n ∷ [] else [])))
-    ∙ sym (ap (list_any f) (filter_map-append g (all_where t n) (if t n then n ∷ [] else []))) ∙ e in
-    elim (cases_Bool (list_any f (filter_map g (all_where t n)))) [
-      | inl before ↦ any-from t g f n before
-      | inr none ↦ (n, last-from t g f n (t n) (g n) refl refl (rw none at parts))
-    ]
+any-from t g f (suc n) e = grind (arith, list_any-append, filter_map-append, any-from t g f n)

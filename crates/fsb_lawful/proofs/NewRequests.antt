@@ -1,9 +1,9 @@
 -- Rule 18: what begins in a timely run is a reply that is awaited, or a request with a new ID where few are
 -- outstanding.
-use Rattle.std.proofs.Common.{ℕ, zero, suc, ◌+◌, ◌-◌, ◌<◌, ◌≤◌, ◌≡◌, Bool, true, false, not, ◌&&◌, Option, Some, None}
+use Rattle.std.proofs.Common.{ℕ, zero, suc, ◌+◌, ◌-◌, ◌<◌, ◌≤◌, ◌≡◌, Bool, true, false, not, ◌&&◌, Option, Some}
 use Rattle.std.proofs.Common.{length, take, nat_le, slice_index, refl, sym, ap, subst, ◌∙◌, arith}
 use Rattle.std.specs.Option.{option_and_then, option_map}
-use Rattle.std.proofs.lemmas.Bool.{and_from, eq-eqb, leb-true, lt-leb}
+use Rattle.std.proofs.lemmas.Bool.{and_from, eq-eqb, lt-leb}
 use Rattle.fsb_count.specs.Clocks.{any_where, count_where}
 use Rattle.fsb_count.specs.Options.{is_some_and}
 use Rattle.fsb_count.proofs.Interface.{any_where-at, any_where-off, first_where-found, is_before-from}
@@ -52,8 +52,7 @@ pub record IsDueAt (r : Run) (e i : ℕ) (request : Request) : Type 0 where
 response-parts : (o : Option ℕ) (later c : ℕ) → is_some_and o (λ t. nat_le (t + 1 + later) c) ≡ true
     → (t : ℕ) × (o ≡ Some t) × (t < c)
 unfolding is_some_and
-response-parts None later c e = absurd (let no : ⊥ = cc in no)
-response-parts (Some t) later c e = (t, refl, (let l = leb-true (t + 1 + later) c e in omega arith))
+response-parts o later c h1 = grind arith
 
 deferred-told : (r : Run) (d i t : ℕ) → Timely r → d < length r.trace
     → response_clock_of (run_to r d).trace i ≡ Some t
@@ -125,13 +124,11 @@ awaited r e i request h l t k decoded =
 
 mapped-reply : (o : Option Request) (request : Request) → option_map reply_to o ≡ Some request
     → (x : Request) × (o ≡ Some x) × (reply_to x ≡ request)
-mapped-reply None request e = absurd (let no : ⊥ = cc in no)
-mapped-reply (Some x) request e = (x, refl, cc)
+mapped-reply o request h1 = grind arith
 
 found-request : (f : ℕ → Option Request) (o : Option ℕ) (x : Request) → option_and_then f o ≡ Some x
     → (i : ℕ) × (o ≡ Some i) × (f i ≡ Some x)
-found-request f None x e = absurd (let no : ⊥ = cc in no)
-found-request f (Some i) x e = (i, refl, e)
+found-request f o x h1 = grind arith
 
 reply-rightly : (v : Trace) (q : ℕ) (x : Request) → request_at v q ≡ Some (reply_to x)
     → any_where (awaits_reply v q) (live_count v) ≡ true → is_begun_wrongly v q ≡ false
@@ -145,8 +142,7 @@ unfolding is_begun_wrongly is_reply is_some_and
 wanted-rightly v q x e f g l = rw (e, f, g) (lt-leb 4 (count_where (is_outstanding_of_winner v q) q) l)
 
 untaken : (b : Bool) → (b ≡ true → ⊥) → b ≡ false
-untaken true h = absurd (h refl)
-untaken false h = refl
+untaken b h1 = grind arith
 
 by-who : (r : Run) (e : ℕ) (who : Who) (request : Request) → Timely r → WantsLawfully r → r.plan.ahead ≤ 4
     → suc (suc e) < length r.trace → line_at ADS (run_to r (suc (suc e))).trace (suc e) ≡ true
@@ -206,9 +202,7 @@ at-clock : (r : Run) (c : ℕ) → Timely r → WantsLawfully r → r.plan.ahead
 unfolding is_outstanding_wrong
 at-clock r zero h wants few l = ap (λ b. b && is_begun_wrongly (run_to r zero).trace (zero - 1))
     (none-back (run_to r zero).trace)
-at-clock r (suc zero) h wants few l =
-    let v = (run_to r (suc zero)).trace in
-    and-fails (line_back ADS v (suc zero) 1) (is_begun_wrongly v (suc zero - 1)) (λ t. absurd (not-first r h l t))
+at-clock r (suc zero) h wants few l = grind (arith, not-first)
 at-clock r (suc (suc e)) h wants few l =
     let one : suc (suc e) - 1 ≡ suc e = omega arith in
     let v = (run_to r (suc (suc e))).trace in

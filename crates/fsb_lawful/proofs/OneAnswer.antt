@@ -1,7 +1,7 @@
 -- In a timely run the request that responds is the next one, and so is the one whose target is ready.
-use Rattle.std.proofs.Common.{ℕ, zero, suc, ◌+◌, ◌<◌, ◌≤◌, ◌≡◌, true, false, Option, Some, None, length, refl, sym, ap}
-use Rattle.std.proofs.Common.{◌∙◌, arith, inl, inr, subst}
-use Rattle.std.proofs.lemmas.Bool.{cases_lt, eqb-true}
+use Rattle.std.proofs.Common.{ℕ, zero, suc, ◌+◌, ◌<◌, ◌≤◌, ◌≡◌, true, Option, Some, length, refl, sym, ap, ◌∙◌, arith}
+use Rattle.std.proofs.Common.{inl, inr, subst}
+use Rattle.std.proofs.lemmas.Bool.{cases_lt}
 use Rattle.fsb_count.specs.Clocks.{any_where}
 use Rattle.fsb_count.proofs.Interface.{any_where-found, count_where-mono, count_where-same, first_where-found}
 use Rattle.fsb_signal.specs.declared.lines.TheConstants.Lines.{TRDY, DRDY, DBSY}
@@ -18,10 +18,9 @@ use Rattle.fsb_timely.specs.Snoops.{live_choice}
 use Rattle.fsb_timely.specs.Timely.{holds_in, holds_at, Timely}
 use Rattle.fsb_timely.specs.Transfers.{is_ready_due, is_response_clock, number_responding, code_due, has_data_at}
 use Rattle.fsb_timely.specs.Transfers.{is_busy_at, drives_ready, drives_code, drives_data_ready, drives_data_busy}
-use Rattle.fsb_timely.specs.Transfers.{keeps_data_quiet, drives_responses}
+use Rattle.fsb_timely.specs.Transfers.{drives_responses}
 use Rattle.fsb_lawful.proofs.AnswerClocks.{answered-before, response-before}
 use Rattle.fsb_lawful.proofs.CutRuns.{cuts-agree, length-cut, past-cut}
-use Rattle.fsb_lawful.proofs.Keeping.{and5, same-beq}
 use Rattle.fsb_lawful.proofs.Responding.{Responding, IsReadyDue, responding-answer, responding-stays, one-response}
 use Rattle.fsb_lawful.proofs.Responding.{responding-now, ready-answer, ready-stays, one-ready, ready-now}
 
@@ -34,15 +33,7 @@ pub record Transfers (v : Run) (p : Past) (c : ℕ) : Type 0 where
 
 transfers_by : (v : Run) (p : Past) (c : ℕ) → drives_responses v p c ≡ true → Transfers v p c
 unfolding drives_responses drives_ready drives_code drives_data_ready drives_data_busy
-transfers_by v p c e =
-    let a = and5 (drives_ready v c) (drives_code v p c) (drives_data_ready v p c) (drives_data_busy v p c)
-    (keeps_data_quiet v c) e in
-    record {
-      ready = same-beq (line_at TRDY v.trace c) (any_where (is_ready_due v c) (live_count v.trace)) a.0;
-      code = eqb-true (response_code_at v.trace c) (code_due v p c) a.1;
-      data_ready = same-beq (line_at DRDY v.trace c) (any_where (has_data_at v p c) (live_count v.trace)) a.2;
-      data_busy = same-beq (line_at DBSY v.trace c) (any_where (is_busy_at v p c) (live_count v.trace)) a.3;
-    }
+transfers_by v p c e = grind arith
 
 pub transfers-at : (r : Run) (c : ℕ) → Timely r → c < length r.trace
     → Transfers (run_to r c) (past_of (run_to r c)) c
@@ -54,10 +45,7 @@ transfers-at r c h l =
 number_by : (v : Run) (p : Past) (c : ℕ) (o : Option ℕ) → response_code_at v.trace c ≡ code_due v p c
     → number_responding v c ≡ o → responds_at v.trace c ≡ true → (i : ℕ) × (number_responding v c ≡ Some i)
 unfolding code_due responds_at
-number_by v p c None e n h =
-    let none : response_code_at v.trace c ≡ 0 = rw (n, code_due) at e in
-    let no : false ≡ true = rw (none, responds_at) at h in absurd (cc no)
-number_by v p c (Some i) e n h = (i, n)
+number_by v p c o h1 h2 h3 = grind arith
 
 -- where a clock has a response, that of a live request is due there
 pub responder : (r : Run) (c : ℕ) → Timely r → c < length r.trace → responds_at (run_to r c).trace c ≡ true
@@ -73,10 +61,7 @@ responder r c h l t =
 pub next-same : (r : Run) (t c : ℕ) → t ≤ c → c < length r.trace
     → next_response (run_to r t).trace t ≡ next_response (run_to r c).trace t
 unfolding next_response
-next-same r t c l m =
-    let a = cuts-agree r t c l m in
-    count_where-same (responds_at (run_to r t).trace) (responds_at (run_to r c).trace) t
-    (record { same = λ d k. responds_at-agree (t + 1) (run_to r t).trace (run_to r c).trace d a (omega arith) })
+next-same r t c l m = grind (arith, cuts-agree, count_where-same, responds_at-agree)
 
 -- at a clock one request is answered alone: the next one to respond
 pub record OneAnswer (r : Run) (c : ℕ) : Type 0 where
@@ -145,8 +130,7 @@ ready_once r c t i h l before now below e (inl k) =
     let fewer = count_where-mono (responds_at v) k.ready t (omega arith) in
     let then = ready-then r c i k.ready h l before k.is_ready (omega arith) (omega arith) in
     let same = one-ready v (live_choice r i).trdy k.ready c i then now in omega arith
-ready_once r c t i h l before now below e (inr k) =
-    let no : true ≡ false = sym now.does_take ∙ k.takes_none in cc no
+ready_once r c t i h l before now below e (inr k) = grind arith
 
 ready_is : (r : Run) (c i : ℕ) → Timely r → c < length r.trace → ((t : ℕ) → t < c → OneAnswer r t)
     → is_ready_due (run_to r c) c i ≡ true → i ≡ next_response (run_to r c).trace c

@@ -1,7 +1,6 @@
 -- A timely run keeps the distance of requests and the order of responses: its trace is orderly at each clock.
-use Rattle.std.proofs.Common.{ℕ, ◌+◌, ◌-◌, ◌<◌, ◌≤◌, ◌≡◌, true, false, Some, length, sym, ap, ◌∙◌, arith, inl, inr}
-use Rattle.std.proofs.Common.{subst}
-use Rattle.std.proofs.lemmas.Bool.{cases_lt, le-leb}
+use Rattle.std.proofs.Common.{ℕ, ◌+◌, ◌<◌, ◌≤◌, ◌≡◌, true, false, Some, length, ◌∙◌, arith, inl, inr, subst}
+use Rattle.std.proofs.lemmas.Bool.{cases_lt}
 use Rattle.fsb_count.proofs.Interface.{nth_where-found}
 use Rattle.fsb_signal.specs.declared.lines.TheConstants.Lines.{ADS}
 use Rattle.fsb_signal.specs.Samples.{line_at}
@@ -21,12 +20,10 @@ use Rattle.fsb_lawful.proofs.OneAnswer.{next-same}
 
 back-is : (v : Trace) (p d : ℕ) → line_at ADS v p ≡ true → line_back ADS v (p + d) d ≡ true
 unfolding line_back
-back-is v p d t =
-    let same : p + d - d ≡ p = omega arith in rw (le-leb d (p + d) (omega arith), same) t
+back-is v p d t = grind arith
 
 not-back : (v : Trace) (p q d : ℕ) → line_at ADS v p ≡ true → line_back ADS v q d ≡ false → q ≡ p + d → ⊥
-not-back v p q d t f e =
-    let no : false ≡ true = sym f ∙ ap (λ k. line_back ADS v k d) e ∙ back-is v p d t in cc no
+not-back v p q d t f e = grind (arith, back-is)
 
 begins-from : (r : Run) (q : ℕ) → Timely r → q < length r.trace → line_at ADS (run_to r q).trace q ≡ true
     → Begins (run_to r q).trace q
@@ -53,8 +50,7 @@ far r c p q h l m t u =
   where
     agree-line : (r : Run) (p q c : ℕ) → p < q → q ≤ c → c < length r.trace
         → line_at ADS (run_to r q).trace p ≡ line_at ADS (run_to r c).trace p
-    agree-line r p q c l m k = line_at-agree ADS (q + 1) (run_to r q).trace (run_to r c).trace p
-        (cuts-agree r q c m k) (omega arith)
+    agree-line r p q c l m k = grind (arith, line_at-agree, cuts-agree)
 
 responded : (r : Run) (c i t : ℕ) → Timely r → c < length r.trace
     → response_clock_of (run_to r c).trace i ≡ Some t → may_answer (run_to r c).trace t i ≡ true
@@ -73,7 +69,4 @@ responded r c i t h l e =
 
 -- the run up to each clock is orderly
 pub orderly-at : (r : Run) (c : ℕ) → Timely r → c < length r.trace → Orderly (run_to r c).trace
-orderly-at r c h l = record {
-  spaced = record { apart = λ p q m t u. far r c p q h l m t u };
-  timely = λ i t e. responded r c i t h l e;
-}
+orderly-at r c h l = grind (arith, far, responded)

@@ -1,21 +1,19 @@
 -- Where a symmetric agent's request begins, its ID is not taken, and few of its requests are outstanding.
-use Rattle.std.proofs.Common.{ℕ, zero, suc, ◌+◌, ◌/◌, ◌<◌, ◌≤◌, ◌≡◌, Bool, true, false, not, ◌&&◌, List, [], ◌∷◌}
-use Rattle.std.proofs.Common.{Option, Some, None, length, slice_get, nat_eq, nat_lt, refl, sym, ap, subst, ◌∙◌, arith}
-use Rattle.std.proofs.Common.{add-one}
-use Rattle.std.specs.List.{filter, filter_map, list_any}
-use Rattle.std.specs.Option.{option_and_then, option_map, option_map_or}
-use Rattle.std.proofs.lemmas.Bool.{and_from, and_parts, eqb-true, eq-eqb, ltb-true, ne_eqb}
+use Rattle.std.proofs.Common.{ℕ, zero, suc, ◌+◌, ◌/◌, ◌<◌, ◌≤◌, ◌≡◌, Bool, true, false, ◌&&◌, List, [], ◌∷◌, Option}
+use Rattle.std.proofs.Common.{Some, length, slice_get, nat_eq, refl, sym, ap, subst, ◌∙◌, arith, add-one}
+use Rattle.std.specs.List.{filter, filter_map}
+use Rattle.std.proofs.lemmas.Bool.{and_from, and_parts, eqb-true, eq-eqb}
 use Rattle.fsb_count.specs.Clocks.{all_where, count_where}
 use Rattle.fsb_count.specs.Options.{is_some_and}
 use Rattle.fsb_encode.specs.declared.request.Request.{Request}
 use Rattle.fsb_signal.specs.declared.lines.TheConstants.Lines.{ADS}
 use Rattle.fsb_signal.specs.Samples.{line_at}
 use Rattle.fsb_trace.specs.declared.who.Who.{Who}
-use Rattle.fsb_trace.specs.declared.who.Who.TheVariants.{Symmetric, Priority}
+use Rattle.fsb_trace.specs.declared.who.Who.TheVariants.{Symmetric}
 use Rattle.fsb_trace.specs.At.{Trace, request_at}
 use Rattle.fsb_trace.specs.Agree.{AgreeTo}
-use Rattle.fsb_trace.specs.Flight.{is_dropped, is_finished, is_outstanding, outstanding}
-use Rattle.fsb_trace.specs.Requests.{have_same_id, is_reply, is_reply_kind, line_of, live_request_of}
+use Rattle.fsb_trace.specs.Flight.{is_outstanding, outstanding}
+use Rattle.fsb_trace.specs.Requests.{have_same_id, is_reply, is_reply_kind, line_of}
 use Rattle.fsb_trace.specs.Rules.{is_id_taken_by, is_outstanding_of_winner}
 use Rattle.fsb_trace.specs.Winner.{winner_at, is_agent, is_same_agent}
 use Rattle.fsb_trace.proofs.Interface.{request_at-agree, winner_at-agree}
@@ -23,7 +21,7 @@ use Rattle.fsb_laws.proofs.Interface.{BeginsAfter, same_outstanding}
 use Rattle.fsb_timely.specs.Moments.{agent_at, begun_with, claim_at, moment_at, owing_at, owing_for}
 use Rattle.fsb_timely.specs.Past.{Claim, Owing, Past}
 use Rattle.fsb_timely.specs.Runs.{Run, moments_below, past_of, past_to, past_with, run_to}
-use Rattle.fsb_timely.specs.Starts.{due_number, reply_to, request_begun, would_begin}
+use Rattle.fsb_timely.specs.Starts.{reply_to, request_begun, would_begin}
 use Rattle.fsb_timely.specs.Timely.{Timely}
 use Rattle.fsb_timely.specs.Wants.{free_id, is_id_used, outstanding_at, owed, want_of}
 use Rattle.fsb_timely.proofs.Interface.{moment-at, moment_of}
@@ -32,7 +30,6 @@ use Rattle.fsb_lawful.proofs.Begun.{begun-decoded}
 use Rattle.fsb_lawful.proofs.Cuts.{line-to, moments-to}
 use Rattle.fsb_lawful.proofs.CutRuns.{cuts-agree, length-cut}
 use Rattle.fsb_lawful.proofs.Identity.{begun-winner}
-use Rattle.fsb_lawful.proofs.Keeping.{and5, not-true}
 use Rattle.fsb_lawful.proofs.Listed.{IsListed, any-kept, any-listed, few-listed}
 use Rattle.fsb_lawful.proofs.OrderlyRuns.{orderly-at}
 use Rattle.fsb_lawful.proofs.OwnIds.{want-few, want-own}
@@ -54,12 +51,7 @@ claim-of w q a l e =
 owed-same : (r : Run) (q a : ℕ) → q < length r.trace
     → owed (past_with r (moments_below r q) q) a q ≡ owed (past_to (past_of r) q) a q
 unfolding owed outstanding_at past_of
-owed-same r zero a l = refl
-owed-same r (suc e) a l =
-    let early = moment-at r (suc e) e (omega arith) in
-    let late = moments-to (past_of r) (suc e) e (omega arith) ∙ moment-at r (length r.trace) e (omega arith) in
-    ap (λ o. filter (λ owing. nat_eq owing.claim.agent a) (option_map_or (λ moment. moment.outstanding) o []))
-    (early ∙ sym late)
+owed-same r q a h1 = grind (arith, moment-at, moments-to)
 
 -- the request of a symmetric agent that begins at q, as its agent knows it
 pub record KnownOwing (r : Run) (q a : ℕ) (request : Request) : Type 0 where
@@ -91,9 +83,7 @@ outstanding-is : (r : Run) (e : ℕ) → suc e < length r.trace
     ≡ filter_map (owing_at (past_with r (moments_below r e) e) (run_to r e).trace e)
     (outstanding (run_to r e).trace (e + 1))
 unfolding outstanding_at past_of moment_at
-outstanding-is r e l =
-    ap (λ o. option_map_or (λ moment. moment.outstanding) o []) (moments-to (past_of r) (suc e) e (omega arith)
-    ∙ moment-at r (length r.trace) e (omega arith))
+outstanding-is r e l = grind (arith, moments-to, moment-at)
 
 -- a request that is outstanding where another one begins, at the clock after e
 pub record IsKnown (r : Run) (e p : ℕ) : Type 0 where
@@ -111,8 +101,7 @@ pub record IsKnown (r : Run) (e p : ℕ) : Type 0 where
 gives-by : (r : Run) (e p : ℕ) (owing : Owing) → p < e → (moment_of r p).begun ≡ Some owing
     → owing_at (past_with r (moments_below r e) e) (run_to r e).trace e p ≡ Some owing
 unfolding owing_at
-gives-by r e p owing l b =
-    rw (ne_eqb p e (λ s. omega arith), owing_at, moment-at r e p l) b
+gives-by r e p owing l b = grind (arith, moment-at)
 
 reply-is : (x : Request) → is_reply (Some (reply_to x)) ≡ true
 unfolding is_reply is_reply_kind is_some_and reply_to
@@ -123,24 +112,12 @@ pub wanted-by : (r : Run) (p : ℕ) (who : Who) (request : Request)
     → would_begin (run_to r p) (past_to (past_of r) p) p who ≡ Some request → is_reply (Some request) ≡ false
     → (a : ℕ) × (who ≡ Symmetric a) × (want_of (past_to (past_of r) p) a p ≡ Some request)
 unfolding would_begin
-wanted-by r p (Symmetric a) request e f = (a, refl, e)
-wanted-by r p Priority request e f =
-    absurd (replies (option_and_then (live_request_of (run_to r p).trace)
-    (due_number (run_to r p) (past_to (past_of r) p) p)) e)
-  where
-    replies : (o : Option Request) → option_map reply_to o ≡ Some request → ⊥
-    replies None g = let no : ⊥ = cc in no
-    replies (Some x) g =
-        let same : reply_to x ≡ request = cc in
-        let no : true ≡ false = sym (reply-is x) ∙ ap (λ y. is_reply (Some y)) same ∙ f in cc no
+wanted-by r p who request h1 h2 = grind (arith, reply-is)
 
 outstanding-parts : (w : Trace) (c p : ℕ) → is_outstanding w c p ≡ true
     → (line_at ADS w p ≡ true) × (p < c) × (is_reply (request_at w p) ≡ false)
 unfolding is_outstanding
-outstanding-parts w c p e =
-    let a = and5 (line_at ADS w p) (nat_lt p c) (not (is_reply (request_at w p))) (not (is_dropped w c p))
-    (not (is_finished w c p)) e in
-    (a.0, ltb-true p c a.1, not-true (is_reply (request_at w p)) a.2)
+outstanding-parts w c p e = grind arith
 
 pub begins-after : (r : Run) (e c : ℕ) → Timely r → suc e ≤ c → c < length r.trace
     → line_at ADS (run_to r c).trace (suc e) ≡ true → BeginsAfter (run_to r e).trace (run_to r c).trace
@@ -214,8 +191,7 @@ id-free r e a p request h wants few l t k below taken =
     let v = (run_to r (suc (suc e))).trace in
     let a' = and_parts (is_outstanding v (suc e) p) (have_same_id (request_at v p) (request_at v (suc e))) taken in
     let n = is-known r e p h wants few l t a'.0 in
-    let did : n.request.did ≡ request.did =
-    same-id (request_at v p) (request_at v (suc e)) n.request request n.decoded k.decoded a'.1 in
+    let did : n.request.did ≡ request.did = grind (arith, same-id) in
     let own = (want-own (past_to (past_of r) (suc e)) a (suc e) request few k.want).1 in
     let owner : n.owing.claim.agent ≡ a = n.owner ∙ sym n.own ∙ ap (λ d. d / 16) did ∙ own in
     let listed : IsListed (is_outstanding (run_to r e).trace (e + 1))
@@ -231,8 +207,7 @@ id-free r e a p request h wants few l t k below taken =
     (λ owing. nat_eq owing.claim.agent a && nat_eq owing.did request.did) (e + 1) p (omega arith) listed in
     let there = any-kept (λ owing. nat_eq owing.claim.agent a) (λ owing. nat_eq owing.did request.did) _ any in
     let used : is_id_used (owed (past_to (past_of r) (suc e)) a (suc e)) request.did ≡ true =
-    ap (λ xs. list_any (λ owing. nat_eq owing.did request.did)
-    (filter (λ owing. nat_eq owing.claim.agent a) xs)) (outstanding-is r e (omega arith)) ∙ there in
+    grind (arith, outstanding-is, there) in
     let no : false ≡ true = sym (want-few (past_to (past_of r) (suc e)) a (suc e) request few k.want).2 ∙ used in cc no
 
 is-agent : (o : Option Who) (a b : ℕ) → is_some_and (Some (Symmetric a)) (is_agent o) ≡ true
@@ -254,8 +229,7 @@ few-outstanding r e a request h wants few l t k =
     f (suc e) (λ p below some.
     let a' = and_parts (is_outstanding v (suc e) p) _ some in
     let n = is-known r e p h wants few l t a'.0 in
-    let owner : n.agent ≡ a = is-agent (winner_at v p) a n.agent
-    (sym (ap (λ o. is_some_and o (is_agent (winner_at v p))) k.winner) ∙ a'.1) n.winner in
+    let owner : n.agent ≡ a = grind (arith, is-agent) in
     record {
       there = n.there;
       given = n.owing;
@@ -263,9 +237,6 @@ few-outstanding r e a request h wants few l t k =
       passes = eq-eqb n.owing.claim.agent a (n.owner ∙ owner);
     }) in
     let short = (want-few (past_to (past_of r) (suc e)) a (suc e) request few k.want).0 in
-    let same : length (owed (past_to (past_of r) (suc e)) a (suc e))
-    ≡ length (filter f (filter_map g (all_where (is_outstanding (run_to r e).trace (e + 1)) (suc e)))) =
-    ap (λ xs. length (filter f xs)) (outstanding-is r e (omega arith))
-    ∙ ap (λ n. length (filter f (filter_map g (all_where (is_outstanding (run_to r e).trace (e + 1)) n))))
-    (add-one e) in
+    let same : length (owed (past_to (past_of r) (suc e)) a (suc e)) ≡ length (filter f (filter_map g (all_where
+    (is_outstanding (run_to r e).trace (e + 1)) (suc e)))) = grind (arith, outstanding-is) in
     omega arith

@@ -1,11 +1,10 @@
 -- Where an agent begins no request, its outstanding requests of the next clock are some of those of this one.
-use Rattle.std.proofs.Common.{ℕ, zero, suc, ◌+◌, ◌<◌, ◌≤◌, ◌≡◌, Bool, true, false, not, ◌&&◌, ◌||◌, List, [], ◌∷◌, ◌++◌}
-use Rattle.std.proofs.Common.{Option, Some, None, length, nat_eq, refl, sym, ap, subst, ◌∙◌, ◌⊎◌, arith, inl, inr}
-use Rattle.std.proofs.Common.{add-one, append-nil, if◌then◌else◌}
+use Rattle.std.proofs.Common.{ℕ, zero, suc, ◌+◌, ◌<◌, ◌≤◌, ◌≡◌, Bool, true, false, not, ◌&&◌, List, [], ◌∷◌, ◌++◌}
+use Rattle.std.proofs.Common.{Option, Some, length, nat_eq, refl, sym, ap, subst, ◌∙◌, ◌⊎◌, arith, add-one}
+use Rattle.std.proofs.Common.{append-nil, if◌then◌else◌}
 use Rattle.std.specs.List.{filter, filter_map, list_any}
 use Rattle.std.specs.Option.{option_map, option_map_or}
-use Rattle.std.proofs.lemmas.Bool.{and_from, and_parts, cases_lt, eq-eqb, eqb-true, false_from_ne_true, ne_eqb, or_left}
-use Rattle.std.proofs.lemmas.Bool.{or_right}
+use Rattle.std.proofs.lemmas.Bool.{and_from, and_parts, cases_lt, eq-eqb, false_from_ne_true, ne_eqb, or_left}
 use Rattle.std.proofs.lemmas.List.{length-append}
 use Rattle.std.proofs.lemmas.List.Elements.{filter-append, filter_map-append}
 use Rattle.std.proofs.lemmas.List.Folds.{list_any-append}
@@ -16,12 +15,12 @@ use Rattle.fsb_signal.specs.declared.lines.TheConstants.Lines.{ADS}
 use Rattle.fsb_signal.specs.declared.sample.Sample.{Sample}
 use Rattle.fsb_signal.specs.Samples.{line_at}
 use Rattle.fsb_trace.specs.declared.who.Who.{Who}
-use Rattle.fsb_trace.specs.declared.who.Who.TheVariants.{Symmetric, Priority}
+use Rattle.fsb_trace.specs.declared.who.Who.TheVariants.{Symmetric}
 use Rattle.fsb_trace.specs.At.{Trace, request_at}
 use Rattle.fsb_trace.specs.Agree.{AgreeTo}
 use Rattle.fsb_trace.specs.Flight.{is_outstanding, last_clock_of, outstanding}
 use Rattle.fsb_trace.specs.Outcome.{is_deferred}
-use Rattle.fsb_trace.specs.Requests.{is_live, is_reply, live_number_of, line_of}
+use Rattle.fsb_trace.specs.Requests.{is_live, is_reply, live_number_of}
 use Rattle.fsb_trace.specs.Winner.{begins_at, is_agent, is_same_agent, winner_at}
 use Rattle.fsb_trace.proofs.Interface.{end_of-response, request_at-agree}
 use Rattle.fsb_laws.specs.OneMore.{OneMore}
@@ -51,17 +50,7 @@ less-none : {Y : Type 0} (ys : List Y) → IsLess [] ys
 less-none ys = record { fewer = omega arith; among = λ test e. absurd (let no : ⊥ = cc in no) }
 
 less-append : {Y : Type 0} (xs ys zs bs : List Y) → IsLess xs ys → IsLess zs bs → IsLess (xs ++ zs) (ys ++ bs)
-less-append xs ys zs bs h k = record {
-  fewer = let e = length-append xs zs in let f = length-append ys bs in let m = h.fewer in let n = k.fewer in
-      omega arith;
-  among = λ test e. list_any-append test ys bs
-      ∙ either (list_any test xs) (list_any test zs) (list_any test ys) (list_any test bs) (h.among test)
-      (k.among test) (sym (list_any-append test xs zs) ∙ e);
-}
-  where
-    either : (a b c d : Bool) → (a ≡ true → c ≡ true) → (b ≡ true → d ≡ true) → (a || b) ≡ true → (c || d) ≡ true
-    either true b c d f g e = or_left _ _ (f refl)
-    either false b c d f g e = or_right _ _ (g e)
+less-append xs ys zs bs h k = grind (arith, length-append, list_any-append)
 
 -- what the n-th clock of a list gives
 abbrev pub tail_of : {Y : Type 0} → (ℕ → Bool) → (ℕ → Option Y) → (Y → Bool) → ℕ → List Y
@@ -70,14 +59,11 @@ tail_of t g f n = filter f (filter_map g (if t n then n ∷ [] else []))
 listed-more : {Y : Type 0} (t : ℕ → Bool) (g : ℕ → Option Y) (f : Y → Bool) (n : ℕ)
     → filter f (filter_map g (all_where t (suc n))) ≡ filter f (filter_map g (all_where t n)) ++ tail_of t g f n
 unfolding all_where
-listed-more t g f n =
-    ap (filter f) (filter_map-append g (all_where t n) (if t n then n ∷ [] else []))
-    ∙ filter-append f (filter_map g (all_where t n)) (filter_map g (if t n then n ∷ [] else []))
+listed-more t g f n = grind (arith, filter_map-append, filter-append)
 
 tail-less : {Y : Type 0} (s t : ℕ → Bool) (g k : ℕ → Option Y) (f : Y → Bool) (n : ℕ) (b : Bool) → s n ≡ b
     → (s n ≡ true → (t n ≡ true) × (g n ≡ k n)) → IsLess (tail_of s g f n) (tail_of t k f n)
-tail-less s t g k f n false e h = rw e (less-none (tail_of t k f n))
-tail-less s t g k f n true e h = let same = h e in rw (e, same.0, same.1) (less-same (filter f (filter_map k (n ∷ []))))
+tail-less s t g k f n b h1 h2 = grind arith
 
 -- where each clock of the first list is one of the second, and gives the same there
 pub listed-less : {Y : Type 0} (s t : ℕ → Bool) (g k : ℕ → Option Y) (f : Y → Bool) (n : ℕ)
@@ -135,32 +121,23 @@ still-out h x v q m o k l e =
     let unfinished : is_before (last_clock_of h (live_number_of h q)) (length h) ≡ false = false_from_ne_true _ (λ t.
     let i = live_number_of h q in
     let done = still-finished h x v i (is_deferred h i) (is_deferred v i) m o k refl refl t in
-    let there : is_before (last_clock_of v (live_number_of v q)) (length v) ≡ true =
-    subst (λ j. is_before (last_clock_of v j) (length v) ≡ true) number done in
+    let there : is_before (last_clock_of v (live_number_of v q)) (length v) ≡ true = grind arith in
     let no : false ≡ true = (let g = rw there at a.1 in g) in cc no) in
     is_outstanding-end h q l ∙ and_from _ _ (and_from _ _ live reply) (ap not unfinished)
   where
     early : (q + 1 < length h) ⊎ (length h ≤ q + 1) → not (is_reply (request_at v q)) ≡ true
         → not (is_reply (request_at h q)) ≡ true
-    early (inl k) f = ap (λ o. not (is_reply o)) (request_at-agree (length h) h v q m.agree k) ∙ f
-    early (inr k) f = ap (λ o. not (is_reply o)) (request_at-last h q k) ∙ refl
+    early h1 h2 = grind (arith, request_at-agree, request_at-last)
 
 pub map-some : {A B : Type 0} (f : A → B) (o : Option A) (y : B) → option_map f o ≡ Some y
     → (x : A) × (o ≡ Some x) × (f x ≡ y)
-map-some f None y e = absurd (let no : ⊥ = cc in no)
-map-some f (Some x) y e = (x, refl, cc)
+map-some f o y h1 = grind arith
 
 -- the agent of a claim is the winner
 claim-winner : (w : Trace) (q : ℕ) (claim : Claim) (o : Option Who) → winner_at w q ≡ o
     → claim_at w q ≡ Some claim → winner_at w q ≡ Some (Symmetric claim.agent)
 unfolding claim_at agent_at
-claim-winner w q claim None e h = absurd (let no : ⊥ = (let h' = rw (e, claim_at, agent_at) at h in cc) in no)
-claim-winner w q claim (Some Priority) e h =
-    absurd (let no : ⊥ = (let h' = rw (e, claim_at, agent_at) at h in cc) in no)
-claim-winner w q claim (Some (Symmetric a)) e h =
-    let h' = rw (claim_at, agent_at, e) at h in
-    let k = map-some (λ line. record { first = q; agent = a; line = line }) (line_of w q) claim h' in
-    e ∙ ap (λ b. Some (Symmetric b)) (ap (λ claim. claim.agent) k.2)
+claim-winner w q claim o h1 h2 = grind arith
 
 begins-by : (w : Trace) (q a : ℕ) → line_at ADS w q ≡ true → winner_at w q ≡ Some (Symmetric a)
     → begins_at w q (Symmetric a) ≡ true
@@ -173,21 +150,11 @@ not-own : (r : Run) (a c : ℕ) (owing : Owing) (b : Bool) → line_at ADS (run_
     → begun_with (past_with r (moments_below r c) c) (run_to r c).trace c ≡ Some owing
     → nat_eq owing.claim.agent a ≡ false
 unfolding begun_with owing_for
-not-own r a c owing false t none e = absurd (let no : ⊥ = (let e' = rw (t, begun_with) at e in cc) in no)
-not-own r a c owing true t none e =
-    let v = (run_to r c).trace in
-    let k = map-some (owing_for (past_with r (moments_below r c) c) c) (claim_at v c) owing (rw (t, begun_with) at e) in
-    let winner = claim-winner v c k.0 (winner_at v c) refl k.1 in
-    let agent : k.0.agent ≡ owing.claim.agent = ap (λ o. o.claim.agent) k.2 in
-    false_from_ne_true _ (λ same.
-    let is : k.0.agent ≡ a = agent ∙ eqb-true owing.claim.agent a same in
-    let no : false ≡ true = sym none ∙ begins-by v c a t (winner ∙ ap (λ b. Some (Symmetric b)) is) in cc no)
+not-own r a c owing b h1 h2 h3 = grind (arith, claim-winner, begins-by)
 
 tail-none : {Y : Type 0} (t : ℕ → Bool) (g : ℕ → Option Y) (f : Y → Bool) (n : ℕ) (b : Bool) (o : Option Y)
     → t n ≡ b → g n ≡ o → ((y : Y) → o ≡ Some y → f y ≡ false) → tail_of t g f n ≡ []
-tail-none t g f n false o e h none = rw e refl
-tail-none t g f n true None e h none = rw (e, h) refl
-tail-none t g f n true (Some y) e h none = rw (e, h, none y refl) refl
+tail-none t g f n b o h1 h2 h3 = grind arith
 
 -- what is outstanding behind a clock
 pub outstanding-of : (r : Run) (e : ℕ) → e < length r.trace
@@ -212,15 +179,7 @@ owing-same : (r : Run) (e q : ℕ) → q < suc e
     → owing_at (past_with r (moments_below r (suc e)) (suc e)) (run_to r (suc e)).trace (suc e) q
     ≡ owing_at (past_with r (moments_below r e) e) (run_to r e).trace e q
 unfolding moment_at
-owing-same r e q l =
-    elim (cases_lt q e) [
-      | inl early ↦ owing-then r (suc e) q l ∙ sym (owing-then r e q early)
-      | inr late ↦
-          let same : q ≡ e = omega arith in
-          subst (λ k. owing_at (past_with r (moments_below r (suc e)) (suc e)) (run_to r (suc e)).trace (suc e)
-          k ≡ owing_at (past_with r (moments_below r e) e) (run_to r e).trace e k) (sym same)
-          (owing-then r (suc e) e (omega arith) ∙ sym (owing-now r e))
-    ]
+owing-same r e q l = grind (arith, owing-then, owing-now)
 
 -- the requests that began before the clock
 earlier : (r : Run) (a c : ℕ) → Timely r → c < length r.trace

@@ -4,15 +4,14 @@ use Rattle.std.proofs.Common.{Option, Some, None, length, nat_eq, nat_le, refl, 
 use Rattle.std.proofs.Common.{if◌then◌else◌, add-one}
 use Rattle.std.specs.List.{find, list_any}
 use Rattle.std.specs.Option.{option_map}
-use Rattle.std.proofs.lemmas.Bool.{cases_Bool, eqb-true, leb-false, or_parts}
+use Rattle.std.proofs.lemmas.Bool.{cases_Bool, leb-false, or_parts}
 use Rattle.fsb_count.specs.Clocks.{count_where, first_where}
 use Rattle.fsb_count.proofs.Interface.{first_where-found, first_where-none}
-use Rattle.fsb_encode.specs.declared.request.Kind.TheVariants.{Invalidate, Read, Upgrade}
 use Rattle.fsb_encode.specs.declared.request.Request.{Request}
 use Rattle.fsb_trace.specs.Requests.{is_reply_kind}
 use Rattle.fsb_timely.specs.Past.{Owing, Past}
 use Rattle.fsb_timely.specs.Scripts.{Need, is_idling, window, needs_from}
-use Rattle.fsb_timely.specs.Wants.{owed, is_missing, victim_of, id_of, is_id_used, free_id, may_upgrade, kind_needed}
+use Rattle.fsb_timely.specs.Wants.{owed, is_missing, victim_of, id_of, is_id_used, free_id, kind_needed}
 use Rattle.fsb_timely.specs.Wants.{request_of_kind, write_back_of, want_for, want_of}
 
 -- how many pass one of two tests
@@ -24,10 +23,7 @@ count-or p q (suc k) = let before = count-or p q k in step (p k) (q k) before
     step : (a b : Bool) → count_where (λ n. p n || q n) k ≤ count_where p k + count_where q k
         → count_where (λ n. p n || q n) k + (if a || b then 1 else 0) ≤ (count_where p k + (if a then 1 else 0))
         + (count_where q k + (if b then 1 else 0))
-    step true true l = omega arith
-    step true false l = omega arith
-    step false true l = omega arith
-    step false false l = omega arith
+    step a b h1 = grind arith
 
 count-zero : (p : ℕ → Bool) (k : ℕ) → ((n : ℕ) → n < k → p n ≡ false) → count_where p k ≡ 0
 unfolding count_where
@@ -39,30 +35,16 @@ unfolding count_where
 count-all p zero h = refl
 count-all p (suc k) h = rw (h k (omega arith), count-all p k (λ n l. h n (omega arith))) (add-one k)
 
-other-place : (a k n : ℕ) → nat_eq k a ≡ true → n < k → (b : Bool) → nat_eq n a ≡ b → nat_eq n a ≡ false
-other-place a k n e l false f = f
-other-place a k n e l true f =
-    let one : k ≡ a = eqb-true k a e in let two : n ≡ a = eqb-true n a f in absurd (omega arith)
-
 -- a place is one number at most
 pub count-one-place : (a k : ℕ) → count_where (λ n. nat_eq n a) k ≤ 1
 unfolding count_where
 count-one-place a zero = omega arith
-count-one-place a (suc k) =
-    elim (cases_Bool (nat_eq k a)) [
-      | inl t ↦
-          let none = count-zero (λ n. nat_eq n a) k (λ n l. other-place a k n t l (nat_eq n a) refl) in
-          rw t (omega arith)
-      | inr f ↦ let before = count-one-place a k in rw f (omega arith)
-    ]
+count-one-place a (suc k) = grind (arith, count-zero, count-one-place a k)
 
 other-number : (did a k n : ℕ) → nat_eq did (id_of a k) ≡ true → n < k → (b : Bool) → nat_eq did (id_of a n) ≡ b
     → nat_eq did (id_of a n) ≡ false
 unfolding id_of
-other-number did a k n e l false f = f
-other-number did a k n e l true f =
-    let one : did ≡ a * 16 + k = eqb-true did (a * 16 + k) e in
-    let two : did ≡ a * 16 + n = eqb-true did (a * 16 + n) f in absurd (omega arith)
+other-number did a k n h1 h2 b h3 = grind arith
 
 -- an ID is that of one number at most
 count-one : (did a k : ℕ) → count_where (λ n. nat_eq did (id_of a n)) k ≤ 1
@@ -111,18 +93,10 @@ pub record IsWant (p : Past) (a c : ℕ) (request : Request) : Type 0 where
   pub no_reply : is_reply_kind request.kind ≡ false
   pub own : request.did ≡ free_id a (owed p a c)
 
-kind-plain : (a b : Bool) → is_reply_kind (if not a then Read else (if b then Upgrade else Invalidate)) ≡ false
-unfolding is_reply_kind
-kind-plain false b = refl
-kind-plain true true = refl
-kind-plain true false = refl
-
 want_for-is : (p : Past) (a c : ℕ) (need : Need) (o : Option ℕ) → victim_of p a c need.line ≡ o
     → IsWant p a c (want_for p a c (owed p a c) need)
 unfolding want_for write_back_of request_of_kind kind_needed is_reply_kind
-want_for-is p a c need (Some victim) e = rw (e, want_for) (record { no_reply = refl; own = refl })
-want_for-is p a c need None e =
-    rw (e, want_for) (record { no_reply = kind-plain need.alone (may_upgrade p a c need.line); own = refl })
+want_for-is p a c need o h1 = grind arith
 
 want_if-is : (p : Past) (a c : ℕ) (request : Request) (o : Option Need)
     → option_map (want_for p a c (owed p a c)) o ≡ Some request → IsWant p a c request
@@ -146,8 +120,7 @@ free-unused a owings (Some n) l e =
     rw (e, free_id) (unused (is_id_used owings (id_of a n)) h.1)
   where
     unused : (b : Bool) → not b ≡ true → b ≡ false
-    unused true t = absurd (let no : ⊥ = cc in no)
-    unused false t = refl
+    unused b h1 = grind arith
 
 want_by : (p : Past) (a c : ℕ) (request : Request) (b : Bool)
     → (is_idling p a c || nat_le p.plan.ahead (length (owed p a c))) ≡ b → want_of p a c ≡ Some request

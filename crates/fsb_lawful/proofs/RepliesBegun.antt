@@ -1,13 +1,12 @@
 -- Replies are begun by the priority agent, and by no other agent.
-use Rattle.std.proofs.Common.{ℕ, suc, ◌-◌, ◌<◌, ◌≤◌, ◌≡◌, Bool, true, false, ◌&&◌, Option, Some, None, length, refl}
-use Rattle.std.proofs.Common.{sym, ap, ◌∙◌, arith}
+use Rattle.std.proofs.Common.{ℕ, suc, ◌-◌, ◌<◌, ◌≤◌, ◌≡◌, Bool, true, ◌&&◌, Option, length, refl, ◌∙◌, arith}
 use Rattle.std.proofs.lemmas.Bool.{le-leb}
 use Rattle.fsb_count.specs.Options.{is_some_and}
 use Rattle.fsb_encode.specs.declared.request.Request.{Request}
 use Rattle.fsb_signal.specs.declared.lines.TheConstants.Lines.{ADS}
 use Rattle.fsb_signal.specs.Samples.{line_at}
 use Rattle.fsb_trace.specs.declared.who.Who.{Who}
-use Rattle.fsb_trace.specs.declared.who.Who.TheVariants.{Symmetric, Priority}
+use Rattle.fsb_trace.specs.declared.who.Who.TheVariants.{Priority}
 use Rattle.fsb_trace.specs.At.{Trace, line_back, request_at}
 use Rattle.fsb_trace.specs.Requests.{is_reply}
 use Rattle.fsb_trace.specs.Rules.{is_identified, is_own_id}
@@ -22,23 +21,12 @@ use Rattle.fsb_lawful.proofs.Identity.{identified-at}
 reply-priority : (o : Option Who) (q : Option Request) (b : Bool) → is_identified o q ≡ true → is_reply q ≡ b
     → is_agent o Priority ≡ b
 unfolding is_identified is_agent is_some_and is_same_agent is_own_id
-reply-priority o q true e f = rw (is_identified, f) at e
-reply-priority o q false e f = other o q (rw (is_identified, f) at e)
-  where
-    named : (o : Option Who) (x : Request) → is_own_id o x ≡ true → is_agent o Priority ≡ false
-    named None x e = refl
-    named (Some (Symmetric a)) x e = refl
-    named (Some Priority) x e = absurd (let no : ⊥ = cc in no)
-
-    other : (o : Option Who) (q : Option Request) → is_some_and q (is_own_id o) ≡ true → is_agent o Priority ≡ false
-    other o None e = absurd (let no : ⊥ = cc in no)
-    other o (Some x) e = named o x e
+reply-priority o q b h1 h2 = grind arith
 
 reply-by : (w : Trace) (d : ℕ) (b : Bool) → line_at ADS w d ≡ b
     → (b ≡ true → is_agent (winner_at w d) Priority ≡ is_reply (request_at w d))
     → (line_at ADS w d && is_reply (request_at w d)) ≡ (line_at ADS w d && is_agent (winner_at w d) Priority)
-reply-by w d true e f = rw e (sym (f refl))
-reply-by w d false e f = rw e refl
+reply-by w d b h1 h2 = grind arith
 
 back-one : (w : Trace) (d : ℕ) → line_back ADS w (suc d) 1 ≡ line_at ADS w d
 unfolding line_back
@@ -47,10 +35,7 @@ back-one w d = let one : suc d - 1 ≡ d = omega arith in rw (one, le-leb 1 (suc
 pub reply-before : (v : Run) (d : ℕ)
     → reply_before v (suc d) ≡ (line_at ADS v.trace d && is_reply (request_at v.trace d))
 unfolding reply_before
-reply-before v d =
-    let one : suc d - 1 ≡ d = omega arith in
-    ap (λ b. b && is_reply (request_at v.trace (suc d - 1))) (back-one v.trace d)
-    ∙ ap (λ k. line_at ADS v.trace d && is_reply (request_at v.trace k)) one
+reply-before v d = grind (arith, back-one)
 
 -- a reply began at the clock before exactly where the priority agent did
 pub reply-is : (r : Run) (d : ℕ) → Timely r → WantsLawfully r → r.plan.ahead ≤ 4 → suc d < length r.trace

@@ -1,17 +1,17 @@
 -- Rule 8: who asks for the bus in a timely run goes on until it begins a request, and then stops.
 use Rattle.std.proofs.Common.{ℕ, zero, suc, ◌+◌, ◌-◌, ◌<◌, ◌≤◌, ◌≡◌, Bool, true, false, not, ◌&&◌, is_some, length}
 use Rattle.std.proofs.Common.{take, refl, sym, ap, ◌∙◌, arith, if◌then◌else◌}
-use Rattle.std.proofs.lemmas.Bool.{and_parts, le-leb, or_from}
+use Rattle.std.proofs.lemmas.Bool.{and_parts, le-leb}
 use Rattle.fsb_count.specs.Clocks.{each_where}
 use Rattle.fsb_count.proofs.Interface.{any_where-off, each_where-at}
-use Rattle.fsb_signal.specs.declared.lines.TheConstants.Lines.{ADS, BPRI}
+use Rattle.fsb_signal.specs.declared.lines.TheConstants.Lines.{BPRI}
 use Rattle.fsb_signal.specs.declared.marks.Marks.{Marks}
 use Rattle.fsb_signal.specs.Samples.{line_at}
 use Rattle.fsb_trace.specs.declared.who.Who.{Who}
 use Rattle.fsb_trace.specs.declared.who.Who.TheVariants.{Symmetric, Priority}
 use Rattle.fsb_trace.specs.At.{Trace, line_back}
 use Rattle.fsb_trace.specs.Rules.{is_asked_wrongly, is_some_asked_wrongly}
-use Rattle.fsb_trace.specs.Winner.{begins_at, bus_request_of, is_agent, request_line_of}
+use Rattle.fsb_trace.specs.Winner.{begins_at, bus_request_of, request_line_of}
 use Rattle.fsb_trace.proofs.Interface.{breaks-8, winner_at-agree}
 use Rattle.fsb_timely.specs.Past.{Past}
 use Rattle.fsb_timely.specs.Runs.{Run, past_of, past_to, run_to}
@@ -57,19 +57,13 @@ priority-at r c h l = priority-by (run_to r c) (past_to (past_of r) c) c (h.requ
 rightly : (began asked asks before now : Bool) → now ≡ (asks && not began) → (before ≡ true → asked ≡ true)
     → (asked ≡ true → began ≡ false → asks ≡ true)
     → (if began then now else (before && not now)) ≡ false
-rightly true asked true before now e f g = e
-rightly true asked false before now e f g = e
-rightly false asked asks false now e f g = refl
-rightly false asked asks true now e f g = rw (e, g (f refl) refl) refl
+rightly began asked asks before now h1 h2 h3 = grind arith
 
 -- who begins at a clock
 begins-to : (r : Run) (d c : ℕ) (who : Who) → d ≤ c → c < length r.trace
     → begins_at (run_to r c).trace d who ≡ begins_at (run_to r d).trace d who
 unfolding begins_at
-begins-to r d c who l m =
-    let ads = line-to ADS r d c l m in
-    let winner = winner_at-agree (d + 1) (run_to r d).trace (run_to r c).trace d (cuts-agree r d c l m) (omega arith) in
-    λ i. (sym ads) i && is_agent ((sym winner) i) who
+begins-to r d c who l m = grind (arith, line-to, winner_at-agree, cuts-agree)
 
 -- the rule at a clock that is not the first
 after-first : (v : Trace) (d : ℕ) (who : Who)
@@ -77,39 +71,24 @@ after-first : (v : Trace) (d : ℕ) (who : Who)
     ≡ (if begins_at v d who then line_at (request_line_of who) v (suc d)
     else (line_at (request_line_of who) v d && not (line_at (request_line_of who) v (suc d))))
 unfolding is_asked_wrongly line_back
-after-first v d who =
-    let one : suc d - 1 ≡ d = omega arith in rw (one, le-leb 1 (suc d) (omega arith)) refl
+after-first v d who = grind arith
 
 at-first : (v : Trace) (who : Who) → is_asked_wrongly v zero who ≡ false
 unfolding is_asked_wrongly line_back
-at-first v who = either (begins_at v (zero - 1) who)
-  where
-    either : (b : Bool) → (if b then false else false) ≡ false
-    either true = refl
-    either false = refl
+at-first v who = grind arith
 
 began-is : (v : Run) (d : ℕ) (who : Who) → began_before v (suc d) who ≡ begins_at v.trace d who
 unfolding began_before
 began-is v d who = let one : suc d - 1 ≡ d = omega arith in rw (one, le-leb 1 (suc d) (omega arith)) refl
 
 asked-by : (a b : Bool) → (a && not b) ≡ true → a ≡ true
-asked-by true b e = refl
-asked-by false b e = absurd (let no : ⊥ = cc in no)
+asked-by a b h1 = grind arith
 
 symmetric : (r : Run) (d a : ℕ) → Timely r → suc d < length r.trace → a < 4
     → is_asked_wrongly (run_to r (suc d)).trace (suc d) (Symmetric a) ≡ false
 unfolding request_line_of
 symmetric r d a h l few =
-    let v = run_to r (suc d) in
-    let now = bus-at r (suc d) a h l few
-    ∙ ap (λ b. is_some (want_of (past_to (past_of r) (suc d)) a (suc d)) && not b) (began-is v d (Symmetric a)) in
-    let before = sym (line-to (bus_request_of a) r d (suc d) (omega arith) l) ∙ bus-at r d a h (omega arith) few in
-    after-first v.trace d (Symmetric a)
-    ∙ rightly (begins_at v.trace d (Symmetric a)) (is_some (want_of (past_to (past_of r) d) a d))
-    (is_some (want_of (past_to (past_of r) (suc d)) a (suc d))) (line_at (bus_request_of a) v.trace d)
-    (line_at (bus_request_of a) v.trace (suc d)) now
-    (λ t. asked-by _ _ (sym before ∙ t))
-    (λ t f. wants-go-on r a d h l t (sym (begins-to r d (suc d) (Symmetric a) (omega arith) l) ∙ f))
+    grind (arith, bus-at, began-is, line-to, after-first, rightly, asked-by, wants-go-on, begins-to)
 
 priority : (r : Run) (d : ℕ) → Timely r → WantsLawfully r → r.plan.ahead ≤ 4 → suc d < length r.trace
     → is_asked_wrongly (run_to r (suc d)).trace (suc d) Priority ≡ false
@@ -129,14 +108,8 @@ priority r d h wants few l =
 at-clock : (r : Run) (c : ℕ) → Timely r → WantsLawfully r → r.plan.ahead ≤ 4 → c < length r.trace
     → is_some_asked_wrongly (run_to r c).trace c ≡ false
 unfolding is_some_asked_wrongly
-at-clock r zero h wants few l =
-    let v = (run_to r zero).trace in
-    or_from _ _ (any_where-off (λ a. is_asked_wrongly v zero (Symmetric a)) 4 (λ a k. at-first v (Symmetric a)))
-    (at-first v Priority)
-at-clock r (suc d) h wants few l =
-    let v = (run_to r (suc d)).trace in
-    or_from _ _ (any_where-off (λ a. is_asked_wrongly v (suc d) (Symmetric a)) 4 (λ a k. symmetric r d a h l k))
-    (priority r d h wants few l)
+at-clock r zero h wants few l = grind (arith, any_where-off, at-first)
+at-clock r (suc d) h wants few l = grind (arith, any_where-off, symmetric, priority)
 
 -- rule 8
 pub keeps-8 : (m : Marks) (r : Run) → Timely r → WantsLawfully r → r.plan.ahead ≤ 4 → Keeps m 8 r.trace

@@ -1,5 +1,5 @@
 -- When a live request responds and when its target is ready: by its waits, and once.
-use Rattle.std.proofs.Common.{ℕ, ◌+◌, ◌<◌, ◌≤◌, ◌≡◌, ◌⊎◌, Bool, true, false, Option, Some, None, length, refl, sym, ◌∙◌}
+use Rattle.std.proofs.Common.{ℕ, ◌+◌, ◌<◌, ◌≤◌, ◌≡◌, ◌⊎◌, Bool, true, false, Option, Some, length, refl, sym, ◌∙◌}
 use Rattle.std.proofs.Common.{arith, inl, inr, subst}
 use Rattle.std.specs.Option.{option_map}
 use Rattle.std.proofs.lemmas.Bool.{and_parts}
@@ -43,18 +43,12 @@ pub record IsReadyDue (w : Trace) (wait t i : ℕ) : Type 0 where
   pub waits : from + wait ≡ t
 
 mapped : (o : Option ℕ) (g : ℕ → ℕ) (t : ℕ) → option_map g o ≡ Some t → (y : ℕ) × (o ≡ Some y) × (g y ≡ t)
-mapped None g t e = absurd (let no : ⊥ = cc in no)
-mapped (Some y) g t e = (y, refl, cc)
+mapped o g t h1 = grind arith
 
 responding_by : (w : Trace) (wait t i : ℕ) (b : Bool) → takes w i ≡ b
     → is_response_from b (answer_from w i) (ready_clock_of w i) wait t ≡ true → Responding w wait t i
 unfolding is_response_from
-responding_by w wait t i true k e =
-    let p = mapped (ready_clock_of w i) (λ y. y + 2 + wait) t (is_at-some _ t e) in
-    inl (record { does_take = k; ready = p.0; is_ready = p.1; waits = p.2 })
-responding_by w wait t i false k e =
-    let p = mapped (answer_from w i) (λ f. f + wait) t (is_at-some _ t e) in
-    inr (record { takes_none = k; from = p.0; is_from = p.1; waits = p.2 })
+responding_by w wait t i b h1 h2 = grind (arith, is_at-some)
 
 -- a request that responds may be answered
 pub responding-answer : (w : Trace) (wait t i : ℕ) → Responding w wait t i → HasAnswer w t i
@@ -88,16 +82,7 @@ responding-stays n w v wait t i a l (inr k) =
 
 -- a request responds once
 pub one-response : (w : Trace) (wait t u i : ℕ) → Responding w wait t i → Responding w wait u i → t ≡ u
-one-response w wait t u i (inl k) (inl m) =
-    let e = k.is_ready in
-    let f = m.is_ready in
-    let same : k.ready ≡ m.ready = cc in omega (arith, k.waits, m.waits)
-one-response w wait t u i (inr k) (inr m) =
-    let e = k.is_from in
-    let f = m.is_from in
-    let same : k.from ≡ m.from = cc in omega (arith, k.waits, m.waits)
-one-response w wait t u i (inl k) (inr m) = let no : true ≡ false = sym k.does_take ∙ m.takes_none in absurd (cc no)
-one-response w wait t u i (inr k) (inl m) = let no : true ≡ false = sym m.does_take ∙ k.takes_none in absurd (cc no)
+one-response w wait t u i h1 h2 = grind arith
 
 -- the request whose response clock is c in the run up to c
 pub responding-now : (r : Run) (c i : ℕ) → c < length r.trace → is_response_clock (run_to r c) c i ≡ true
@@ -128,10 +113,7 @@ ready-stays n w v wait t i a l k =
 
 -- a target is to be ready at one clock
 pub one-ready : (w : Trace) (wait t u i : ℕ) → IsReadyDue w wait t i → IsReadyDue w wait u i → t ≡ u
-one-ready w wait t u i k m =
-    let e = k.is_from in
-    let f = m.is_from in
-    let same : k.from ≡ m.from = cc in omega (arith, k.waits, m.waits)
+one-ready w wait t u i k m = grind arith
 
 -- the request whose target is to be ready at c in the run up to c
 pub ready-now : (r : Run) (c i : ℕ) → c < length r.trace → is_ready_due (run_to r c) c i ≡ true

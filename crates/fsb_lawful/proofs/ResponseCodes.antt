@@ -5,7 +5,6 @@ use Rattle.std.proofs.lemmas.Bool.{and_from, and_parts, le-leb, lt-ltb, ne_eqb}
 use Rattle.fsb_count.specs.Options.{is_some_and}
 use Rattle.fsb_count.proofs.Interface.{nth_where-found}
 use Rattle.fsb_encode.specs.declared.request.Kind.{Kind}
-use Rattle.fsb_encode.specs.declared.request.Kind.TheVariants.{Reply, Invalidate, Read, WriteBack, Upgrade}
 use Rattle.fsb_encode.specs.declared.request.Request.{Request}
 use Rattle.fsb_hazard.specs.declared.choice.Turn.{Turn}
 use Rattle.fsb_hazard.specs.declared.choice.Turn.TheVariants.{Keep, Retry, Defer}
@@ -31,7 +30,7 @@ use Rattle.fsb_timely.specs.Transfers.{settled_of, code_due, number_responding}
 use Rattle.fsb_lawful.specs.Beginning.{WantsLawfully}
 use Rattle.fsb_lawful.specs.Keeps.{Keeps}
 use Rattle.fsb_lawful.proofs.CutRuns.{cuts-agree, length-cut}
-use Rattle.fsb_lawful.proofs.Keeping.{and-fails, keeps}
+use Rattle.fsb_lawful.proofs.Keeping.{keeps}
 use Rattle.fsb_lawful.proofs.OneAnswer.{transfers-at, answered-next, next-same}
 use Rattle.fsb_lawful.proofs.Responding.{responding-answer}
 use Rattle.fsb_lawful.proofs.Turns.{TurnFits, Turned, turned-at, decoded-live}
@@ -54,19 +53,11 @@ kept-fits : (w : Trace) (i s : ℕ) (request : Request) (kind : Kind) → snoop_
     → is_code_for w i (response_code_of (settled_by w (number_of_turn Keep) i s)) ≡ true
 unfolding is_code_for settled_by line_at_snoop_end is_some_and response_code_of number_of_turn outcome_by_kind
     is_write_back is_write_back_kind is_upgrade is_upgrade_kind
-kept-fits w i s request Reply e f d q k = rw (e, f, d, q, k) refl
-kept-fits w i s request Invalidate e f d q k = rw (e, f, d, q, k) refl
-kept-fits w i s request Read e f d q k = rw (e, f, d, q, k) refl
-kept-fits w i s request WriteBack e f d q k = rw (e, f, d, q, k) refl
-kept-fits w i s request Upgrade e f d q k = rw (e, f, d, q, k) refl
+kept-fits w i s request kind h1 h2 h3 h4 h5 = grind arith
 
 not-written : (kind : Kind) → (is_never_held_up kind ≡ true → ⊥) → is_write_back_kind kind ≡ false
 unfolding is_write_back_kind
-not-written Reply h = refl
-not-written Invalidate h = refl
-not-written Read h = refl
-not-written WriteBack h = absurd (h refl)
-not-written Upgrade h = refl
+not-written kind h1 = grind arith
 
 retried-fits : (w : Trace) (i s : ℕ) (request : Request) → snoop_end_of w i ≡ Some s → line_at HITM w s ≡ false
     → line_at DEFER w s ≡ true → live_request_of w i ≡ Some request → is_write_back_kind request.kind ≡ false
@@ -122,11 +113,7 @@ told-kind : (w : Trace) (i s turn : ℕ) (request : Request) (kind : Kind) → s
     → live_request_of w i ≡ Some request → request.kind ≡ kind
     → told_by w i (response_code_of (settled_by w turn i s)) ≡ settled_by w turn i s
 unfolding told_by settled_by line_at_snoop_end is_some_and response_code_of outcome_by_kind
-told-kind w i s turn request Reply e f a b q k = rw (e, f, a, b, q, k) refl
-told-kind w i s turn request Invalidate e f a b q k = rw (e, f, a, b, q, k) refl
-told-kind w i s turn request Read e f a b q k = rw (e, f, a, b, q, k) refl
-told-kind w i s turn request WriteBack e f a b q k = rw (e, f, a, b, q, k) refl
-told-kind w i s turn request Upgrade e f a b q k = rw (e, f, a, b, q, k) refl
+told-kind w i s turn request kind h1 h2 h3 h4 h5 h6 = grind arith
 
 told-by : (w : Trace) (i s turn : ℕ) (h a b : Bool) (o : Option Request) → snoop_end_of w i ≡ Some s
     → line_at HITM w s ≡ h → nat_eq turn 1 ≡ a → nat_le 2 turn ≡ b → live_request_of w i ≡ o
@@ -140,8 +127,7 @@ told-by w i s turn false false false (Some request) e f g k q = told-kind w i s 
 -- the code of a settled outcome tells that outcome
 pub told-settled : (w : Trace) (i s turn : ℕ) → snoop_end_of w i ≡ Some s
     → told_by w i (response_code_of (settled_by w turn i s)) ≡ settled_by w turn i s
-told-settled w i s turn e = told-by w i s turn (line_at HITM w s) (nat_eq turn 1) (nat_le 2 turn)
-    (live_request_of w i) e refl refl refl refl
+told-settled w i s turn e = grind (arith, told-by)
 
 code_by : (v : Run) (c i : ℕ) (x : Outcome) → number_responding v c ≡ Some i
     → settled_of v (past_of v) i ≡ Some x → code_due v (past_of v) c ≡ response_code_of x
@@ -184,10 +170,7 @@ responds_by v c e = (and_parts (responds_at v c) _ e).0
 at-clock : (r : Run) (c : ℕ) → Timely r → WantsLawfully r → c < length r.trace
     → is_code_wrong (run_to r c).trace c ≡ false
 unfolding is_code_wrong
-at-clock r c h wants l =
-    let v = (run_to r c).trace in
-    and-fails (responds_soundly v c) (not (has_code_at v c (next_response v c)))
-    (λ t. ap not (has-code r c h wants l (responds_by v c t)))
+at-clock r c h wants l = grind (arith, has-code, responds_by)
 
 -- rule 14
 pub keeps-14 : (m : Marks) (r : Run) → Timely r → WantsLawfully r → Keeps m 14 r.trace
@@ -228,17 +211,7 @@ pub record ToldAsSettled (r : Run) (c i t : ℕ) : Type 0 where
 same-settled : (r : Run) (t c i s : ℕ) (j : Turned r t i s) (k : Turned r c i s)
     → settled_by (run_to r t).trace (number_of_turn j.end.turn) i s
     ≡ settled_by (run_to r c).trace (number_of_turn k.end.turn) i s
-same-settled r t c i s j k =
-    let a = j.settled in
-    let b = j.outcome in
-    let d = k.settled in
-    let e = k.outcome in
-    let f = j.there in
-    let g = k.there in
-    let end : j.end ≡ k.end = cc in
-    let one : settled_by (run_to r t).trace (number_of_turn j.end.turn) i s ≡ j.end.outcome = cc in
-    let two : settled_by (run_to r c).trace (number_of_turn k.end.turn) i s ≡ k.end.outcome = cc in
-    one ∙ ap (λ x. x.outcome) end ∙ sym two
+same-settled r t c i s j k = grind arith
 
 outcome-at : (w : Trace) (i s t code : ℕ) → snoop_end_of w i ≡ Some s → response_clock_of w i ≡ Some t
     → response_code_at w t ≡ code → outcome_of w i ≡ Some (told_by w i code)

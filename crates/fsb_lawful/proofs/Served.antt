@@ -1,9 +1,9 @@
 -- A grant, as the whole trace shows it: the live request whose snoop end makes it, and the one that it serves.
-use Rattle.std.proofs.Common.{ℕ, ◌+◌, ◌<◌, ◌≡◌, Bool, true, false, ◌&&◌, List, Option, Some, None, length, nat_eq, refl}
-use Rattle.std.proofs.Common.{sym, ap, subst, ◌∙◌, ◌⊎◌, arith, inl, inr}
+use Rattle.std.proofs.Common.{ℕ, ◌+◌, ◌<◌, ◌≡◌, Bool, true, false, ◌&&◌, List, Option, Some, length, nat_eq, refl}
+use Rattle.std.proofs.Common.{sym, ap, subst, ◌∙◌, ◌⊎◌, arith}
 use Rattle.std.specs.Option.{option_and_then}
 use Rattle.std.proofs.lemmas.Bool.{and_parts, eqb-true}
-use Rattle.fsb_count.specs.Options.{is_at, is_some_and}
+use Rattle.fsb_count.specs.Options.{is_some_and}
 use Rattle.fsb_count.proofs.Interface.{first_where-found, is_at-some}
 use Rattle.fsb_trace.specs.declared.outcome.Outcome.{Outcome}
 use Rattle.fsb_trace.specs.At.{Trace}
@@ -14,25 +14,22 @@ use Rattle.fsb_trace.specs.Snoop.{snoop_end_of}
 use Rattle.fsb_trace.proofs.Interface.{AgreeTo-sym, snoop_end_of-stays}
 use Rattle.fsb_timely.specs.Grants.{grant_at, is_granted, snooped_at}
 use Rattle.fsb_timely.specs.Moments.{claim_at, gives_line, grant_for, grant_of, grant_to, is_answered_by}
-use Rattle.fsb_timely.specs.Moments.{is_owner_request, is_shared_at, live_claim_of, moment_at, number_snooped_at}
-use Rattle.fsb_timely.specs.Moments.{served_number, snoop_at, snoop_end_if_begun, turns_in}
+use Rattle.fsb_timely.specs.Moments.{live_claim_of, moment_at, number_snooped_at, served_number, snoop_at}
+use Rattle.fsb_timely.specs.Moments.{snoop_end_if_begun, turns_in}
 use Rattle.fsb_timely.specs.Past.{Claim, Grant, Past, SnoopEnd}
 use Rattle.fsb_timely.specs.Runs.{Run, moments_below, past_of, past_with, run_to}
 use Rattle.fsb_timely.specs.Tied.{IsSnoopOf}
 use Rattle.fsb_timely.proofs.Interface.{moment_of, number-says, snoop-tied, snooped-there}
 use Rattle.fsb_lawful.proofs.Cuts.{run_to-agrees}
-use Rattle.fsb_lawful.proofs.OwesLess.{map-some}
 
 pub some-and : {A : Type 0} (o : Option A) (test : A → Bool) → is_some_and o test ≡ true
     → (x : A) × (o ≡ Some x) × (test x ≡ true)
 unfolding is_some_and
-some-and None test e = absurd (let no : ⊥ = cc in no)
-some-and (Some x) test e = (x, refl, e)
+some-and o test h1 = grind arith
 
 pub and-then : {A B : Type 0} (f : A → Option B) (o : Option A) (y : B) → option_and_then f o ≡ Some y
     → (x : A) × (o ≡ Some x) × (f x ≡ Some y)
-and-then f None y e = absurd (let no : ⊥ = cc in no)
-and-then f (Some x) y e = (x, refl, e)
+and-then f o y h1 = grind arith
 
 -- live request i is no reply, and serves itself
 pub record ServesItself (w : Trace) (i j : ℕ) : Type 0 where
@@ -52,35 +49,25 @@ Serves w turns i j = ServesItself w i j ⊎ ServesOther w turns i j
 answered-parts : (w : Trace) (turns : List ℕ) (i j : ℕ) → is_answered_by w turns i j ≡ true
     → (is_settled_deferred w turns j ≡ true) × (reply_number_of w j ≡ Some i)
 unfolding is_answered_by
-answered-parts w turns i j e =
-    let a = and_parts (is_settled_deferred w turns j) (is_at (reply_number_of w j) i) e in
-    (a.0, is_at-some (reply_number_of w j) i a.1)
+answered-parts w turns i j e = grind (arith, is_at-some)
 
 serves-by : (w : Trace) (turns : List ℕ) (i j : ℕ) (b : Bool) → is_reply (live_request_of w i) ≡ b
     → served_number w turns i ≡ Some j → Serves w turns i j
 unfolding served_number
-serves-by w turns i j true e f =
-    let found = first_where-found (is_answered_by w turns i) i j (let f' = rw (e, served_number) at f in f') in
-    let a = answered-parts w turns i j found.1 in
-    inr (record { before = found.0; deferred = a.0; reply = a.1 })
-serves-by w turns i j false e f = inl (record { same = (let f' = rw (e, served_number) at f in cc); no_reply = e })
+serves-by w turns i j b h1 h2 = grind (arith, first_where-found, answered-parts)
 
 given-by : (p : Past) (w : Trace) (i q s : ℕ) (outcome : Outcome) (grant : Grant) (b : Bool)
     → gives_line p w q s outcome ≡ b → grant_of p w i q s outcome ≡ Some grant
     → option_and_then (grant_for w q s) (served_number w (turns_in p.moments) i) ≡ Some grant
 unfolding grant_of
-given-by p w i q s outcome grant true e f = let f' = rw (e, grant_of) at f in f'
-given-by p w i q s outcome grant false e f = absurd (let no : ⊥ = (let f' = rw (e, grant_of) at f in cc) in no)
+given-by p w i q s outcome grant b h1 h2 = grind arith
 
 -- what a grant takes from the claim that it serves
 grant-claim : (w : Trace) (q s j : ℕ) (grant : Grant) → grant_for w q s j ≡ Some grant
     → (claim : Claim) × (live_claim_of w j ≡ Some claim) × (claim.agent ≡ grant.agent) × (claim.line ≡ grant.line)
     × (q ≡ grant.first)
 unfolding grant_for grant_to
-grant-claim w q s j grant e =
-    let give = grant_to q (is_owner_request (live_request_of w j)) (is_shared_at w s) in
-    let k = map-some give (live_claim_of w j) grant e in
-    (k.0, k.1, ap (λ g. g.agent) k.2, ap (λ g. g.line) k.2, ap (λ g. g.first) k.2)
+grant-claim w q s j grant e = grind arith
 
 claim-there : (w : Trace) (j : ℕ) (claim : Claim) → live_claim_of w j ≡ Some claim
     → (q : ℕ) × (live_clock_of w j ≡ Some q) × (claim_at w q ≡ Some claim)

@@ -1,14 +1,12 @@
 -- Rule 11: the snoop lines of a timely run are at snoop clocks alone.
-use Rattle.std.proofs.Common.{ℕ, zero, suc, ◌+◌, ◌<◌, ◌≡◌, Bool, true, false, not, ◌&&◌, ◌||◌, Option, Some, None}
-use Rattle.std.proofs.Common.{length, take, refl, sym, ap, ◌∙◌, arith}
+use Rattle.std.proofs.Common.{ℕ, ◌+◌, ◌<◌, ◌≡◌, Bool, true, false, not, Option, Some, None, length, take, refl, sym}
+use Rattle.std.proofs.Common.{ap, ◌∙◌, arith}
 use Rattle.std.specs.Option.{option_and_then}
-use Rattle.std.proofs.lemmas.Bool.{and_parts, le-ltb, lt-ltb}
+use Rattle.std.proofs.lemmas.Bool.{le-ltb, lt-ltb}
 use Rattle.fsb_count.specs.Options.{is_some_and, is_before}
 use Rattle.fsb_count.proofs.Interface.{any_where-at, first_where-found}
-use Rattle.fsb_signal.specs.declared.lines.TheConstants.Lines.{HIT, HITM, DEFER}
 use Rattle.fsb_signal.specs.declared.marks.Marks.{Marks}
-use Rattle.fsb_signal.specs.Samples.{line_at}
-use Rattle.fsb_trace.specs.At.{Trace, stalls_at}
+use Rattle.fsb_trace.specs.At.{Trace}
 use Rattle.fsb_trace.specs.Requests.{live_count}
 use Rattle.fsb_trace.specs.Snoop.{is_every_second_from, ends_snoop, snoop_end_from, snoop_end_if, snoop_end_of}
 use Rattle.fsb_trace.specs.Snoop.{snoop_start_of, is_snoop_clock_of, is_snoop_clock}
@@ -17,27 +15,22 @@ use Rattle.fsb_trace.proofs.Interface.{breaks-11, live_below_count, snoop_end_of
 use Rattle.fsb_timely.specs.Moments.{moment_at, snoop_at, number_snooped_at}
 use Rattle.fsb_timely.specs.Past.{Past, SnoopEnd}
 use Rattle.fsb_timely.specs.Runs.{Run, run_to, past_of, past_to}
-use Rattle.fsb_timely.specs.Snoops.{is_keep, is_put_off, drives_bnr, drives_aerr, drives_stalls, drives_defer}
-use Rattle.fsb_timely.specs.Snoops.{keeps_snoop_lines, drives_hazards}
+use Rattle.fsb_timely.specs.Snoops.{is_keep, is_put_off, drives_defer, keeps_snoop_lines, drives_hazards}
 use Rattle.fsb_timely.specs.Timely.{holds_in, holds_at, Timely}
 use Rattle.fsb_timely.proofs.Interface.{moment_of, number-says, snooped-there}
 use Rattle.fsb_lawful.specs.Keeps.{Keeps}
 use Rattle.fsb_lawful.proofs.Cuts.{snooped-to}
-use Rattle.fsb_lawful.proofs.Keeping.{and5, same-beq, keeps}
+use Rattle.fsb_lawful.proofs.Keeping.{keeps}
 
 -- a snoop end is that of a snoop that starts
 end_of_start : (w : Trace) (i : ℕ) → snoop_end_of w i ≡ snoop_end_if w (snoop_start_of w i)
 unfolding snoop_end_of snoop_start_of
-end_of_start w zero = refl
-end_of_start w (suc i) = refl
+end_of_start w i = grind arith
 
 second_by : (w : Trace) (s : ℕ) (o : Option ℕ) → option_and_then (snoop_end_from w) o ≡ Some s
     → is_some_and o (λ start. is_every_second_from start s) ≡ true
 unfolding is_some_and snoop_end_from ends_snoop
-second_by w s None e = absurd (let no : ⊥ = cc in no)
-second_by w s (Some n) e =
-    let h = first_where-found (ends_snoop w n) (length w) s e in
-    (and_parts (is_every_second_from n s) (not (stalls_at w s)) h.1).0
+second_by w s o h1 = grind (arith, first_where-found)
 
 -- it is every second clock from that start
 second : (w : Trace) (i s : ℕ) → snoop_end_of w i ≡ Some s
@@ -73,32 +66,14 @@ put_off-end r c l h =
     numbered r c (λ s. not (is_keep s.turn)) (number_snooped_at (run_to r c).trace c) refl
     (sym (ap (λ o. is_some_and o (λ s. not (is_keep s.turn))) there) ∙ h)
 
-alone : (h m d k : Bool) → (k || not (h || m)) ≡ true → (d ≡ true → k ≡ true) → ((h || m || d) && not k) ≡ false
-alone h m d true e f = and-not-true (h || m || d)
-  where
-    and-not-true : (b : Bool) → (b && false) ≡ false
-    and-not-true true = refl
-    and-not-true false = refl
-alone true m d false e f = absurd (let no : ⊥ = cc in no)
-alone false true d false e f = absurd (let no : ⊥ = cc in no)
-alone false false true false e f = sym (f refl)
-alone false false false false e f = refl
-
 by-parts : (r : Run) (p : Past) (c : ℕ) → drives_hazards r p c ≡ true
     → (is_put_off p c ≡ true → is_snoop_clock r.trace c ≡ true) → is_snoop_line_alone r.trace c ≡ false
 unfolding drives_hazards drives_defer keeps_snoop_lines is_snoop_line_alone
-by-parts r p c e f =
-    let a = and5 (drives_bnr r c) (drives_aerr r c) (drives_stalls r c) (drives_defer r p c)
-    (keeps_snoop_lines r c) e in
-    let same = same-beq (line_at DEFER r.trace c) (is_put_off p c) a.3 in
-    alone (line_at HIT r.trace c) (line_at HITM r.trace c) (line_at DEFER r.trace c) (is_snoop_clock r.trace c)
-    a.4 (λ t. f (sym same ∙ t))
+by-parts r p c e f = grind arith
 
 at-clock : (r : Run) (c : ℕ) → Timely r → c < length r.trace → is_snoop_line_alone (run_to r c).trace c ≡ false
 unfolding holds_at holds_in
-at-clock r c h l =
-    by-parts (run_to r c) (past_to (past_of r) c) c (h.hazard_lines.at c l) (λ t. let e = put_off-end r c l t in
-    end-is_snoop_clock (run_to r c).trace e.0 c e.1)
+at-clock r c h l = grind (arith, by-parts, put_off-end, end-is_snoop_clock)
 
 -- rule 11
 pub keeps-11 : (m : Marks) (r : Run) → Timely r → Keeps m 11 r.trace

@@ -1,19 +1,17 @@
 -- Rule 12: at the snoop end of a write-back or a reply of a timely run there is nothing to be told.
-use Rattle.std.proofs.Common.{nat_eq, Option, None, sym, ℕ, ◌+◌, ◌<◌, ◌≡◌, Bool, true, false, not, ◌&&◌, ◌||◌, Some}
-use Rattle.std.proofs.Common.{length, take, refl, ap, ◌∙◌, arith}
-use Rattle.std.proofs.lemmas.Bool.{and_parts, and_left, and_right}
-use Rattle.std.specs.Bool.{beq}
+use Rattle.std.proofs.Common.{nat_eq, Option, ℕ, ◌<◌, ◌≡◌, Bool, true, false, not, ◌&&◌, ◌||◌, Some, length, refl, ap}
+use Rattle.std.proofs.Common.{◌∙◌, arith}
+use Rattle.std.proofs.lemmas.Bool.{and_right}
 use Rattle.fsb_count.specs.Options.{is_at, is_some_and}
 use Rattle.fsb_count.proofs.Interface.{any_where-none, any_where-off, is_at-some}
 use Rattle.fsb_encode.specs.declared.request.Kind.{Kind}
-use Rattle.fsb_encode.specs.declared.request.Kind.TheVariants.{Reply, Invalidate, Read, WriteBack, Upgrade}
+use Rattle.fsb_encode.specs.declared.request.Kind.TheVariants.{Reply, WriteBack}
 use Rattle.fsb_encode.specs.declared.request.Request.{Request}
 use Rattle.fsb_hazard.specs.Choice.{is_never_held_up}
 use Rattle.fsb_signal.specs.declared.lines.TheConstants.Lines.{HIT, HITM, DEFER}
 use Rattle.fsb_signal.specs.declared.marks.Marks.{Marks}
 use Rattle.fsb_signal.specs.Samples.{line_at}
-use Rattle.fsb_trace.specs.Requests.{is_reply, is_reply_kind, is_write_back, is_write_back_kind, live_count}
-use Rattle.fsb_trace.specs.Requests.{live_request_of}
+use Rattle.fsb_trace.specs.Requests.{is_reply, is_reply_kind, is_write_back, is_write_back_kind, live_request_of}
 use Rattle.fsb_trace.specs.Rules.{is_result_unfit_for, is_snoop_result_unfit}
 use Rattle.fsb_trace.specs.Snoop.{snoop_end_of}
 use Rattle.fsb_trace.proofs.Interface.{breaks-12}
@@ -22,13 +20,13 @@ use Rattle.fsb_timely.specs.Hits.{is_dirty}
 use Rattle.fsb_timely.specs.Past.{Claim, Past, SnoopEnd}
 use Rattle.fsb_timely.specs.Runs.{Run, past_of, past_to, run_to}
 use Rattle.fsb_timely.specs.Snoops.{has_right_result, has_snoop_result, is_dirty_elsewhere, is_dirty_for}
-use Rattle.fsb_timely.specs.Snoops.{is_held_elsewhere, is_held_for, is_keep, is_reply_end, was_hit_before}
+use Rattle.fsb_timely.specs.Snoops.{is_held_elsewhere, is_held_for, is_keep, is_reply_end}
 use Rattle.fsb_timely.specs.Timely.{holds_in, holds_at, Timely}
 use Rattle.fsb_lawful.specs.Beginning.{WantsLawfully}
 use Rattle.fsb_lawful.specs.Keeps.{Keeps}
 use Rattle.fsb_lawful.specs.Premises.{WritesBackAlone}
 use Rattle.fsb_lawful.proofs.Cuts.{snooped-to}
-use Rattle.fsb_lawful.proofs.Keeping.{keeps, not-true, same-beq}
+use Rattle.fsb_lawful.proofs.Keeping.{keeps}
 use Rattle.fsb_lawful.proofs.Turns.{Turned, turned-at, decoded-live}
 
 right-by : (r : Run) (p : Past) (c : ℕ) (s : SnoopEnd) → has_snoop_result r p c ≡ true → snooped_at p c ≡ Some s
@@ -40,9 +38,7 @@ right-by r p c s e there = rw (there, has_snoop_result) at e
 right-at : (r : Run) (c : ℕ) (s : SnoopEnd) → Timely r → c < length r.trace → snooped_at (past_of r) c ≡ Some s
     → has_right_result (run_to r c) (past_to (past_of r) c) c s ≡ true
 unfolding holds_at holds_in
-right-at r c s h l there =
-    right-by (run_to r c) (past_to (past_of r) c) c s (h.snoop_results.at c l)
-    (snooped-to (past_of r) c c (omega arith) ∙ there)
+right-at r c s h l there = grind (arith, right-by, snooped-to)
 
 reply-end : (s : SnoopEnd) (kind : Kind) → s.kind ≡ Some kind → is_reply_end s ≡ is_reply_kind kind
 unfolding is_reply_end is_some_and
@@ -52,21 +48,14 @@ reply-end s kind k = ap (λ o. is_some_and o is_reply_kind) k
 at-reply : (r : Run) (p : Past) (c : ℕ) (s : SnoopEnd) → has_right_result r p c s ≡ true → is_reply_end s ≡ true
     → line_at HITM r.trace c ≡ false
 unfolding has_right_result
-at-reply r p c s e k =
-    let e' = rw (k, has_right_result) at e in
-    not-true (line_at HITM r.trace c)
-    (and_parts (beq (line_at HIT r.trace c) (was_hit_before r p c)) (not (line_at HITM r.trace c)) e').1
+at-reply r p c s e k = grind arith
 
 at-other : (r : Run) (p : Past) (c : ℕ) (s : SnoopEnd) → has_right_result r p c s ≡ true
     → is_reply_end s ≡ false
     → (line_at HITM r.trace c ≡ is_dirty_for p c s)
     × (line_at HIT r.trace c ≡ (not (is_dirty_for p c s) && is_held_for p c s))
 unfolding has_right_result
-at-other r p c s e k =
-    let e' = rw (k, has_right_result) at e in
-    let a = and_parts (beq (line_at HITM r.trace c) (is_dirty_for p c s))
-    (beq (line_at HIT r.trace c) (not (is_dirty_for p c s) && is_held_for p c s)) e' in
-    (same-beq _ _ a.0, same-beq _ _ a.1)
+at-other r p c s e k = grind arith
 
 -- a reply has no HITM#
 reply-clean : (r : Run) (p : Past) (c : ℕ) (s : SnoopEnd) → has_right_result r p c s ≡ true
@@ -86,9 +75,7 @@ alone-clean r p c s e k dirty held =
 -- who is dirty on a line holds it
 dirty-holds : (p : Past) (a line c : ℕ) → is_dirty p a line c ≡ true → holds_line p a line c ≡ true
 unfolding is_dirty is_exclusive
-dirty-holds p a line c e =
-    (and_parts (holds_line p a line c) _
-    (and_parts (holds_line p a line c && _) _ (and_parts (is_exclusive p a line c) _ e).0).0).0
+dirty-holds p a line c e = grind arith
 
 not-dirty : (p : Past) (a line c : ℕ) → is_held_elsewhere p a line c ≡ false → is_dirty_elsewhere p a line c ≡ false
 unfolding is_held_elsewhere is_dirty_elsewhere
@@ -99,26 +86,19 @@ not-dirty p a line c e =
   where
     neither : (other held dirty : Bool) → (other && held) ≡ false → (dirty ≡ true → held ≡ true)
         → (other && dirty) ≡ false
-    neither false held dirty f g = refl
-    neither true held false f g = refl
-    neither true held true f g = sym (g refl) ∙ f
+    neither other held dirty h1 h2 = grind arith
 
 clean-for : (p : Past) (c : ℕ) (s : SnoopEnd) (o : Option Claim) → s.claim ≡ o → is_held_for p c s ≡ false
     → is_dirty_for p c s ≡ false
 unfolding is_held_for is_dirty_for is_some_and
-clean-for p c s None e h = rw e refl
-clean-for p c s (Some claim) e h = rw e (not-dirty p claim.agent claim.line c (rw e at h))
+clean-for p c s o h1 h2 = grind (arith, not-dirty)
 
 -- what the rule asks of a request of this kind
 unfit-by : (kind : Kind) (hit hitm defer : Bool) → (is_never_held_up kind ≡ true → defer ≡ false)
     → (kind ≡ Reply → hitm ≡ false) → (kind ≡ WriteBack → (hitm ≡ false) × (hit ≡ false))
     → ((is_write_back_kind kind || is_reply_kind kind) && (hitm || defer) || is_write_back_kind kind && hit) ≡ false
 unfolding is_write_back_kind is_reply_kind
-unfit-by Reply hit hitm defer f g k = rw (f refl, g refl) refl
-unfit-by WriteBack hit hitm defer f g k = rw (f refl, (k refl).0, (k refl).1) refl
-unfit-by Invalidate hit hitm defer f g k = refl
-unfit-by Read hit hitm defer f g k = refl
-unfit-by Upgrade hit hitm defer f g k = refl
+unfit-by kind hit hitm defer h1 h2 h3 = grind arith
 
 kept-quiet : (r : Run) (c i : ℕ) (k : Turned r c i c) (request : Request)
     → live_request_of (run_to r c).trace i ≡ Some request → is_never_held_up request.kind ≡ true
@@ -152,20 +132,14 @@ ended r c i h wants alone l e =
 unfit : (r : Run) (c i : ℕ) → Timely r → WantsLawfully r → WritesBackAlone r → c < length r.trace → (b : Bool)
     → is_at (snoop_end_of (run_to r c).trace i) c ≡ b → is_result_unfit_for (run_to r c).trace c i ≡ false
 unfolding is_result_unfit_for
-unfit r c i h wants alone l false e = and_left _ _ e
-unfit r c i h wants alone l true e =
-    and_right _ _ (ended r c i h wants alone l (is_at-some (snoop_end_of (run_to r c).trace i) c e))
+unfit r c i h1 h2 h3 h4 b h5 = grind (arith, ended, is_at-some)
 
 at-clock : (r : Run) (c : ℕ) → Timely r → WantsLawfully r → WritesBackAlone r → c < length r.trace
     → is_snoop_result_unfit (run_to r c).trace c ≡ false
 unfolding is_snoop_result_unfit
-at-clock r c h wants alone l =
-    let v = (run_to r c).trace in
-    any_where-off (is_result_unfit_for v c) (live_count v)
-    (λ i m. unfit r c i h wants alone l (is_at (snoop_end_of v i) c) refl)
+at-clock r c h wants alone l = grind (arith, any_where-off, unfit)
 
 -- rule 12
 pub keeps-12 : (m : Marks) (r : Run) → Timely r → WantsLawfully r → WritesBackAlone r → Keeps m 12 r.trace
 unfolding run_to
-keeps-12 m r h wants alone = keeps m 12 r.trace (λ c l. breaks-12 m (take (c + 1) r.trace) c
-    ∙ at-clock r c h wants alone l)
+keeps-12 m r h wants alone = grind (arith, keeps, breaks-12, at-clock)

@@ -1,6 +1,6 @@
 -- A want stays until its request begins.
-use Rattle.std.proofs.Common.{ℕ, suc, ◌+◌, ◌<◌, ◌≡◌, true, false, ◌&&◌, List, [], ◌∷◌, ◌++◌, Option, Some, None}
-use Rattle.std.proofs.Common.{is_some, length, nat_le, nat_lt, refl, sym, ap, ◌∙◌, arith, inl, inr, add-one}
+use Rattle.std.proofs.Common.{ℕ, suc, ◌+◌, ◌<◌, ◌≡◌, true, false, ◌&&◌, List, [], ◌∷◌, ◌++◌, is_some, length, nat_le}
+use Rattle.std.proofs.Common.{nat_lt, refl, sym, ap, ◌∙◌, arith, inl, inr, add-one}
 use Rattle.std.specs.List.{list_all}
 use Rattle.std.proofs.lemmas.Bool.{and_from, and_parts, cases_Bool, le-leb, leb-false, leb-true, lt-leb}
 use Rattle.fsb_access.specs.declared.log.Done.{Done}
@@ -73,10 +73,6 @@ want-same r a c h =
     want_of-alike (c + 1) (past_to (past_of r) c) (past_of r) a c g (below_le c (c + 1) (omega arith))
     (done_below (c + 1) (past_to (past_of r) c) a c g.entries (omega arith) g.at_end)
 
-some-is : {A : Type 0} (o : Option A) → is_some o ≡ true → (x : A) × (o ≡ Some x)
-some-is None e = absurd (let no : ⊥ = cc in no)
-some-is (Some x) e = (x, refl)
-
 -- who begins nothing owes no more
 owes-no-more : (r : Run) (a c : ℕ) → Timely r → c < length r.trace
     → begins_at (run_to r c).trace c (Symmetric a) ≡ false → OwesNoMore (past_of r) a c
@@ -93,10 +89,7 @@ owes-no-more r a c h l begins =
 -- a want stays
 pub wants-last : (r : Run) (a c : ℕ) → Timely r → c < length r.trace → is_some (want_of (past_of r) a c) ≡ true
     → begins_at (run_to r c).trace c (Symmetric a) ≡ false → is_some (want_of (past_of r) a (c + 1)) ≡ true
-wants-last r a c h l some begins =
-    let want = some-is (want_of (past_of r) a c) some in
-    let next = timely-want-stays r a c want.0 h l (owes-no-more r a c h l begins) want.1 in
-    ap (λ o. is_some o) next.1
+wants-last r a c h l some begins = grind (arith, timely-want-stays, owes-no-more)
 
 -- also by the past up to the clock
 pub wants-go-on : (r : Run) (a c : ℕ) → Timely r → suc c < length r.trace

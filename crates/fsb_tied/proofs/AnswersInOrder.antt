@@ -56,14 +56,7 @@ pub record AnswersInOrder (p : Past) (m : ℕ) : Type 0 where
 
 one-snoop : (r : Run) (t u : ℕ) (s e : SnoopEnd) → snooped_at (past_of r) t ≡ Some s → snooped_at (past_of r) u ≡ Some e
     → s.first ≡ e.first → t ≡ u
-one-snoop r t u s e f g same =
-    let a = tied-snoop r t s f in
-    let b = tied-snoop r u e g in
-    let number : a.0 ≡ b.0 = one-begins r.trace a.0 b.0 e.first (a.1.first ∙ ap Some same) b.1.first in
-    let left : snoop_end_of r.trace a.0 ≡ Some t = a.1.reached in
-    let right : snoop_end_of r.trace b.0 ≡ Some u = b.1.reached in
-    let both : Some t ≡ Some u = sym left ∙ ap (snoop_end_of r.trace) number ∙ right in
-    cc
+one-snoop r t u s e f g same = grind (arith, tied-snoop, one-begins)
 
 has-snoop : (r : Run) (t q : ℕ) → Timely r → t < length r.trace → responded_in (past_of r) t ≡ Some q
     → HasSnoop (past_of r) t q
@@ -121,8 +114,7 @@ in-turn r t u n s e h f g l m k =
     let j : ℕ = b.0 in
     let found = responded-number r n e.first h m k in
     let same : found.0 ≡ j = one-begins r.trace found.0 j e.first found.1.first b.1.first in
-    let response : response_clock_of r.trace j ≡ Some n = subst
-    (λ x. response_clock_of r.trace x ≡ Some n) same found.1.response in
+    let response : response_clock_of r.trace j ≡ Some n = grind arith in
     let less = rises r i j t u a.1.reached b.1.reached l in
     let end = ended-before r.trace i j n o less response in
     let low : end.0 < n = end.2 in
@@ -131,12 +123,7 @@ in-turn r t u n s e h f g l m k =
 
 one-response : (r : Run) (t u q : ℕ) → Timely r → t < length r.trace → u < length r.trace
     → responded_in (past_of r) t ≡ Some q → responded_in (past_of r) u ≡ Some q → t ≡ u
-one-response r t u q h l m e f =
-    let a = responded-number r t q h l e in
-    let b = responded-number r u q h m f in
-    let number : a.0 ≡ b.0 = one-begins r.trace a.0 b.0 q a.1.first b.1.first in
-    let both : Some t ≡ Some u = sym a.1.response ∙ ap (response_clock_of r.trace) number ∙ b.1.response in
-    cc
+one-response r t u q h l m e f = grind (arith, responded-number, one-begins)
 
 one-end : (r : Run) (t u q : ℕ) → Timely r → t < length r.trace → u < length r.trace
     → is_end_at (past_of r) t q ≡ true → is_end_at (past_of r) u q ≡ true → t ≡ u
@@ -157,8 +144,7 @@ later-chunk : (w : Trace) (i u n : ℕ) → moves_data w i ≡ true → response
 later-chunk w i u n moves e f same =
     let k = nth_where-found (from_clock u (line_at DRDY w)) 3 (length w) n (sym (end_of-moving w i u moves e) ∙ f) in
     let three : count_where (from_clock u (line_at DRDY w)) n ≡ 3 = k.2 in
-    let none : count_where (from_clock u (line_at DRDY w)) n ≡ 0 = ap
-    (λ x. count_where (from_clock x (line_at DRDY w)) n) same ∙ none-from (line_at DRDY w) n in
+    let none : count_where (from_clock u (line_at DRDY w)) n ≡ 0 = grind (arith, none-from) in
     omega arith
 
 moves-on : (r : Run) (t u n : ℕ) (s : SnoopEnd) → Timely r → snooped_at (past_of r) t ≡ Some s
@@ -173,8 +159,7 @@ moves-on r t u n s h e moves l m f g =
     let i : ℕ = a.0 in
     let left : b.0 ≡ i = one-begins r.trace b.0 i s.first b.1.first a.1.first in
     let right : c.0 ≡ i = one-begins r.trace c.0 i s.first c.1.first a.1.first in
-    let response : response_clock_of r.trace i ≡ Some u = subst
-    (λ x. response_clock_of r.trace x ≡ Some u) left b.1.response in
+    let response : response_clock_of r.trace i ≡ Some u = grind arith in
     let end : end_of r.trace i ≡ Some n = subst (λ x. end_of r.trace x ≡ Some n) right c.1.end in
     let answer = answered r.trace i u (orderly-whole r n h m) response in
     let p = end_of-response r.trace i n end in
@@ -194,8 +179,7 @@ moves-on r t u n s h e moves l m f g =
     let place : told.snoop ≡ t = cc in
     let both : Some turned.end ≡ Some s = sym turned.there ∙ ap (snooped_at (past_of r)) place ∙ e in
     let same : turned.end ≡ s = cc in
-    let does : moves_data v i ≡ true = ap (λ o. is_some_and o does_move)
-    (told.outcome ∙ turned.outcome ∙ ap (λ (x : SnoopEnd). Some x.outcome) same) ∙ moves in
+    let does : moves_data v i ≡ true = grind arith in
     elim (cases_lt u n) [
       | inl less ↦ less
       | inr more ↦ absurd (later-chunk v i u n does cut last (omega arith))
@@ -203,13 +187,5 @@ moves-on r t u n s h e moves l m f g =
 
 -- those of a timely run do, at all its clocks
 pub answers-in-order : (r : Run) → Timely r → AnswersInOrder (past_of r) (length r.trace)
-answers-in-order r h = record {
-  one_snoop = λ t u s e f g same. one-snoop r t u s e f g same;
-  snooped = λ t q l e. has-snoop r t q h l e;
-  responded = λ t q l e. has-response r t q h l e;
-  in_turn = λ t u n s e f g l m k. in-turn r t u n s e h f g l m k;
-  one_response = λ t u q l m e f. one-response r t u q h l m e f;
-  one_end = λ t u q l m e f. one-end r t u q h l m e f;
-  few = λ t q u qs l e. one-at-end r t q u qs h l e;
-  moves = λ t u n s e moves l m f g. moves-on r t u n s h e moves l m f g;
-}
+answers-in-order r h =
+    grind (arith, one-snoop, has-snoop, has-response, in-turn, one-response, one-end, one-at-end, moves-on)

@@ -1,18 +1,16 @@
 -- An access that comes with an end awaited on a line is its agent's, and a load where the oldest link does not own.
-use Rattle.std.proofs.Common.{ℕ, ◌+◌, ◌<◌, ◌≡◌, Bool, true, false, not, ◌&&◌, ◌||◌, List, [], ◌∷◌, map, Some, length}
-use Rattle.std.proofs.Common.{nat_eq, refl, sym, ap, ◌∙◌, arith, inl, inr}
-use Rattle.std.proofs.lemmas.Bool.{and_parts, both_ways, cases_Bool, eq-eqb, eqb-true, or_left, or_right}
+use Rattle.std.proofs.Common.{ℕ, ◌+◌, ◌<◌, ◌≡◌, Bool, true, false, not, ◌||◌, List, [], ◌∷◌, map, Some, length}
+use Rattle.std.proofs.Common.{nat_eq, refl, sym, ap, ◌∙◌, arith}
+use Rattle.std.proofs.lemmas.Bool.{both_ways, eq-eqb, or_left, or_right}
 use Rattle.std.specs.List.{list_all, list_any}
-use Rattle.std.specs.Option.{option_and_then}
 use Rattle.fsb_count.specs.Options.{is_some_and}
 use Rattle.fsb_count.proofs.Interface.{any_where-found}
 use Rattle.fsb_access.specs.declared.access.Access.{Access}
 use Rattle.fsb_access.specs.declared.item.Item.{Item}
-use Rattle.fsb_access.specs.declared.item.Item.TheVariants.{Idle, Locked, One}
 use Rattle.fsb_line.specs.declared.link.Link.{Link}
 use Rattle.fsb_line.specs.Links.{owns}
-use Rattle.fsb_timely.specs.Completions.{Completed, brings_at, completed_of_item, completes_by, is_arrival, is_brought}
-use Rattle.fsb_timely.specs.Completions.{is_there}
+use Rattle.fsb_timely.specs.Completions.{Completed, brings_at, completed_of_item, completes_by, is_arrival}
+use Rattle.fsb_timely.specs.Completions.{is_brought}
 use Rattle.fsb_timely.specs.Grants.{ended_requests, grant_at, is_end_at, is_granted, snooped_at}
 use Rattle.fsb_timely.specs.Hits.{is_hit}
 use Rattle.fsb_timely.specs.Past.{Grant, Past, SnoopEnd}
@@ -47,30 +45,7 @@ record IsBroughtBy (p : Past) (a n : ℕ) (need : Need) : Type 0 where
 
 brought-by : (p : Past) (a n : ℕ) (need : Need) → is_brought p a n need ≡ true → IsBroughtBy p a n need
 unfolding is_brought brings_at grant_at is_end_at is_some_and
-brought-by p a n need e =
-    let t = any_where-found (brings_at p a n need) (n + 1) e in
-    let parts = and_parts (is_granted p a need.line t.0)
-    (is_some_and (grant_at p t.0) (λ x. is_end_at p n x.first && (x.owns || not need.alone))) t.2 in
-    let g = granted-parts p a need.line t.0 parts.0 in
-    let s : SnoopEnd = g.0 in
-    let grant : Grant = g.1 in
-    let there : snooped_at p t.0 ≡ Some s = g.2 in
-    let made : s.grant ≡ Some grant = g.3 in
-    let at : grant_at p t.0 ≡ Some grant = ap (option_and_then (λ (x : SnoopEnd). x.grant)) there ∙ made in
-    let both = and_parts (is_end_at p n grant.first) (grant.owns || not need.alone) (rw at at parts.1) in
-    record {
-      at = t.0;
-      below = t.1;
-      end = s;
-      grant = grant;
-      there = there;
-      made = made;
-      agent = g.4;
-      names = g.5;
-      granted = parts.0;
-      ends = both.0;
-      brings = both.1;
-    }
+brought-by p a n need e = grind (arith, any_where-found, granted-parts)
 
 -- an end at n that is awaited on the line, the only one there
 pub record OneEnd (r : Run) (line n : ℕ) : Type 0 where
@@ -92,12 +67,7 @@ record IsAwaitedGrant (r : Run) (line n a : ℕ) (need : Need) (k : OneEnd r lin
 
 one-listed : (p : Past) (n q x : ℕ) → ended_requests p n ≡ q ∷ [] → is_end_at p n x ≡ true → x ≡ q
 unfolding is_end_at
-one-listed p n q x e f =
-    let f' : list_any (nat_eq x) (q ∷ []) ≡ true = rw e at f in
-    elim (cases_Bool (nat_eq x q)) [
-      | inl same ↦ eqb-true x q same
-      | inr other ↦ absurd (let no : ⊥ = (let f'' = rw other at f' in cc) in no)
-    ]
+one-listed p n q x e f = grind arith
 
 awaited-grant : (r : Run) (line n a : ℕ) (need : Need) (k : OneEnd r line n) → is_brought (past_of r) a n need ≡ true
     → IsAwaitedGrant r line n a need k
@@ -107,14 +77,12 @@ awaited-grant r line n a need k e =
     let by = brought-by p a n need e in
     let low = by.below in
     let within = k.within in
-    let first : by.grant.first ≡ by.end.first =
-    grant-first r a need.line by.at by.end by.grant (omega arith) by.there by.made by.granted in
+    let first : by.grant.first ≡ by.end.first = grind (arith, grant-first) in
     let same : by.grant.first ≡ k.number = one-listed p n k.number by.grant.first k.alone by.ends in
     let number : by.end.first ≡ k.number = sym first ∙ same in
     let at = awaited-there p (length r.trace) n by.at by.end (answers-in-order r k.timely) (omega arith) by.there in
     let awaits : awaited_by by.end ≡ Some k.awaited = sym at ∙ ap (awaited_at p n) number ∙ k.awaits in
-    let both : Some (awaited_by_grant by.end.outcome by.grant) ≡ Some k.awaited =
-    sym (awaits-grant by.end by.grant by.made) ∙ awaits in
+    let both : Some (awaited_by_grant by.end.outcome by.grant) ≡ Some k.awaited = grind (arith, awaits-grant) in
     let one : awaited_by_grant by.end.outcome by.grant ≡ k.awaited = cc in
     record {
       by = by;
@@ -130,15 +98,7 @@ brought-need : (p : Past) (a n : ℕ) (all needs : List Need) (test : Need → B
     → (need : Need) × (is_brought p a n need ≡ true) × (test need ≡ true)
 unfolding completes_by
 brought-need p a n all [] test e f = absurd (let no : ⊥ = cc in no)
-brought-need p a n all (need ∷ needs) test e f =
-    let parts = and_parts (test need) (list_all test needs) f in
-    elim (cases_Bool (completes_by p a n all need)) [
-      | inl t ↦
-          let both = and_parts (is_brought p a n need)
-          (list_all (λ other. nat_eq other.line need.line || is_there p a n other) all) t in
-          (need, both.0, parts.0)
-      | inr g ↦ brought-need p a n all needs test (rw g at e) parts.1
-    ]
+brought-need p a n all (need ∷ needs) test e f = grind (arith, brought-need p a n all needs test)
 
 all-true : (needs : List Need) → list_all (λ need. true) needs ≡ true
 all-true [] = refl
@@ -191,17 +151,13 @@ locked-alone whole [] = refl
 locked-alone whole (access ∷ group) = locked-alone whole group
 
 not-false : (b : Bool) → (b ≡ false → ⊥) → b ≡ true
-not-false true f = refl
-not-false false f = absurd (f refl)
+not-false b h1 = grind arith
 
 loads-of : (p : Past) (a n number : ℕ) (item : Item)
     → (list_all (λ (need : Need). need.alone) (needs_of item) ≡ true → ⊥)
     → Each (LoadsUnowned p n) (completed_of_item a number item)
 unfolding completed_of_item needs_of needs_after plain_need
-loads-of p a n number (One access) none =
-    (or_right (is_hit p a n) (is_load access) (not-false (is_load access) (λ e. none (rw e refl))), tt)
-loads-of p a n number (Locked group) none = absurd (none (locked-alone group group))
-loads-of p a n number (Idle clocks) none = tt
+loads-of p a n number item h1 = grind (arith, locked-alone)
 
 -- where the oldest link of the line does not own, the grant that it came by does not
 unowned-grant : (r : Run) (line n a : ℕ) (need : Need) (link : Link) (links : List Link) (k : OneEnd r line n)

@@ -1,6 +1,6 @@
 -- The end that is awaited after a snoop end is known by its request.
 use Rattle.std.proofs.Common.{ℕ, ◌+◌, ◌<◌, ◌≤◌, ◌≡◌, Bool, true, false, Some, refl, ap, ◌∙◌, arith}
-use Rattle.std.proofs.lemmas.Bool.{eq-eqb, eqb-true}
+use Rattle.std.proofs.lemmas.Bool.{eq-eqb}
 use Rattle.std.specs.Option.{option_and_then}
 use Rattle.fsb_count.specs.Clocks.{first_where}
 use Rattle.fsb_count.specs.Options.{is_some_and}
@@ -11,7 +11,6 @@ use Rattle.fsb_timely.specs.Past.{Grant, Past, SnoopEnd}
 use Rattle.fsb_lawful.proofs.Interface.{some-and}
 use Rattle.fsb_coherent.specs.Awaits.{awaited_at, awaited_by, awaited_by_grant, snoop_end_below}
 use Rattle.fsb_tied.proofs.AnswersInOrder.{AnswersInOrder}
-use Rattle.fsb_tied.proofs.InTurn.{not-so}
 
 pub is-found : (p : Past) (t : ℕ) (s : SnoopEnd) → snooped_at p t ≡ Some s
     → is_some_and (snooped_at p t) (is_snoop_of s.first) ≡ true
@@ -21,11 +20,7 @@ is-found p t s e = rw e (eq-eqb s.first s.first refl)
 pub none-before : (p : Past) (m t k : ℕ) (s : SnoopEnd) → AnswersInOrder p m → snooped_at p t ≡ Some s → k < t
     → is_some_and (snooped_at p k) (is_snoop_of s.first) ≡ false
 unfolding is_snoop_of
-none-before p m t k s a e l =
-    not-so (is_some_and (snooped_at p k) (is_snoop_of s.first)) (λ found.
-    let c = some-and (snooped_at p k) (is_snoop_of s.first) found in
-    let same : k ≡ t = a.one_snoop k t c.0 s c.1 e (eqb-true c.0.first s.first c.2) in
-    omega arith)
+none-before p m t k s a e l = grind (arith, some-and)
 
 pub awaited-there : (p : Past) (m n t : ℕ) (s : SnoopEnd) → AnswersInOrder p m → t ≤ n → snooped_at p t ≡ Some s
     → awaited_at p n s.first ≡ awaited_by s

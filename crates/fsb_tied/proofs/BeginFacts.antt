@@ -1,9 +1,9 @@
 -- The request that begins at a clock, and the one that is cancelled there, come in order.
-use Rattle.std.proofs.Common.{ℕ, ◌+◌, ◌<◌, ◌≤◌, ◌≡◌, true, false, Option, Some, None, length, refl, sym, ap, subst, ◌∙◌}
+use Rattle.std.proofs.Common.{ℕ, ◌+◌, ◌<◌, ◌≤◌, ◌≡◌, true, false, Option, Some, length, refl, sym, ap, subst, ◌∙◌}
 use Rattle.std.proofs.Common.{arith}
 use Rattle.std.specs.Option.{option_and_then}
-use Rattle.std.proofs.lemmas.Bool.{both_ways, eqb-true, false_from_ne_true}
-use Rattle.fsb_count.specs.Options.{is_at, is_some_and}
+use Rattle.std.proofs.lemmas.Bool.{both_ways, false_from_ne_true}
+use Rattle.fsb_count.specs.Options.{is_some_and}
 use Rattle.fsb_count.proofs.Interface.{any_where-off, is_at-some}
 use Rattle.fsb_line.specs.Line.{OpenRequest}
 use Rattle.fsb_line.specs.Links.{is_linked}
@@ -32,27 +32,16 @@ use Rattle.fsb_tied.proofs.Wanted.{want-is, write-back-kind}
 pub uncancelled-below : (r : Run) (n q : ℕ) → n ≤ length r.trace → n ≤ q + 3
     → is_cancelled_below (past_of r) n q ≡ false
 unfolding is_cancelled_below
-uncancelled-below r n q l low =
-    any_where-off (λ t. is_at (cancelled_in (past_of r) t) q) n (λ t below. false_from_ne_true _ (λ e.
-    let c = cancels r t q (omega arith) (is_at-some (cancelled_in (past_of r) t) q e) in
-    let at = c.0 in
-    omega arith))
+uncancelled-below r n q l low = grind (arith, any_where-off, cancels, is_at-some)
 
 snoop-late : (r : Run) (t q : ℕ) (o : Option SnoopEnd) → snooped_at (past_of r) t ≡ o → t ≤ q + 3
     → is_some_and o (is_snoop_of q) ≡ false
 unfolding is_some_and is_snoop_of
-snoop-late r t q None e low = refl
-snoop-late r t q (Some s) e low = false_from_ne_true _ (λ f.
-    let k = snooped-in r t s e in
-    let above = k.1.above in
-    let same : s.first ≡ q = eqb-true s.first q f in
-    omega arith)
+snoop-late r t q o h1 h2 = grind (arith, snooped-in)
 
 pub unsnooped-below : (r : Run) (n q : ℕ) → n ≤ q + 3 → is_snooped_below (past_of r) n q ≡ false
 unfolding is_snooped_below
-unsnooped-below r n q low =
-    any_where-off (λ t. is_some_and (snooped_at (past_of r) t) (is_snoop_of q)) n
-    (λ t below. snoop-late r t q (snooped_at (past_of r) t) refl (omega arith))
+unsnooped-below r n q low = grind (arith, any_where-off, snoop-late)
 
 -- the request for the line that begins at n
 is-begun : (r : Run) (n : ℕ) (claim : Claim) → Timely r → KeepsBounds r.plan → n < length r.trace
@@ -64,8 +53,7 @@ is-begun r n claim h bounds l begun =
     let line = claim.line in
     let k = begun-want r n claim h bounds l begun in
     let w = want-is p a n k.request k.want in
-    let fresh : is_asked_for (owed p a n) line ≡ false =
-    ap (is_asked_for (owed p a n)) (sym k.line) ∙ want_of-new p a n k.request k.want in
+    let fresh : is_asked_for (owed p a n) line ≡ false = grind (arith, want_of-new) in
     record {
       kind = w.purpose;
       wanted = ap (option_and_then (λ request. purpose_of request.kind)) k.want ∙ w.asks;

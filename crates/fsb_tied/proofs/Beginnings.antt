@@ -1,13 +1,12 @@
 -- What begins in a timely run is what its agent wants.
-use Rattle.std.proofs.Common.{ℕ, suc, ◌+◌, ◌/◌, ◌^◌, ◌<◌, ◌≡◌, Bool, true, false, ◌&&◌, Option, Some, None}
-use Rattle.std.proofs.Common.{if◌then◌else◌, length, nat_eq, nat_lt, slice_get, refl, sym, ap, subst, ◌∙◌, arith}
+use Rattle.std.proofs.Common.{ℕ, suc, ◌+◌, ◌/◌, ◌<◌, ◌≡◌, Bool, true, false, ◌&&◌, Option, Some, None, if◌then◌else◌}
+use Rattle.std.proofs.Common.{length, slice_get, refl, sym, ap, ◌∙◌, arith}
 use Rattle.std.specs.Option.{option_and_then, option_map}
-use Rattle.std.proofs.lemmas.Bool.{and_parts, eqb-true, ltb-true}
+use Rattle.std.proofs.lemmas.Bool.{and_parts}
 use Rattle.fsb_count.specs.Options.{is_some_and}
 use Rattle.fsb_encode.specs.Decoded.{is_pair}
 use Rattle.fsb_encode.specs.Request.{are_lawful_fields, clocks, is_lawful_request, pairs_of, row_of}
 use Rattle.fsb_encode.specs.declared.request.Kind.{Kind}
-use Rattle.fsb_encode.specs.declared.request.Kind.TheVariants.{Reply, Invalidate, Read, WriteBack, Upgrade}
 use Rattle.fsb_encode.specs.declared.request.Pair.{Pair}
 use Rattle.fsb_encode.specs.declared.request.Request.{Request}
 use Rattle.fsb_signal.specs.declared.lines.TheConstants.Lines.{ADS}
@@ -28,8 +27,8 @@ use Rattle.fsb_timely.specs.Timely.{Timely, holds_at, holds_in}
 use Rattle.fsb_timely.specs.Wants.{want_of}
 use Rattle.fsb_timely.proofs.Interface.{begun-told, done_below, past-begins, want_of-alike}
 use Rattle.fsb_lawful.specs.Beginning.{KeepsBounds}
-use Rattle.fsb_lawful.proofs.Interface.{begun-decoded, begun-winner, map-some, run_to-agrees, slice_get-take, want-own}
-use Rattle.fsb_lawful.proofs.Interface.{wants-lawfully}
+use Rattle.fsb_lawful.proofs.Interface.{begun-decoded, begun-winner, map-some, run_to-agrees, slice_get-take}
+use Rattle.fsb_lawful.proofs.Interface.{want-own, wants-lawfully}
 
 -- what a claim says: its clock, its winner, and its line by the address word
 record IsClaimAt (w : Trace) (q : ℕ) (claim : Claim) : Type 0 where
@@ -67,11 +66,7 @@ claimed w q claim e = let k = claimed-by w q claim (winner_at w q) refl e in (k.
 
 same-pair : (p q : Pair) → is_pair p q ≡ true → p ≡ q
 unfolding is_pair
-same-pair p q e =
-    let a = and_parts (nat_eq p.addr q.addr) (nat_eq p.req q.req) e in
-    let addr = eqb-true p.addr q.addr a.0 in
-    let req = eqb-true p.req q.req a.1 in
-    λ i. record { addr = addr i; req = req i }
+same-pair p q e = grind arith
 
 -- the words of a clock are those of a request that is there
 pair-there : (f : Request → Pair) (o : Option Request) (k : Option Pair)
@@ -95,11 +90,7 @@ first-words r p c e t =
 word-of : (s : Sample) (b : Bool) (pair : Pair) → (is_known_word s.addr && is_known_word s.req) ≡ b
     → known_pair s ≡ Some pair → s.addr.bits ≡ pair.addr
 unfolding known_pair
-word-of s false pair e f = absurd (let no : ⊥ = (let f' = rw (e, known_pair) at f in cc) in no)
-word-of s true pair e f =
-    let f' : Some (record { addr = s.addr.bits; req = s.req.bits }) ≡ Some pair = rw (e, known_pair) at f in
-    let same : record { addr = s.addr.bits; req = s.req.bits } ≡ pair = cc in
-    ap (λ x. x.addr) same
+word-of s b pair h1 h2 = grind arith
 
 sample-word : (w : Trace) (q : ℕ) (s : Sample) (pair : Pair) → slice_get w q ≡ Some s → known_pair_at w q ≡ Some pair
     → s.addr.bits ≡ pair.addr
@@ -107,25 +98,11 @@ unfolding known_pair_at
 sample-word w q s pair e f =
     word-of s (is_known_word s.addr && is_known_word s.req) pair refl (sym (ap (option_and_then known_pair) e) ∙ f)
 
-low-chunk : (x : Bool) (chunk : ℕ) (z : Bool) → (x && nat_lt chunk 4 && z) ≡ true → chunk < 4
-low-chunk x chunk z e = ltb-true chunk 4 (and_parts x (nat_lt chunk 4) (and_parts (x && nat_lt chunk 4) z e).0).1
-
-low-upgrade : (x : Bool) (chunk : ℕ) (y z : Bool) → (x && nat_lt chunk 4 && y && z) ≡ true → chunk < 4
-low-upgrade x chunk y z e = low-chunk x chunk y (and_parts (x && nat_lt chunk 4 && y) z e).0
-
 -- the first address word of a request that is no reply names its line
 line-word : (request : Request) (kind : Kind) → request.kind ≡ kind → is_reply_kind request.kind ≡ false
     → is_lawful_request request ≡ true → (pairs_of request).0.addr / 4 ≡ request.line
 unfolding pairs_of row_of clocks is_lawful_request are_lawful_fields is_reply_kind
-line-word request Reply e f g = absurd (let no : true ≡ false = (let f' = rw e at f in f') in cc no)
-line-word request Invalidate e f g =
-    let low = low-chunk (nat_lt request.line (2 ^ 31)) request.chunk _ (let g' = rw e at g in g') in rw e (omega arith)
-line-word request Read e f g =
-    let low = low-chunk (nat_lt request.line (2 ^ 31)) request.chunk _ (let g' = rw e at g in g') in rw e (omega arith)
-line-word request WriteBack e f g = rw e (omega arith)
-line-word request Upgrade e f g =
-    let low = low-upgrade (nat_lt request.line (2 ^ 31)) request.chunk _ _ (let g' = rw e at g in g') in
-    rw e (omega arith)
+line-word request kind h1 h2 h3 = grind arith
 
 -- the request of a symmetric agent that begins at q is what the agent wants there, by the past below q and by all of it
 pub record IsBegunWant (r : Run) (q : ℕ) (claim : Claim) : Type 0 where
@@ -142,16 +119,13 @@ pub record IsBegunWant (r : Run) (q : ℕ) (claim : Claim) : Type 0 where
 
 begun-claim : (b : Bool) (o : Option Claim) (claim : Claim) → (if b then o else None) ≡ Some claim
     → (b ≡ true) × (o ≡ Some claim)
-begun-claim true o claim e = (refl, e)
-begun-claim false o claim e = absurd (let no : ⊥ = cc in no)
+begun-claim b o claim h1 = grind arith
 
 by-winner : (r : Run) (q a : ℕ) (request : Request) (who : Who) → Some who ≡ Some (Symmetric a)
     → would_begin (run_to r q) (past_to (past_of r) q) q who ≡ Some request
     → want_of (past_to (past_of r) q) a q ≡ Some request
 unfolding would_begin
-by-winner r q a request (Symmetric b) e f =
-    let same : b ≡ a = cc in subst (λ k. want_of (past_to (past_of r) q) k q ≡ Some request) same f
-by-winner r q a request Priority e f = absurd (let no : ⊥ = cc in no)
+by-winner r q a request who h1 h2 = grind arith
 
 -- a request that is claimed where ADS# is
 claim-want : (r : Run) (q : ℕ) (claim : Claim) → Timely r → KeepsBounds r.plan → q < length r.trace
@@ -165,8 +139,7 @@ claim-want r q claim h bounds l t e =
     let request : Request = words.0 in
     let c = claimed-by r.trace q claim (winner_at r.trace q) refl e in
     let won = begun-winner (would_begin (run_to r q) (past_to (past_of r) q) q) (winner_at v q) request words.1 in
-    let who : Some won.0 ≡ Some (Symmetric claim.agent) =
-    sym won.1 ∙ sym (winner_at-agree (q + 1) r.trace v q agree (omega arith)) ∙ c.winner in
+    let who : Some won.0 ≡ Some (Symmetric claim.agent) = grind (arith, winner_at-agree) in
     let wanted = by-winner r q claim.agent request won.0 who won.2 in
     let goes = past-begins r q h l in
     let want = want_of-alike (q + 1) (past_to (past_of r) q) (past_of r) claim.agent q goes (omega arith)

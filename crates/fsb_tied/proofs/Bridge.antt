@@ -33,8 +33,7 @@ responded-there r t l = ap (option_and_then (λ moment. moment.responded)) (mome
 pub responded-parts : (v : Trace) (t q : ℕ) (b : Bool) → responds_at v t ≡ b → responded_at v t ≡ Some q
     → (responds_at v t ≡ true) × (live_clock_of v (next_response v t) ≡ Some q)
 unfolding responded_at next_response
-responded-parts v t q true e f = (e, let f' = rw (e, responded_at) at f in f')
-responded-parts v t q false e f = absurd (let no : ⊥ = (let f' = rw (e, responded_at) at f in cc) in no)
+responded-parts v t q b h1 h2 = grind arith
 
 -- live request i, which begins at q, has its response at t
 pub record Responds (r : Run) (i t q : ℕ) : Type 0 where
@@ -176,15 +175,10 @@ one-listed test f (suc n) q u qs one e =
     ]
   where
     other : (i : ℕ) → i < n → test n ≡ true → (b : Bool) → test i ≡ b → test i ≡ false
-    other i l t true f = absurd (let same : i ≡ n = one i n f t in omega arith)
-    other i l t false f = f
+    other i h1 h2 b h3 = grind arith
 
 -- one request at most has its end at a clock
 pub one-at-end : (r : Run) (t q u : ℕ) (qs : List ℕ) → Timely r → t < length r.trace
     → ended_requests (past_of r) t ≡ q ∷ u ∷ qs → ⊥
 unfolding requests_ending_at
-one-at-end r t q u qs h l e =
-    let v = (run_to r t).trace in
-    one-listed (λ i. is_at (end_of v i) t) (live_clock_of v) (live_count v) q u qs
-    (λ i j a b. one-ends v i j t (orderly-at r t h l) (is_at-some (end_of v i) t a) (is_at-some (end_of v j) t b))
-    (sym (ended-there r t l) ∙ e)
+one-at-end r t q u qs h l e = grind (arith, one-listed, one-ends, orderly-at, is_at-some, ended-there)

@@ -1,7 +1,6 @@
 -- Where an end is awaited after a snoop end, its link carries data exactly where data are awaited; and then data move.
-use Rattle.std.proofs.Common.{ℕ, ◌≡◌, Bool, true, false, not, ◌&&◌, ◌||◌, Option, Some, None, is_none, is_some, refl}
-use Rattle.std.proofs.Common.{sym, ap, subst, ◌∙◌, inl, inr}
-use Rattle.std.proofs.lemmas.Bool.{cases_Bool}
+use Rattle.std.proofs.Common.{ℕ, ◌≡◌, Bool, true, false, not, ◌&&◌, ◌||◌, Option, Some, None, is_some, refl, ap}
+use Rattle.std.proofs.Common.{subst, ◌∙◌, arith}
 use Rattle.std.specs.Option.{option_map}
 use Rattle.fsb_count.specs.Options.{is_some_and}
 use Rattle.fsb_encode.specs.declared.request.Kind.{Kind}
@@ -11,7 +10,7 @@ use Rattle.fsb_hazard.specs.declared.choice.Turn.{Turn}
 use Rattle.fsb_hazard.specs.declared.choice.Turn.TheVariants.{Defer, Keep, Retry}
 use Rattle.fsb_line.specs.Links.{carries, upgrades}
 use Rattle.fsb_trace.specs.declared.outcome.Outcome.{Outcome}
-use Rattle.fsb_trace.specs.declared.outcome.Outcome.TheVariants.{Deferred, Failed, Granted, Handed, Replied, Retried}
+use Rattle.fsb_trace.specs.declared.outcome.Outcome.TheVariants.{Deferred, Granted, Handed, Replied, Retried}
 use Rattle.fsb_trace.specs.declared.outcome.Outcome.TheVariants.{Upgraded, Written}
 use Rattle.fsb_trace.specs.Outcome.{does_move, outcome_by_kind}
 use Rattle.fsb_trace.specs.Requests.{is_upgrade_kind}
@@ -30,17 +29,12 @@ pub record Carries (p : Past) (line t a : ℕ) (s : SnoopEnd) : Type 0 where
 
 reply-plain : (grant : Option Grant) → upgrades (purpose_granted grant) ≡ false
 unfolding purpose_granted
-reply-plain grant =
-    elim (cases_Bool (is_some_and grant (λ g. g.owns))) [ inl t ↦ rw t refl | inr f ↦ rw f refl ]
+reply-plain grant = grind arith
 
 -- the purpose is that of an upgrade where the kind is
 purpose-kind : (s : SnoopEnd) (kind : Kind) → s.kind ≡ Some kind → upgrades (purpose_at s) ≡ is_upgrade_kind kind
 unfolding purpose_at purpose_of is_upgrade_kind
-purpose-kind s Reply e = rw e (reply-plain s.grant)
-purpose-kind s Invalidate e = rw e refl
-purpose-kind s Read e = rw e refl
-purpose-kind s WriteBack e = rw e refl
-purpose-kind s Upgrade e = rw e refl
+purpose-kind s kind h1 = grind (arith, reply-plain)
 
 purpose-none : (s : SnoopEnd) → s.kind ≡ None → upgrades (purpose_at s) ≡ false
 unfolding purpose_at
@@ -48,35 +42,21 @@ purpose-none s e = rw e (reply-plain s.grant)
 
 by-plain : (p : Past) (line t a : ℕ) (s : SnoopEnd) (outcome : Outcome) → s.outcome ≡ outcome
     → upgrades (purpose_at s) ≡ false → is_upgraded outcome ≡ false → does_move outcome ≡ true → Carries p line t a s
-by-plain p line t a s outcome e plain not_won moves = record {
-  fits = ap (λ b. not (b && is_none (giver_at p line t a s))) plain
-      ∙ sym (ap (λ x. not (is_upgraded x)) e ∙ ap not not_won);
-  moves = λ _. ap does_move e ∙ moves;
-}
+by-plain p line t a s outcome e plain not_won moves = grind arith
 
 without : (x y : Bool) → y ≡ false → not (x && y) ≡ true
-without true y e = ap not e
-without false y e = refl
-
-some-none : (o : Option ℕ) → is_some o ≡ true → is_none o ≡ false
-some-none None e = absurd (let no : ⊥ = cc in no)
-some-none (Some x) e = refl
+without x y h1 = grind arith
 
 -- where another agent hands the line over it is known
 by-owner : (p : Past) (line t a : ℕ) (s : SnoopEnd) → s.outcome ≡ Handed
     → is_some (owner_at (past_to p t) a line t) ≡ true → Carries p line t a s
 unfolding giver_at is_upgraded does_move purpose_at
-by-owner p line t a s e owner = record {
-  fits = rw e (without (upgrades (purpose_at s)) (is_none (owner_at (past_to p t) a line t))
-      (some-none (owner_at (past_to p t) a line t) owner));
-  moves = λ _. rw e refl;
-}
+by-owner p line t a s e owner = grind arith
 
 by-upgrade : (p : Past) (line t a : ℕ) (s : SnoopEnd) → s.outcome ≡ Upgraded → upgrades (purpose_at s) ≡ true
     → Carries p line t a s
 unfolding giver_at is_upgraded purpose_at
-by-upgrade p line t a s e won =
-    record { fits = rw (e, won) refl; moves = λ f. absurd (let no : ⊥ = (let f' = rw e at f in cc) in no) }
+by-upgrade p line t a s e won = grind arith
 
 -- what makes a grant
 pub record Gives (r : Option Request) (turn : Turn) (outcome : Outcome) : Type 0 where
@@ -87,15 +67,7 @@ pub record Gives (r : Option Request) (turn : Turn) (outcome : Outcome) : Type 0
 held-off : (o : Option Request) (turn : Turn) (outcome : Outcome) → Gives o turn outcome → is_got outcome ≡ false
     → is_upgraded outcome ≡ false → (turn ≡ Keep → ⊥) → ⊥
 unfolding is_some_and makes_grant is_always_kept
-held-off None turn outcome g got won kept = let gives = rw won at g.gives in cc
-held-off (Some request) turn outcome g got won kept = by-kind request.kind refl
-  where
-    by-kind : (kind : Kind) → request.kind ≡ kind → ⊥
-    by-kind Reply e = kept (g.kept (rw e refl))
-    by-kind Invalidate e = let gives = rw (e, won) at g.gives in let no : ⊥ = cc in no
-    by-kind Read e = let gives = rw (e, won) at g.gives in let no : ⊥ = cc in no
-    by-kind WriteBack e = let gives = rw (e, won) at g.gives in let no : ⊥ = cc in no
-    by-kind Upgrade e = let gives = rw (e, won) at g.gives in let no : ⊥ = cc in no
+held-off o turn outcome h1 h2 h3 h4 = grind arith
 
 -- a snoop end that makes a grant
 pub settled-carries : (p : Past) (line t a : ℕ) (s : SnoopEnd) (handed : Bool) (turn : Turn) (o : Option Request)
@@ -130,21 +102,11 @@ settled-carries p line t a s false (Defer later) o e k g owner =
 -- a write-back gives its line itself
 pub by-write-back : (p : Past) (line t a : ℕ) (s : SnoopEnd) → s.outcome ≡ Written → Carries p line t a s
 unfolding giver_at is_upgraded does_move purpose_at
-by-write-back p line t a s e = record {
-  fits = rw e (without (upgrades (purpose_at s)) false refl);
-  moves = λ _. rw e refl;
-}
+by-write-back p line t a s e = grind arith
 
 pub written-is : (outcome : Outcome) → is_written outcome ≡ true → outcome ≡ Written
 unfolding is_written
-written-is Written e = refl
-written-is Granted e = absurd (let no : ⊥ = cc in no)
-written-is Handed e = absurd (let no : ⊥ = cc in no)
-written-is Retried e = absurd (let no : ⊥ = cc in no)
-written-is Deferred e = absurd (let no : ⊥ = cc in no)
-written-is Replied e = absurd (let no : ⊥ = cc in no)
-written-is Failed e = absurd (let no : ⊥ = cc in no)
-written-is Upgraded e = absurd (let no : ⊥ = cc in no)
+written-is outcome h1 = grind arith
 
 -- an end is awaited by a grant, or by a write-back
 pub record ByGrant (s : SnoopEnd) (awaited : Awaited) : Type 0 where

@@ -1,15 +1,14 @@
 -- In a timely run the link of a snoop end carries data exactly where the end that is awaited after it brings data.
 use Rattle.std.proofs.Common.{ℕ, ◌≡◌, Bool, true, false, not, ◌&&◌, ◌||◌, if◌then◌else◌, nat_eq, List, Option, Some}
-use Rattle.std.proofs.Common.{None, is_some, refl, sym, ap, ◌∙◌, inl, inr}
-use Rattle.std.proofs.lemmas.Bool.{and_parts, both_ways, cases_Bool, or_left, or_right}
+use Rattle.std.proofs.Common.{None, is_some, refl, sym, ap, ◌∙◌, arith}
+use Rattle.std.proofs.lemmas.Bool.{both_ways}
 use Rattle.std.specs.Option.{option_and_then, option_map}
 use Rattle.fsb_count.specs.Options.{is_some_and}
 use Rattle.fsb_count.proofs.Interface.{any_where-found, first_where-none}
 use Rattle.fsb_encode.specs.declared.request.Kind.{Kind}
-use Rattle.fsb_encode.specs.declared.request.Kind.TheVariants.{Invalidate, Read, Reply, Upgrade, WriteBack}
+use Rattle.fsb_encode.specs.declared.request.Kind.TheVariants.{Upgrade}
 use Rattle.fsb_encode.specs.declared.request.Request.{Request}
 use Rattle.fsb_hazard.specs.declared.choice.Turn.{Turn}
-use Rattle.fsb_hazard.specs.declared.choice.Turn.TheVariants.{Defer, Keep, Retry}
 use Rattle.fsb_line.specs.Links.{carries}
 use Rattle.fsb_signal.specs.declared.lines.TheConstants.Lines.{HITM}
 use Rattle.fsb_signal.specs.Samples.{line_at}
@@ -21,8 +20,8 @@ use Rattle.fsb_trace.specs.Requests.{is_reply, is_reply_kind, live_clock_of, liv
 use Rattle.fsb_trace.proofs.Interface.{snoop_end_of-clock}
 use Rattle.fsb_timely.specs.Grants.{snooped_at}
 use Rattle.fsb_timely.specs.Hits.{is_dirty}
-use Rattle.fsb_timely.specs.Moments.{claim_at, gives_line, grant_for, grant_of, is_upgraded, live_claim_of, makes_grant}
-use Rattle.fsb_timely.specs.Moments.{served_number, turns_in, wins_race, grant_to, is_owner_request, is_shared_at}
+use Rattle.fsb_timely.specs.Moments.{claim_at, gives_line, grant_for, grant_of, is_upgraded, live_claim_of}
+use Rattle.fsb_timely.specs.Moments.{makes_grant, served_number, wins_race, grant_to, is_owner_request, is_shared_at}
 use Rattle.fsb_timely.specs.Past.{Claim, Grant, Past, SnoopEnd}
 use Rattle.fsb_timely.specs.Runs.{Run, past_of, past_to}
 use Rattle.fsb_timely.specs.Snoops.{is_dirty_elsewhere}
@@ -39,33 +38,13 @@ pub granted-await : (s : SnoopEnd) (awaited : Awaited) (grant : Grant) → s.gra
     → awaited_by s ≡ Some awaited
     → ByGrant s awaited
 unfolding awaited_by awaited_by_grant
-granted-await s awaited grant e h =
-    let h' = rw (e, awaited_by) at h in
-    let same : awaited_by_grant s.outcome grant ≡ awaited = cc in
-    record {
-      grant = grant;
-      granted = e;
-      agent = ap (λ (x : Awaited). x.agent) same;
-      names = ap (λ (x : Awaited). x.line) same;
-      carried = ap (λ (x : Awaited). x.carries) same;
-    }
+granted-await s awaited grant e h = grind arith
 
 written-parts : (s : SnoopEnd) (awaited : Awaited) (b : Bool) → is_written s.outcome ≡ b → (o : Option Claim)
     → s.claim ≡ o
     → (if b then option_map awaited_by_claim o else None) ≡ Some awaited → ByWriteBack s awaited
 unfolding awaited_by_claim
-written-parts s awaited false e o f h = absurd (let no : ⊥ = cc in no)
-written-parts s awaited true e None f h = absurd (let no : ⊥ = cc in no)
-written-parts s awaited true e (Some claim) f h =
-    let same : awaited_by_claim claim ≡ awaited = cc in
-    record {
-      written = written-is s.outcome e;
-      claim = claim;
-      claimed = f;
-      agent = ap (λ (x : Awaited). x.agent) same;
-      names = ap (λ (x : Awaited). x.line) same;
-      carried = ap (λ (x : Awaited). x.carries) same;
-    }
+written-parts s awaited b h1 o h2 h3 = grind (arith, written-is)
 
 pub written-await : (s : SnoopEnd) (awaited : Awaited) → s.grant ≡ None → awaited_by s ≡ Some awaited
     → ByWriteBack s awaited
@@ -77,48 +56,28 @@ gives-by : (p : Past) (w : Trace) (i q t : ℕ) (outcome : Outcome) (grant : Gra
     → gives_line p w q t outcome ≡ b
     → grant_of p w i q t outcome ≡ Some grant → gives_line p w q t outcome ≡ true
 unfolding grant_of
-gives-by p w i q t outcome grant true e f = e
-gives-by p w i q t outcome grant false e f = absurd (let no : ⊥ = (let f' = rw (e, grant_of) at f in cc) in no)
+gives-by p w i q t outcome grant b h1 h2 = grind arith
 
 won-race : (p : Past) (t : ℕ) (outcome : Outcome) (o : Option Claim) → is_some_and o (wins_race p t outcome) ≡ true
     → is_upgraded outcome ≡ true
 unfolding is_some_and wins_race
-won-race p t outcome None e = absurd (let no : ⊥ = cc in no)
-won-race p t outcome (Some claim) e = (and_parts (is_upgraded outcome) _ e).0
+won-race p t outcome o h1 = grind arith
 
 gives-parts : (p : Past) (w : Trace) (q t : ℕ) (outcome : Outcome) → gives_line p w q t outcome ≡ true
     → (is_some_and (request_at w q) (λ x. makes_grant x.kind outcome) || is_upgraded outcome) ≡ true
 unfolding gives_line
-gives-parts p w q t outcome e =
-    elim (cases_Bool (is_some_and (request_at w q) (λ x. makes_grant x.kind outcome))) [
-      | inl made ↦ or_left (is_some_and (request_at w q) (λ x. makes_grant x.kind outcome)) (is_upgraded outcome) made
-      | inr none ↦
-          or_right (is_some_and (request_at w q) (λ x. makes_grant x.kind outcome)) (is_upgraded outcome)
-          (won-race p t outcome (claim_at w q) (rw none at e))
-    ]
+gives-parts p w q t outcome e = grind (arith, won-race)
 
 gives-made : (r : Run) (t : ℕ) (s : SnoopEnd) (grant : Grant) → snooped_at (past_of r) t ≡ Some s → s.grant ≡ Some grant
     → Gives (request_at r.trace s.first) s.turn s.outcome
-gives-made r t s grant e f =
-    let tied = tied-snoop r t s e in
-    let made : grant_of (past_of r) r.trace tied.0 s.first t s.outcome ≡ Some grant = sym tied.1.grant ∙ f in
-    record {
-      gives = gives-parts (past_of r) r.trace s.first t s.outcome
-          (gives-by (past_of r) r.trace tied.0 s.first t s.outcome grant
-          (gives_line (past_of r) r.trace s.first t s.outcome) refl made);
-      kept = λ kept. turn-kept r t s e kept;
-    }
+gives-made r t s grant e f = grind (arith, tied-snoop, gives-parts, gives-by, turn-kept)
 
 -- a grant of a request that is no reply is to its own claim
 own-parts : (p : Past) (w : Trace) (q t : ℕ) (outcome : Outcome) (claim : Claim) (grant : Grant) (b : Bool)
     → gives_line p w q t outcome ≡ b → Some grant ≡ own_grant p w q t outcome claim
     → (claim.agent ≡ grant.agent) × (claim.line ≡ grant.line)
 unfolding own_grant grant_to
-own-parts p w q t outcome claim grant false e f = absurd (let no : ⊥ = (let f' = rw e at f in cc) in no)
-own-parts p w q t outcome claim grant true e f =
-    let f' = rw e at f in
-    let same : grant ≡ grant_to q (is_owner_request (request_at w q)) (is_shared_at w t) claim = cc in
-    (sym (ap (λ (g : Grant). g.agent) same), sym (ap (λ (g : Grant). g.line) same))
+own-parts p w q t outcome claim grant b h1 h2 = grind arith
 
 unclaimed : (w : Trace) (i q t : ℕ) → live_clock_of w i ≡ Some q → claim_at w q ≡ None → grant_for w q t i ≡ None
 unfolding grant_for live_claim_of
@@ -137,12 +96,7 @@ no-claim : (p : Past) (w : Trace) (i q t : ℕ) (outcome : Outcome) (grant : Gra
     → live_clock_of w i ≡ Some q → claim_at w q ≡ None → is_reply (request_at w q) ≡ false
     → grant_of p w i q t outcome ≡ Some grant → ⊥
 unfolding grant_of
-no-claim p w i q t outcome grant false e first none plain f = let f' = rw (e, grant_of) at f in cc
-no-claim p w i q t outcome grant true e first none plain f =
-    let f' = rw (e, grant_of, itself w (turns_in p.moments) i q first plain) at f in
-    let g : grant_for w q t i ≡ Some grant = f' in
-    let both : None ≡ Some grant = sym (unclaimed w i q t first none) ∙ g in
-    cc
+no-claim p w i q t outcome grant b h1 h2 h3 h4 h5 = grind (arith, itself, unclaimed)
 
 -- the claim of a request that is granted a line
 pub record ClaimsGrant (s : SnoopEnd) (grant : Grant) : Type 0 where
@@ -168,28 +122,16 @@ request-plain : (o : Option Request) (kind : Kind) → option_map (λ (x : Reque
     → is_reply_kind kind ≡ false
     → is_reply o ≡ false
 unfolding is_reply is_some_and
-request-plain None kind e plain = refl
-request-plain (Some request) kind e plain = let same : request.kind ≡ kind = cc in ap is_reply_kind same ∙ plain
+request-plain o kind h1 h2 = grind arith
 
 -- a line is handed over with HITM# alone
 by-turn : (turn : Turn) (o : Option Request) → outcome_by_turn turn o ≡ Handed → ⊥
 unfolding outcome_by_turn outcome_by_kind
-by-turn Keep None e = cc
-by-turn Keep (Some request) e = by-kind request.kind refl
-  where
-    by-kind : (kind : Kind) → request.kind ≡ kind → ⊥
-    by-kind Reply f = let e' = rw f at e in cc
-    by-kind Invalidate f = let e' = rw f at e in cc
-    by-kind Read f = let e' = rw f at e in cc
-    by-kind WriteBack f = let e' = rw f at e in cc
-    by-kind Upgrade f = let e' = rw f at e in cc
-by-turn Retry o e = cc
-by-turn (Defer later) o e = cc
+by-turn turn o h1 = grind arith
 
 with-hitm : (handed : Bool) (turn : Turn) (o : Option Request) → outcome_under handed turn o ≡ Handed → handed ≡ true
 unfolding outcome_under
-with-hitm true turn o e = refl
-with-hitm false turn o e = absurd (by-turn turn o e)
+with-hitm handed turn o h1 = grind (arith, by-turn)
 
 found-owner : (p : Past) (a line c : ℕ) (o : Option ℕ) → owner_at p a line c ≡ o → is_dirty_elsewhere p a line c ≡ true
     → is_some o ≡ true

@@ -1,7 +1,7 @@
 -- The links of a line that are left, from that of one snoop end on.
-use Rattle.std.proofs.Common.{ℕ, zero, suc, ◌<◌, ◌≡◌, true, false, List, [], ◌∷◌, ◌++◌, Option, Some, None, refl, sym}
-use Rattle.std.proofs.Common.{ap, subst, ◌∙◌, arith, inl, inr}
-use Rattle.std.proofs.lemmas.Bool.{cases_lt, eq-eqb}
+use Rattle.std.proofs.Common.{ℕ, zero, suc, ◌<◌, ◌≡◌, true, false, List, [], ◌∷◌, ◌++◌, Option, Some, refl, ap, subst}
+use Rattle.std.proofs.Common.{arith, inl, inr}
+use Rattle.std.proofs.lemmas.Bool.{cases_lt}
 use Rattle.std.specs.Option.{option_map_or}
 use Rattle.fsb_line.specs.declared.link.Link.{Link}
 use Rattle.fsb_timely.specs.Grants.{is_ended, snooped_at}
@@ -21,8 +21,7 @@ links_at p line n t = option_map_or (link_left p line n t) (snooped_at p t) []
 gone : (p : Past) (line n t : ℕ) (o : Option SnoopEnd) → ((s : SnoopEnd) → o ≡ Some s → is_ended p n s.first ≡ true)
     → option_map_or (link_left p line n t) o [] ≡ []
 unfolding link_left
-gone p line n t None ended = refl
-gone p line n t (Some s) ended = rw (ended s refl) refl
+gone p line n t o h1 = grind arith
 
 pub at-gone : (p : Past) (line n t : ℕ) (s : SnoopEnd) → snooped_at p t ≡ Some s → is_ended p n s.first ≡ true
     → links_at p line n t ≡ []
@@ -35,17 +34,13 @@ pub none-left : (p : Past) (line n t : ℕ)
     → links_left p line n t ≡ []
 unfolding links_left
 none-left p line n zero ended = refl
-none-left p line n (suc t) ended =
-    let before = none-left p line n t (λ u s l e. ended u s (omega arith) e) in
-    let here = gone p line n t (snooped_at p t) (λ s e. ended t s (omega arith) e) in
-    λ i. before i ++ here i
+none-left p line n (suc t) ended = grind (arith, gone, none-left p line n t)
 
 pub at-there : (p : Past) (line n t : ℕ) (s : SnoopEnd) (awaited : Awaited) → snooped_at p t ≡ Some s
     → is_ended p n s.first ≡ false → awaited_by s ≡ Some awaited → awaited.line ≡ line
     → links_at p line n t ≡ link_of p line t s awaited ∷ []
 unfolding link_left link_for
-at-there p line n t s awaited e unended awaits names =
-    rw (e, unended, awaits, eq-eqb awaited.line line names) refl
+at-there p line n t s awaited e unended awaits names = grind arith
 
 -- the first link that is left stays the first
 pub first-left : (p : Past) (line n t b : ℕ) (link : Link) → links_left p line n t ≡ []
@@ -72,26 +67,11 @@ pub others-left : (p : Past) (line n m t b : ℕ) (link : Link) → links_left p
 unfolding links_left
 others-left p line n m t zero link none here none' here' same l = absurd (omega arith)
 others-left p line n m t (suc b) link none here none' here' same l =
-    elim (cases_lt t b) [
-      | inl less ↦
-          let before = others-left p line n m t b link none here none' here' (λ u k j. same u k (omega arith)) less in
-          let now = same b less (omega arith) in
-          λ i. before i ++ now i
-      | inr more ↦
-          let at : t ≡ b = omega arith in
-          let left : links_left p line n t ++ links_at p line n t ≡ link ∷ [] = λ i. none i ++ here i in
-          let right : links_left p line m t ++ links_at p line m t ≡ [] = λ i. none' i ++ here' i in
-          subst (λ k. links_left p line n k ++ links_at p line n k ≡ link ∷
-          (links_left p line m k ++ links_at p line m k)) at
-          (left ∙ ap (λ xs. link ∷ xs) (sym right))
-    ]
+    grind (arith, others-left p line n m t b link none here none' here')
 
 -- links that are all the same are left
 pub same-left : (p : Past) (line n m b : ℕ) → ((u : ℕ) → u < b → links_at p line n u ≡ links_at p line m u)
     → links_left p line n b ≡ links_left p line m b
 unfolding links_left
 same-left p line n m zero same = refl
-same-left p line n m (suc b) same =
-    let before = same-left p line n m b (λ u l. same u (omega arith)) in
-    let here = same b (omega arith) in
-    λ i. before i ++ here i
+same-left p line n m (suc b) same = grind (arith, same-left p line n m b)

@@ -1,10 +1,8 @@
 -- What holds of each access that a timely run completes at a clock holds of each entry of its log there.
 use Rattle.std.proofs.Common.{ℕ, ◌+◌, ◌<◌, ◌≡◌, Bool, true, false, not, ◌&&◌, List, [], ◌∷◌, ◌++◌, map, Option, Some}
-use Rattle.std.proofs.Common.{None, length, nat_eq, refl, sym, subst, inl, inr}
+use Rattle.std.proofs.Common.{length, nat_eq, refl, sym, subst, arith}
 use Rattle.std.specs.Prelude.{⊤}
-use Rattle.std.proofs.lemmas.Bool.{and_from, and_parts, cases_Bool, eqb-true}
 use Rattle.std.specs.List.{filter, list_all}
-use Rattle.std.specs.Option.{option_map_or}
 use Rattle.fsb_access.specs.Access.{accessed_line}
 use Rattle.fsb_access.specs.declared.access.Access.{Access}
 use Rattle.fsb_access.specs.declared.item.Item.{Item}
@@ -34,15 +32,12 @@ each-append so (x ∷ xs) ys h k = (h.0, each-append so xs ys h.1 k)
 all-agents : (so : Completed → Type 0) (list : ℕ → List Completed) → ((a : ℕ) → Each so (list a))
     → Each so (of_all_agents list)
 unfolding of_all_agents
-all-agents so list each =
-    each-append so (list 0 ++ list 1 ++ list 2) (list 3)
-    (each-append so (list 0 ++ list 1) (list 2) (each-append so (list 0) (list 1) (each 0) (each 1)) (each 2)) (each 3)
+all-agents so list each = grind (arith, each-append)
 
 each-if : (so : Completed → Type 0) (p : Past) (c a : ℕ) (b : Bool) → (b ≡ true → Each so (next_accesses p a c))
     → Each so (completed_if p c b a)
 unfolding completed_if
-each-if so p c a true each = each refl
-each-if so p c a false each = tt
+each-if so p c a b h1 = grind arith
 
 -- what holds of the accesses of each agent's next item, where it has a hit or an arrival, holds of all completed ones
 each-completed : (so : Completed → Type 0) (p : Past) (c : ℕ)
@@ -60,15 +55,7 @@ each-next : (so : Completed → Type 0) (p : Past) (a c : ℕ) (number : Option 
     → next_item p a c ≡ item → ((n : ℕ) (i : Item) → next_item p a c ≡ Some i → Each so (completed_of_item a n i))
     → Each so (next_accesses p a c)
 unfolding next_accesses
-each-next so p a c None item e f each =
-    subst (λ o. Each so (option_map_or (λ n. option_map_or (completed_of_item a n) (next_item p a c) []) o []))
-    (sym e) tt
-each-next so p a c (Some n) None e f each =
-    subst (λ o. Each so (option_map_or (λ k. option_map_or (completed_of_item a k) (next_item p a c) []) o [])) (sym e)
-    (subst (λ o. Each so (option_map_or (completed_of_item a n) o [])) (sym f) tt)
-each-next so p a c (Some n) (Some i) e f each =
-    subst (λ o. Each so (option_map_or (λ k. option_map_or (completed_of_item a k) (next_item p a c) []) o [])) (sym e)
-    (subst (λ o. Each so (option_map_or (completed_of_item a n) o [])) (sym f) (each n i f))
+each-next so p a c number item h1 h2 h3 = grind arith
 
 -- the need serves the access: it is of its line, and where the line is not needed for itself the access is a load
 pub record NeedOf (need : Need) (access : Access) : Type 0 where
@@ -81,8 +68,7 @@ Follows so test a =
     (need : Need) (step : Step) → NeedOf need step.access → test need ≡ true → so (record { agent = a; step = step })
 
 not-false : (b : Bool) → not b ≡ false → b ≡ true
-not-false true e = refl
-not-false false e = absurd (let no : ⊥ = cc in no)
+not-false b h1 = grind arith
 
 each-group : (so : Completed → Type 0) (test : Need → Bool) (a n part : ℕ) (whole group : List Access)
     → Follows so test a
@@ -91,21 +77,12 @@ each-group : (so : Completed → Type 0) (test : Need → Bool) (a n part : ℕ)
 unfolding locked_need
 each-group so test a n part whole [] follows e = tt
 each-group so test a n part whole (access ∷ group) follows e =
-    let parts = and_parts (test (locked_need [] whole access)) (list_all test (map (locked_need [] whole) group)) e in (
-      follows (locked_need [] whole access) (record { item = n; part = part; access = access })
-          (record { names = refl; load = λ f. absurd (let no : ⊥ = cc in no) }) parts.0,
-      each-group so test a n (part + 1) whole group follows parts.1,
-    )
+    grind (arith, each-group so test a n (part + 1) whole group follows)
 
 pub each-of-item : (so : Completed → Type 0) (test : Need → Bool) (a n : ℕ) (item : Item) → Follows so test a
     → list_all test (needs_of item) ≡ true → Each so (completed_of_item a n item)
 unfolding completed_of_item needs_of needs_after plain_need
-each-of-item so test a n (One access) follows e =
-    let parts = and_parts (test (plain_need [] access)) true e in (
-      follows (plain_need [] access) (record { item = n; part = 0; access = access })
-          (record { names = refl; load = λ f. not-false (is_load access) f }) parts.0,
-      tt,
-    )
+each-of-item so test a n (One access) follows e = grind arith
 each-of-item so test a n (Locked group) follows e = each-group so test a n 0 group group follows e
 each-of-item so test a n (Idle clocks) follows e = tt
 
@@ -121,21 +98,7 @@ entries-all : (so : Completed → Type 0) (test : Done → Bool) (line c : ℕ) 
     → Each so (map entry_of (filter (λ done. nat_eq done.clock c) log))
     → list_all test (filter (λ done. nat_eq done.clock c && nat_eq (accessed_line done.access) line) log) ≡ true
 entries-all so test line c [] says each = refl
-entries-all so test line c (done ∷ log) says each =
-    elim (cases_Bool (nat_eq done.clock c)) [
-      | inr f ↦ rw f (entries-all so test line c log says (rw f at each))
-      | inl t ↦
-          let both = rw t at each in
-          elim (cases_Bool (nat_eq (accessed_line done.access) line)) [
-            | inr f ↦ rw (t, f) (entries-all so test line c log says both.1)
-            | inl names ↦
-                rw (t, names)
-                (and_from (test done)
-                (list_all test (filter (λ x. nat_eq x.clock c && nat_eq (accessed_line x.access) line) log))
-                (says done (eqb-true (accessed_line done.access) line names) both.0)
-                (entries-all so test line c log says both.1))
-          ]
-    ]
+entries-all so test line c (done ∷ log) says each = grind (arith, entries-all so test line c log says)
 
 -- the accesses of the next item of each agent that completes at n are so
 abbrev NextItems : (Completed → Type 0) → Past → ℕ → (ℕ → Bool) → Type 0

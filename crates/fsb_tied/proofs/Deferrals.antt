@@ -1,12 +1,11 @@
 -- The deferral of a line in the words of the run: a request that is Deferred and awaits its reply; and while there is
 -- one the line is given to nobody.
-use Rattle.std.proofs.Common.{ℕ, ◌+◌, ◌<◌, ◌≤◌, ◌≡◌, ◌≢◌, Bool, true, false, if◌then◌else◌, Option, Some, None, refl}
-use Rattle.std.proofs.Common.{ap, ◌∙◌, ◌⊎◌, arith, inl, inr}
+use Rattle.std.proofs.Common.{ℕ, ◌+◌, ◌<◌, ◌≤◌, ◌≡◌, ◌≢◌, Bool, true, false, Option, Some, None, refl, ap, ◌∙◌, ◌⊎◌}
+use Rattle.std.proofs.Common.{arith, inl, inr}
 use Rattle.std.proofs.lemmas.Bool.{and_from, both_ways, le-leb}
 use Rattle.fsb_count.specs.Clocks.{any_where, from_clock, last_where}
 use Rattle.fsb_count.proofs.Interface.{any_where-none}
 use Rattle.fsb_encode.specs.declared.request.Kind.{Kind}
-use Rattle.fsb_encode.specs.declared.request.Kind.TheVariants.{Reply, Invalidate, Read, WriteBack, Upgrade}
 use Rattle.fsb_encode.specs.declared.request.Request.{Request}
 use Rattle.fsb_hazard.specs.declared.choice.Turn.TheVariants.{Retry}
 use Rattle.fsb_hazard.specs.Choice.{is_never_held_up}
@@ -29,21 +28,12 @@ use Rattle.fsb_tied.proofs.ReplyGrants.{replies-there, reply-behind}
 use Rattle.fsb_tied.proofs.SnoopClaims.{IsClaimed, IsSnooped}
 use Rattle.fsb_tied.proofs.SnoopOutcomes.{kind-fits, outcome-shown}
 
-unless : (b : Bool) (o : Option LineDeferral) (d : LineDeferral) → (if b then None else o) ≡ Some d
-    → (b ≡ false) × (o ≡ Some d)
-unless true o d e = absurd (let wrong : ⊥ = cc in wrong)
-unless false o d e = (refl, e)
-
 deferral-by : (p : Past) (line n : ℕ) (d : LineDeferral) (o : Option ℕ) → last_where (defers_line p line) n ≡ o
     → deferral_below p line n ≡ Some d
     → (t : ℕ) × (o ≡ Some t) × (any_where (from_clock (t + 1) (replies_line p line)) n ≡ false)
     × (deferral_at p line t ≡ Some d)
 unfolding deferral_below
-deferral-by p line n d None e f = absurd (let wrong : ⊥ = (let f' = rw (e, deferral_below) at f in cc) in wrong)
-deferral-by p line n d (Some t) e f =
-    let f' = rw (e, deferral_below) at f in
-    let k = unless (any_where (from_clock (t + 1) (replies_line p line)) n) (deferral_at p line t) d f' in
-    (t, refl, k.0, k.1)
+deferral-by p line n d o h1 h2 = grind arith
 
 -- the deferral of a line at n: live request j was Deferred on it at t, and no reply to j has its snoop end below n
 pub record Awaits (r : Run) (line n : ℕ) (d : LineDeferral) : Type 0 where
@@ -90,8 +80,7 @@ deferral-awaits r line n d h bounds e =
 retried-by : (handed : Bool) (request : Request)
     → (outcome_under handed Retry (Some request) ≡ Handed) ⊎ (outcome_under handed Retry (Some request) ≡ Retried)
 unfolding outcome_under outcome_by_turn
-retried-by true request = inl refl
-retried-by false request = inr refl
+retried-by handed request = grind arith
 
 pub retry-outcome : (r : Run) (n i : ℕ) (s : SnoopEnd) (claim : Claim) → IsSnooped r n i s → (c : IsClaimed r s claim)
     → s.turn ≡ Retry → (s.outcome ≡ Handed) ⊎ (s.outcome ≡ Retried)
@@ -102,17 +91,12 @@ retry-outcome r n i s claim k c e =
 
 written-fits : (outcome : Outcome) → fits_write_back outcome ≡ true → outcome ≡ Written
 unfolding fits_write_back
-written-fits Written e = refl
-written-fits _ e = absurd (let wrong : ⊥ = cc in wrong)
+written-fits outcome h1 = grind arith
 
 held-fits : (kind : Kind) (outcome : Outcome) → fits_kind kind outcome ≡ true → outcome ≢ Written
     → is_never_held_up kind ≡ false
 unfolding fits_kind
-held-fits Reply outcome e other = absurd (let wrong : ⊥ = cc in wrong)
-held-fits Invalidate outcome e other = refl
-held-fits Read outcome e other = refl
-held-fits WriteBack outcome e other = absurd (other (written-fits outcome e))
-held-fits Upgrade outcome e other = refl
+held-fits kind outcome h1 h2 = grind (arith, written-fits)
 
 -- a request that is neither handed over, retried nor a write-back finds no deferral on its line
 pub given-free : (r : Run) (n i : ℕ) (s : SnoopEnd) (claim : Claim) → Timely r → KeepsBounds r.plan

@@ -1,6 +1,6 @@
 -- The ends of live requests, in the moments of a run and in its cut traces; what has ended has its snoop end behind it.
-use Rattle.std.proofs.Common.{ℕ, suc, ◌+◌, ◌<◌, ◌≤◌, ◌≡◌, true, Some, length, nat_eq, refl, sym, ap, ◌∙◌, arith}
-use Rattle.std.proofs.lemmas.Bool.{eq-eqb, eqb-true}
+use Rattle.std.proofs.Common.{ℕ, suc, ◌+◌, ◌<◌, ◌≤◌, ◌≡◌, true, Some, length, nat_eq, refl, ◌∙◌, arith}
+use Rattle.std.proofs.lemmas.Bool.{eq-eqb}
 use Rattle.fsb_count.specs.Options.{is_at, is_some_and}
 use Rattle.fsb_count.proofs.Interface.{any_where-at, any_where-found, is_at-from, is_at-some, nth_where-found}
 use Rattle.fsb_trace.specs.At.{Trace, responds_at}
@@ -26,11 +26,7 @@ use Rattle.fsb_tied.proofs.Bridge.{ended-at}
 pub ending : (r : Run) (c q : ℕ) → c < length r.trace → is_end_at (past_of r) c q ≡ true
     → (i : ℕ) × (end_of (run_to r c).trace i ≡ Some c) × (live_clock_of (run_to r c).trace i ≡ Some q)
 unfolding requests_ending_at
-ending r c q l e =
-    let u = (run_to r c).trace in
-    let k = any-from (λ i. is_at (end_of u i) c) (live_clock_of u) (nat_eq q) (live_count u)
-    (sym (ended-at r c q l) ∙ e) in
-    (k.0, is_at-some (end_of u k.0) c k.1.there, k.1.gives ∙ ap Some (sym (eqb-true q k.1.given k.1.passes)))
+ending r c q l e = grind (arith, any-from, ended-at, is_at-some)
 
 -- and the moment of c has its end
 ending-there : (r : Run) (c q i : ℕ) → c < length r.trace → end_of (run_to r c).trace i ≡ Some c
@@ -97,11 +93,7 @@ end-below r e i x q h l end below clock =
 -- the snoop end of a live request is in the moment of its clock
 pub snooped-there : (r : Run) (i s q : ℕ) → snoop_end_of r.trace i ≡ Some s → live_clock_of r.trace i ≡ Some q
     → (end : SnoopEnd) × IsSnoopOf r i s end × (end.first ≡ q)
-snooped-there r i s q snoop clock =
-    let k = snoop-tied r i s snoop in
-    let first = k.1.first in
-    let same : k.0.first ≡ q = cc in
-    (k.0, k.1, same)
+snooped-there r i s q snoop clock = grind (arith, snoop-tied)
 
 pub snooped-below : (r : Run) (n i s q : ℕ) → s < n → snoop_end_of r.trace i ≡ Some s → live_clock_of r.trace i ≡ Some q
     → is_snooped_below (past_of r) n q ≡ true

@@ -1,7 +1,7 @@
 -- The request whose end at a clock is awaited on a line: its snoop end, its claim, and whether memory takes its data.
 use Rattle.std.proofs.Common.{ℕ, ◌+◌, ◌<◌, ◌≤◌, ◌≡◌, true, false, nat_eq, List, [], ◌∷◌, Option, Some, None, length}
-use Rattle.std.proofs.Common.{refl, sym, ap, subst, ◌∙◌, arith, inl, inr}
-use Rattle.std.proofs.lemmas.Bool.{and_parts, cases_Bool, eq-eqb, eqb-true}
+use Rattle.std.proofs.Common.{refl, sym, ap, subst, ◌∙◌, arith}
+use Rattle.std.proofs.lemmas.Bool.{and_parts, eqb-true}
 use Rattle.std.specs.Option.{option_and_then}
 use Rattle.fsb_count.specs.Options.{is_some_and}
 use Rattle.fsb_trace.specs.Outcome.{does_take}
@@ -64,8 +64,7 @@ taken-ends r line n i h bounds l e takes =
     (is_some_and (settled_of r p i) does_take) takes in
     let c = some-and (live_claim_of r.trace i) (λ (x : Claim). nat_eq x.line line) parts.0 in
     let claims : s.claim ≡ Some c.0 = sym (live-claim r i a.snoop s k.1) ∙ c.1 in
-    let takes' : does_take s.outcome ≡ true =
-    ap (λ x. is_some_and x does_take) (sym (live-settled r i a.snoop s k.1)) ∙ parts.1 in
+    let takes' : does_take s.outcome ≡ true = grind (arith, live-settled) in
     let t = taking-at r line a.snoop s c.0 h bounds (omega arith) k.1.there claims
     (eqb-true c.0.line line c.2) takes' in
     let ends = number-ended r i n s.first l o (record { end = e; first = k.1.first }) in
@@ -90,11 +89,7 @@ one-only : (p : Past) (n q : ℕ) (qs : List ℕ) → ended_requests p n ≡ qs
     → ended_requests p n ≡ q ∷ []
 unfolding is_end_at
 one-only p n q [] e few ends = absurd (let no : ⊥ = (let f = rw e at ends in cc) in no)
-one-only p n q (x ∷ []) e few ends =
-    elim (cases_Bool (nat_eq q x)) [
-      | inl same ↦ e ∙ ap (λ k. k ∷ []) (sym (eqb-true q x same))
-      | inr other ↦ absurd (let no : ⊥ = (let f = rw (e, other) at ends in cc) in no)
-    ]
+one-only p n q (x ∷ []) e few ends = grind arith
 one-only p n q (x ∷ y ∷ zs) e few ends = absurd (few x y zs e)
 
 pub ends-line : (r : Run) (line n : ℕ) → Timely r → n < length r.trace → EndsOn (past_of r) line n → EndsLine r line n
@@ -158,18 +153,10 @@ claims-line r line n k h bounds l takes = by-grant k.end.claim k.end.grant refl 
 pub ending-takes : (r : Run) (line n : ℕ) (k : EndsLine r line n) → does_take k.end.outcome ≡ true
     → ClaimsLine k.end line → takes_line r line k.number ≡ true
 unfolding is_some_and
-ending-takes r line n k takes c =
-    let claims = live-claim r k.number k.at k.end k.tied ∙ c.claims in
-    let settled = live-settled r k.number k.at k.end k.tied in
-    rw (claims, settled, eq-eqb c.claim.line line c.names) takes
+ending-takes r line n k takes c = grind (arith, live-claim, live-settled)
 
 -- and where memory takes none of its data it is not
 pub ending-takes-none : (r : Run) (line n : ℕ) (k : EndsLine r line n) → does_take k.end.outcome ≡ false
     → takes_line r line k.number ≡ true → ⊥
 unfolding is_some_and
-ending-takes-none r line n k none takes =
-    let parts = and_parts (is_some_and (live_claim_of r.trace k.number) (λ claim. nat_eq claim.line line))
-    (is_some_and (settled_of r (past_of r) k.number) does_take) takes in
-    let settled = live-settled r k.number k.at k.end k.tied in
-    let takes' = rw (settled, none) at parts.1 in
-    cc
+ending-takes-none r line n k none takes = grind (arith, live-settled)

@@ -1,5 +1,5 @@
 -- The accesses of each clock of a timely run are served.
-use Rattle.std.proofs.Common.{ℕ, ◌+◌, ◌<◌, length, arith}
+use Rattle.std.proofs.Common.{ℕ, ◌<◌, length, arith}
 use Rattle.fsb_timely.specs.Runs.{Run, past_of}
 use Rattle.fsb_timely.specs.Timely.{Timely}
 use Rattle.fsb_coherent.specs.Facts.{AccessesServed}
@@ -7,10 +7,4 @@ use Rattle.fsb_tied.proofs.ServedAccesses.{hits-served, others-served}
 use Rattle.fsb_tied.proofs.Unlinked.{arrived-ready, unlinked}
 
 pub accesses-served : (r : Run) (line n : ℕ) → Timely r → n < length r.trace → AccessesServed (past_of r) line n
-accesses-served r line n h l = record {
-  hits = hits-served r line n h l;
-  others = others-served r line n h l;
-  unlinked = λ a holds ready. unlinked r a line n h (omega arith) holds ready;
-  unlinked_after = λ a holds arrived. unlinked r a line (n + 1) h (omega arith) holds
-      (arrived-ready (past_of r) a line (n + 1) n (omega arith) arrived);
-}
+accesses-served r line n h l = grind (arith, hits-served, others-served, unlinked, arrived-ready)

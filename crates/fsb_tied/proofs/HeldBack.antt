@@ -1,37 +1,33 @@
 -- A write-back begins only where no other agent's request for the line is open.
-use Rattle.std.proofs.Common.{ℕ, zero, suc, ◌+◌, ◌<◌, ◌≤◌, ◌≡◌, Bool, true, false, not, ◌&&◌, if◌then◌else◌, List, []}
-use Rattle.std.proofs.Common.{◌∷◌, Option, Some, None, length, nat_eq, nat_lt, refl, sym, ap, ◌∙◌, inl, inr, arith}
+use Rattle.std.proofs.Common.{ℕ, zero, suc, ◌+◌, ◌<◌, ◌≤◌, ◌≡◌, Bool, true, false, not, if◌then◌else◌, List, [], ◌∷◌}
+use Rattle.std.proofs.Common.{Option, Some, None, length, nat_eq, refl, sym, ap, ◌∙◌, inl, inr, arith}
 use Rattle.std.specs.List.{filter, filter_map, list_any}
 use Rattle.std.specs.Option.{option_map_or}
-use Rattle.std.proofs.lemmas.Bool.{and_from, and_parts, both_ways, cases_Bool, eq-eqb, eqb-true, false_from_ne_true}
-use Rattle.std.proofs.lemmas.Bool.{lt-ltb, ltb-true, not-true, or_from}
+use Rattle.std.proofs.lemmas.Bool.{and_from, both_ways, cases_Bool, eq-eqb, eqb-true, not-true}
 use Rattle.std.proofs.lemmas.List.Folds.{list_any-append}
 use Rattle.fsb_count.specs.Clocks.{all_where}
-use Rattle.fsb_count.specs.Options.{is_before, is_some_and}
+use Rattle.fsb_count.specs.Options.{is_some_and}
 use Rattle.fsb_count.proofs.Interface.{any_where-none, is_before-parts}
 use Rattle.fsb_encode.specs.declared.request.Request.{Request}
 use Rattle.fsb_line.specs.Line.{OpenRequest}
-use Rattle.fsb_signal.specs.declared.lines.TheConstants.Lines.{ADS, AERR, BNR}
+use Rattle.fsb_signal.specs.declared.lines.TheConstants.Lines.{ADS}
 use Rattle.fsb_signal.specs.Samples.{line_at}
 use Rattle.fsb_trace.specs.declared.who.Who.{Who}
 use Rattle.fsb_trace.specs.declared.who.Who.TheVariants.{Symmetric}
-use Rattle.fsb_trace.specs.At.{line_back}
 use Rattle.fsb_trace.specs.Flight.{has_ended, in_flight, is_dropped, is_in_flight}
-use Rattle.fsb_trace.specs.Requests.{is_cancelled, is_live, is_write_back_kind, live_number_of}
-use Rattle.fsb_trace.specs.Response.{end_of}
+use Rattle.fsb_trace.specs.Requests.{is_cancelled, is_write_back_kind}
 use Rattle.fsb_trace.specs.Winner.{winner_at}
 use Rattle.fsb_trace.proofs.Interface.{line_at-agree, live_clock_of-number, winner_at-agree}
 use Rattle.fsb_timely.specs.Grants.{is_claim_of_other, snooped_at}
 use Rattle.fsb_timely.specs.Moments.{claim_at, is_snoop_of, is_snooped_in, is_unsnooped, moment_at, snoop_at}
-use Rattle.fsb_timely.specs.Past.{Claim, Moment, Past}
+use Rattle.fsb_timely.specs.Past.{Claim, Past}
 use Rattle.fsb_timely.specs.Runs.{Run, moments_below, past_of, past_to, past_with, run_to}
-use Rattle.fsb_timely.specs.Starts.{drives_ads, drives_pair, has_free_winner, has_room, is_kept_back, is_spaced}
-use Rattle.fsb_timely.specs.Starts.{may_begin, starts_requests}
+use Rattle.fsb_timely.specs.Starts.{drives_ads, has_free_winner, is_kept_back, may_begin, starts_requests}
 use Rattle.fsb_timely.specs.Timely.{Timely, holds_at, holds_in}
 use Rattle.fsb_timely.specs.Wants.{is_held_back, is_open_to_other, unsnooped_at, want_of}
 use Rattle.fsb_timely.proofs.Interface.{claim_at-agree, done_below, is_held_back-alike, moment-at, moment_of}
 use Rattle.fsb_timely.proofs.Interface.{past-begins, snooped-there as snooped-in-moments}
-use Rattle.fsb_lawful.proofs.Interface.{IsListed, and4, any-listed, length-cut, run_to-agrees, same-beq}
+use Rattle.fsb_lawful.proofs.Interface.{IsListed, any-listed, run_to-agrees}
 use Rattle.fsb_coherent.specs.Relation.{IsOpen, is_cancelled_below, is_snooped_below}
 use Rattle.fsb_tied.proofs.Beginnings.{IsBegunWant, begun-there}
 use Rattle.fsb_tied.proofs.Ended.{end-below, ended-snooped}
@@ -45,15 +41,12 @@ given-step : {Y : Type 0} (give : ℕ → Option Y) (test : ℕ → Bool) (x : �
     → test x ≡ b → give x ≡ o → filter_map give (filter test xs) ≡ filter_map (given_if give test) xs
     → filter_map give (filter test (x ∷ xs)) ≡ filter_map (given_if give test) (x ∷ xs)
 unfolding given_if
-given-step give test x xs false o e f same = rw e same
-given-step give test x xs true None e f same = rw (e, f) same
-given-step give test x xs true (Some y) e f same = rw (e, f) (ap (λ ys. y ∷ ys) same)
+given-step give test x xs b o h1 h2 h3 = grind arith
 
 given-passing : {Y : Type 0} (give : ℕ → Option Y) (test : ℕ → Bool) (xs : List ℕ)
     → filter_map give (filter test xs) ≡ filter_map (given_if give test) xs
 given-passing give test [] = refl
-given-passing give test (x ∷ xs) =
-    given-step give test x xs (test x) (give x) refl refl (given-passing give test xs)
+given-passing give test (x ∷ xs) = grind (arith, given-step, given-passing give test xs)
 
 given-there : {Y : Type 0} (give : ℕ → Option Y) (test : ℕ → Bool) (q : ℕ) (y : Y) → test q ≡ true → give q ≡ Some y
     → given_if give test q ≡ Some y
@@ -66,10 +59,7 @@ none-in : (r : Run) (q m : ℕ)
     → is_snooped_in (moments_below r m) q ≡ false
 unfolding is_snooped_in moments_below
 none-in r q zero none = refl
-none-in r q (suc m) none =
-    let test : Moment → Bool = λ moment. is_some_and moment.snooped (is_snoop_of q) in
-    list_any-append test (moments_below r m) (moment_of r m ∷ [])
-    ∙ or_from _ _ (none-in r q m (λ t l. none t (omega arith))) (or_from _ _ (none m (omega arith)) refl)
+none-in r q (suc m) none = grind (arith, list_any-append, none-in r q m)
 
 snoop-none : (r : Run) (n q t : ℕ) → n ≤ length r.trace → t < n → is_snooped_below (past_of r) n q ≡ false
     → is_some_and (moment_of r t).snooped (is_snoop_of q) ≡ false
@@ -84,23 +74,16 @@ open-flies : (r : Run) (e q : ℕ) → Timely r → e < length r.trace → q < e
     → is_in_flight (run_to r e).trace (e + 1) q ≡ true
 unfolding is_in_flight is_dropped has_ended is_cancelled
 open-flies r e q h l below asks uncancelled unsnooped =
-    let u = (run_to r e).trace in
-    let agree = run_to-agrees r e l in
-    let size = length-cut r e l in
-    let ads = sym (line_at-agree ADS (e + 1) r.trace u q agree below) ∙ asks in
-    let kept : (line_at AERR u (q + 3) && nat_lt (q + 3) (e + 1)) ≡ false = false_from_ne_true _ (λ t.
-    let parts = and_parts (line_at AERR u (q + 3)) (nat_lt (q + 3) (e + 1)) t in
-    let low = ltb-true (q + 3) (e + 1) parts.1 in
-    both_ways (is_cancelled_below (past_of r) (suc e) q) uncancelled
-    (cancelled-below r (suc e) q (omega arith) (omega arith) asks
-    (line_at-agree AERR (e + 1) r.trace u (q + 3) agree low ∙ parts.0))) in
-    let going : (is_live u q && is_before (end_of u (live_number_of u q)) (e + 1)) ≡ false = false_from_ne_true _ (λ t.
-    let parts = and_parts (is_live u q) _ t in
-    let x = is_before-parts (end_of u (live_number_of u q)) (e + 1) parts.1 in
-    let clock = live_clock_of-number u q (omega arith) parts.0 in
-    let ended = end-below r e (live_number_of u q) x.0 q h l x.1 x.2 clock in
-    both_ways (is_snooped_below (past_of r) (suc e) q) unsnooped (ended-snooped r (suc e) q h (omega arith) ended)) in
-    and_from _ _ (and_from _ _ (and_from _ _ ads (lt-ltb q (e + 1) below)) (ap not kept)) (ap not going)
+    grind (
+      arith,
+      run_to-agrees,
+      line_at-agree,
+      cancelled-below,
+      is_before-parts,
+      live_clock_of-number,
+      end-below,
+      ended-snooped,
+    )
 
 -- so it is among the open ones that the clock leaves
 open-left : (r : Run) (e q : ℕ) (claim : Claim) (f : Claim → Bool) → Timely r → e < length r.trace → q < e + 1
@@ -136,11 +119,7 @@ free-by p n a o e f = let f' = rw e at f in not-true (is_held_back p a n) f'
 free-winner : (r : Run) (p : Past) (n a : ℕ) → starts_requests r p n ≡ true → line_at ADS r.trace n ≡ true
     → winner_at r.trace n ≡ Some (Symmetric a) → is_held_back p a n ≡ false
 unfolding starts_requests drives_ads may_begin has_free_winner
-free-winner r p n a e ads won =
-    let drives = (and_parts (drives_ads r p n) (drives_pair r p n) e).0 in
-    let begins = sym (same-beq (line_at ADS r.trace n) (may_begin r p n) drives) ∙ ads in
-    let parts = and4 (is_spaced r n) (has_room r n) (not (line_back BNR r.trace n 2)) (has_free_winner r p n) begins in
-    free-by p n a (winner_at r.trace n) won parts.3
+free-winner r p n a e ads won = grind (arith, free-by)
 
 -- the agent whose request begins is not held back
 begun-free : (r : Run) (n : ℕ) (claim : Claim) → Timely r → n < length r.trace → IsBegunWant r n claim
@@ -170,12 +149,7 @@ others-open : (r : Run) (n a b line : ℕ) (request : OpenRequest) → Timely r 
     → IsOpen (past_of r) b line n request → nat_eq b a ≡ false → is_open_to_other (past_of r) a n line ≡ true
 unfolding is_open_to_other
 others-open r zero a b line request h l k f = let below = k.before in absurd (omega arith)
-others-open r (suc e) a b line request h l k f =
-    let below = k.before in
-    let claim : Claim = record { first = request.number; agent = b; line = line } in
-    let begun = begun-there r request.number claim (omega arith) k.begun in
-    open-left r e request.number claim (is_claim_of_other a line) h (omega arith) (omega arith) begun.0 begun.1
-    (other-claim a b line request.number f) k.uncancelled k.unsnooped
+others-open r (suc e) a b line request h l k f = grind (arith, begun-there, open-left, other-claim)
 
 -- where an agent's write-back of a line begins no other agent has an open request for the line
 pub none-other : (r : Run) (n : ℕ) (claim : Claim) → Timely r → n < length r.trace → (k : IsBegunWant r n claim)

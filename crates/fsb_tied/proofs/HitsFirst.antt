@@ -1,7 +1,7 @@
 -- The entries of a clock on a line: those of hits come before the others.
 use Rattle.std.proofs.Common.{◌≡◌, ℕ, ◌<◌, Bool, true, false, ◌&&◌, not, if◌then◌else◌, nat_eq, List, [], ◌∷◌, ◌++◌}
-use Rattle.std.proofs.Common.{map, Option, Some, None, length, refl, sym, ap, subst, inl, inr}
-use Rattle.std.proofs.lemmas.Bool.{and_parts, cases_Bool}
+use Rattle.std.proofs.Common.{map, Option, Some, None, length, refl, sym, ap, subst, inl, inr, arith}
+use Rattle.std.proofs.lemmas.Bool.{cases_Bool}
 use Rattle.std.specs.List.{filter, list_all}
 use Rattle.std.specs.Option.{option_map_or}
 use Rattle.fsb_access.specs.Access.{accessed_line}
@@ -28,39 +28,21 @@ front f (x ∷ xs) = if f x then front f xs else list_all (λ y. not (f y)) xs
 
 pub all-kept : {X : Type 0} (f : X → Bool) (xs : List X) → list_all f xs ≡ true → filter f xs ≡ xs
 all-kept f [] h = refl
-all-kept f (x ∷ xs) h =
-    let parts = and_parts (f x) (list_all f xs) h in
-    rw (parts.0, all-kept f xs parts.1) refl
+all-kept f (x ∷ xs) h = grind (arith, all-kept f xs)
 
 pub none-kept : {X : Type 0} (f : X → Bool) (xs : List X) → list_all (λ x. not (f x)) xs ≡ true → filter f xs ≡ []
 none-kept f [] h = refl
-none-kept f (x ∷ xs) h =
-    elim (cases_Bool (f x)) [
-      | inl t ↦ absurd (let no : ⊥ = (let h' = rw t at h in cc) in no)
-      | inr e ↦ rw e (none-kept f xs (rw e at h))
-    ]
+none-kept f (x ∷ xs) h = grind (arith, none-kept f xs)
 
 -- so those that pass, and then the others, are all of them in their order
 front-parts : {X : Type 0} (f : X → Bool) (xs : List X) → front f xs ≡ true
     → filter f xs ++ filter (λ x. not (f x)) xs ≡ xs
 front-parts f [] h = refl
-front-parts f (x ∷ xs) h =
-    elim (cases_Bool (f x)) [
-      | inl t ↦ rw t (ap (λ ys. x ∷ ys) (front-parts f xs (rw t at h)))
-      | inr e ↦
-          let none : list_all (λ y. not (f y)) xs ≡ true = rw e at h in
-          let kept = all-kept (λ y. not (f y)) xs none in
-          rw (e, none-kept f xs none, kept) refl
-    ]
+front-parts f (x ∷ xs) h = grind (arith, all-kept, none-kept, front-parts f xs)
 
 all-filtered : {X : Type 0} (f g : X → Bool) (xs : List X) → list_all f xs ≡ true → list_all f (filter g xs) ≡ true
 all-filtered f g [] h = refl
-all-filtered f g (x ∷ xs) h =
-    let parts = and_parts (f x) (list_all f xs) h in
-    elim (cases_Bool (g x)) [
-      | inl t ↦ rw (t, parts.0, all-filtered f g xs parts.1) refl
-      | inr e ↦ rw e (all-filtered f g xs parts.1)
-    ]
+all-filtered f g (x ∷ xs) h = grind (arith, all-filtered f g xs)
 
 front-filtered : {X : Type 0} (f g : X → Bool) (xs : List X) → front f xs ≡ true → front f (filter g xs) ≡ true
 front-filtered f g [] h = refl
@@ -86,21 +68,13 @@ front-filtered f g (x ∷ xs) h =
 front-append : {X : Type 0} (f : X → Bool) (xs ys : List X) → list_all f xs ≡ true → list_all (λ y. not (f y)) ys ≡ true
     → front f (xs ++ ys) ≡ true
 front-append f [] [] h k = refl
-front-append f [] (y ∷ ys) h k =
-    elim (cases_Bool (f y)) [
-      | inl t ↦ absurd (let no : ⊥ = (let k' = rw t at k in cc) in no)
-      | inr e ↦ rw e (rw e at k)
-    ]
-front-append f (x ∷ xs) ys h k =
-    let parts = and_parts (f x) (list_all f xs) h in
-    rw parts.0 (front-append f xs ys parts.1 k)
+front-append f [] (y ∷ ys) h k = grind arith
+front-append f (x ∷ xs) ys h k = grind (arith, front-append f xs ys)
 
 all-appended : {X : Type 0} (f : X → Bool) (xs ys : List X) → list_all f xs ≡ true → list_all f ys ≡ true
     → list_all f (xs ++ ys) ≡ true
 all-appended f [] ys h k = k
-all-appended f (x ∷ xs) ys h k =
-    let parts = and_parts (f x) (list_all f xs) h in
-    rw (parts.0, all-appended f xs ys parts.1 k) refl
+all-appended f (x ∷ xs) ys h k = grind (arith, all-appended f xs ys)
 
 -- the accesses of the next item of an agent that passes are those of one that passes
 steps-own : (test : ℕ → Bool) (a : ℕ) (steps : List Step) → test a ≡ true
@@ -158,20 +132,11 @@ front-named test (done ∷ entries) h =
         → list_all (λ (x : Completed). test x.agent) (map entry_of entries) ≡ true
         → list_all (λ (done : Done). test done.agent) entries ≡ true
     all-named test [] h = refl
-    all-named test (done ∷ entries) h =
-        let parts = and_parts (test done.agent) (list_all (λ (x : Completed). test x.agent) (map entry_of entries)) h in
-        rw (parts.0, all-named test entries parts.1) refl
+    all-named test (done ∷ entries) h = grind (arith, all-named test entries)
 
 filter-both : {X : Type 0} (f g : X → Bool) (xs : List X) → filter (λ x. f x && g x) xs ≡ filter g (filter f xs)
 filter-both f g [] = refl
-filter-both f g (x ∷ xs) =
-    elim (cases_Bool (f x)) [
-      | inr e ↦ rw e (filter-both f g xs)
-      | inl t ↦ elim (cases_Bool (g x)) [
-        | inl k ↦ rw (t, k) (ap (λ ys. x ∷ ys) (filter-both f g xs))
-        | inr k ↦ rw (t, k) (filter-both f g xs)
-      ]
-    ]
+filter-both f g (x ∷ xs) = grind (arith, filter-both f g xs)
 
 -- the entries of a timely run on a line are those of hits, and then the others
 pub hits-first : (r : Run) (line n : ℕ) → Timely r → n < length r.trace

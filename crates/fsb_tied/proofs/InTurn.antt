@@ -1,20 +1,16 @@
 -- What follows for a request of a past whose answers come in order: where its snoop end, its response and its end lie.
-use Rattle.std.proofs.Common.{ℕ, ◌+◌, ◌<◌, ◌≤◌, ◌≡◌, Bool, true, false, Some, refl, sym, ap, ◌∙◌, arith}
-use Rattle.std.proofs.lemmas.Bool.{eqb-true}
-use Rattle.fsb_count.specs.Clocks.{first_where}
-use Rattle.fsb_count.specs.Options.{is_some_and}
+use Rattle.std.proofs.Common.{ℕ, ◌+◌, ◌<◌, ◌≤◌, ◌≡◌, Bool, true, false, Some, arith}
 use Rattle.fsb_count.proofs.Interface.{any_where-at, any_where-found, first_where-found}
 use Rattle.fsb_timely.specs.Grants.{is_end_at, is_ended, snooped_at}
 use Rattle.fsb_timely.specs.Moments.{is_snoop_of}
 use Rattle.fsb_timely.specs.Past.{Past, SnoopEnd}
-use Rattle.fsb_lawful.proofs.Interface.{and-then, some-and}
+use Rattle.fsb_lawful.proofs.Interface.{some-and}
 use Rattle.fsb_coherent.specs.Awaits.{Awaited, awaited_at, awaited_by, responded_in, snoop_end_below}
 use Rattle.fsb_tied.proofs.AnswersInOrder.{AnswersInOrder}
 
 -- what can't be true is false
 pub not-so : (b : Bool) → (b ≡ true → ⊥) → b ≡ false
-not-so true f = absurd (f refl)
-not-so false f = refl
+not-so b h1 = grind arith
 
 pub ended-parts : (p : Past) (n q : ℕ) → is_ended p n q ≡ true → (v : ℕ) × (v < n) × (is_end_at p v q ≡ true)
 unfolding is_ended
@@ -25,32 +21,17 @@ unfolding is_ended
 ended-by p n v q l e = any_where-at (λ t. is_end_at p t q) n v l e
 
 pub ended-later : (p : Past) (n k q : ℕ) → n ≤ k → is_ended p n q ≡ true → is_ended p k q ≡ true
-ended-later p n k q l e =
-    let v = ended-parts p n q e in
-    let low : v.0 < n = v.1 in
-    ended-by p k v.0 q (omega arith) v.2
+ended-later p n k q l e = grind (arith, ended-parts, ended-by)
 
 -- a request has not ended below its response
 pub unended-at-response : (p : Past) (m n q : ℕ) → AnswersInOrder p m → n < m → responded_in p n ≡ Some q
     → is_ended p n q ≡ false
-unended-at-response p m n q a l e =
-    not-so (is_ended p n q) (λ t.
-    let v = ended-parts p n q t in
-    let low : v.0 < n = v.1 in
-    let k = a.responded v.0 q (omega arith) v.2 in
-    let before : k.at ≤ v.0 = k.before in
-    let same : k.at ≡ n = a.one_response k.at n q (omega arith) l k.there e in
-    omega arith)
+unended-at-response p m n q a l e = grind (arith, ended-parts)
 
 -- nor below its end
 pub unended-at-end : (p : Past) (m n q : ℕ) → AnswersInOrder p m → n < m → is_end_at p n q ≡ true
     → is_ended p n q ≡ false
-unended-at-end p m n q a l e =
-    not-so (is_ended p n q) (λ t.
-    let v = ended-parts p n q t in
-    let low : v.0 < n = v.1 in
-    let same : v.0 ≡ n = a.one_end v.0 n q (omega arith) l v.2 e in
-    omega arith)
+unended-at-end p m n q a l e = grind (arith, ended-parts)
 
 -- its snoop end lies two clocks before its response at least
 pub snooped-before : (p : Past) (m n t : ℕ) (s : SnoopEnd) → AnswersInOrder p m → n < m → snooped_at p t ≡ Some s
@@ -64,11 +45,7 @@ snooped-before p m n t s a l e f =
 -- and so before its end
 pub snooped-before-end : (p : Past) (m n t : ℕ) (s : SnoopEnd) → AnswersInOrder p m → n < m → snooped_at p t ≡ Some s
     → is_end_at p n s.first ≡ true → t + 2 ≤ n
-snooped-before-end p m n t s a l e f =
-    let k = a.responded n s.first l f in
-    let low : k.at ≤ n = k.before in
-    let gap = snooped-before p m k.at t s a (omega arith) e k.there in
-    omega arith
+snooped-before-end p m n t s a l e f = grind (arith, snooped-before)
 
 -- what has its snoop end before that of a request has ended below the response of that one, and so below its end
 pub earlier-ended : (p : Past) (m n t u : ℕ) (s e : SnoopEnd) → AnswersInOrder p m → n < m → snooped_at p t ≡ Some s
@@ -97,22 +74,4 @@ pub record HasAwaited (p : Past) (n q : ℕ) (awaited : Awaited) : Type 0 where
 
 pub has-awaited : (p : Past) (n q : ℕ) (awaited : Awaited) → awaited_at p n q ≡ Some awaited → HasAwaited p n q awaited
 unfolding awaited_at snoop_end_below is_snoop_of
-has-awaited p n q awaited e =
-    let a = and-then awaited_by (snoop_end_below p (n + 1) q) awaited e in
-    let test : ℕ → Bool = λ t. is_some_and (snooped_at p t) (is_snoop_of q) in
-    let b = and-then (snooped_at p) (first_where test (n + 1)) a.0 a.1 in
-    let f = first_where-found test (n + 1) b.0 b.1 in
-    let low : b.0 < n + 1 = f.0 in
-    let c = some-and (snooped_at p b.0) (is_snoop_of q) f.1 in
-    let both : Some c.0 ≡ Some a.0 = sym c.1 ∙ b.2 in
-    let same : c.0 ≡ a.0 = cc in
-    let first : c.0.first ≡ q = eqb-true c.0.first q c.2 in
-    record {
-      at = b.0;
-      end = a.0;
-      below = omega arith;
-      there = b.2;
-      first = ap (λ (s : SnoopEnd). s.first) (sym same)
-          ∙ first;
-      awaits = a.2;
-    }
+has-awaited p n q awaited e = grind (arith, first_where-found, some-and)

@@ -1,10 +1,10 @@
 -- The memory has of a line, at each clock, the bytes that were put there last; at the end copies and memory are kept.
-use Rattle.std.proofs.Common.{ℕ, zero, suc, ◌+◌, ◌<◌, ◌≤◌, ◌≡◌, true, false, ◌&&◌, nat_le, nat_lt, List, [], ◌∷◌}
-use Rattle.std.proofs.Common.{Option, Some, None, is_some, length, refl, sym, ap, subst, ◌∙◌, arith, inl, inr, add-one}
+use Rattle.std.proofs.Common.{ℕ, zero, suc, ◌+◌, ◌<◌, ◌≤◌, ◌≡◌, true, false, nat_lt, List, [], ◌∷◌, Option, Some}
+use Rattle.std.proofs.Common.{None, is_some, length, refl, sym, ap, subst, ◌∙◌, arith, inl, inr}
 use Rattle.std.specs.Prelude.{cond, unwrap_or}
 use Rattle.std.specs.List.{list_all}
 use Rattle.std.specs.Option.{option_and_then}
-use Rattle.std.proofs.lemmas.Bool.{and_parts, both_ways, cases_Bool, le-ltb, lt-ltb}
+use Rattle.std.proofs.lemmas.Bool.{both_ways, cases_Bool, le-ltb, lt-ltb}
 use Rattle.fsb_count.specs.Options.{is_before, is_some_and}
 use Rattle.fsb_access.specs.declared.log.Done.{Done}
 use Rattle.fsb_access.specs.ByteMemory.{start_memory}
@@ -21,7 +21,7 @@ use Rattle.fsb_timely.specs.Grants.{holds_line, is_ready}
 use Rattle.fsb_timely.specs.Kept.{bytes_now, bytes_put, is_put, line_bytes, number_put, put_clock}
 use Rattle.fsb_timely.specs.Past.{Past}
 use Rattle.fsb_timely.specs.Runs.{Run, past_of}
-use Rattle.fsb_coherent.specs.Facts.{does_end_on, does_respond_on}
+use Rattle.fsb_coherent.specs.Facts.{does_respond_on}
 use Rattle.fsb_coherent.specs.LineEvents.{events_below}
 use Rattle.fsb_coherent.specs.Relation.{is_moved_below}
 use Rattle.fsb_tied.specs.RunBytes.{HasValues, bytes_below, bytes_put_below, is_put_below, machine_line}
@@ -42,10 +42,7 @@ use Rattle.fsb_tied.proofs.WholeOrder.{ended-before, one-ends, orderly-whole}
 -- what an end puts into memory: what it brings, if its link has a giver
 fed : (y : MemoryLine) (link : Link) (bytes before : Bytes) → is_some link.giver ≡ true → carries link ≡ true
     → y.moved ≡ Some bytes → cond (feeds_memory link) (unwrap_or (brought y link) []) before ≡ bytes
-fed y link bytes before gives carried moved =
-    ap (λ b. cond b (unwrap_or (brought y link) []) before) gives
-    ∙ ap (λ b. unwrap_or (cond b y.moved (Some (y.copy link.agent))) []) carried
-    ∙ ap (λ o. unwrap_or o []) moved
+fed y link bytes before gives carried moved = grind arith
 
 unfed : (y : MemoryLine) (link : Link) (before : Bytes) → link.giver ≡ None
     → cond (feeds_memory link) (unwrap_or (brought y link) []) before ≡ before
@@ -136,18 +133,17 @@ pub memory-below-run : (r : Run) (line n : ℕ) → HasValues r → n ≤ length
 unfolding events_below
 memory-below-run r line zero h l = sym (put-bytes r line 0 None (none-put r line))
 memory-below-run r line (suc n) h l =
-    let p : Past = past_of r in
-    let before = memory-below-run r line n h (omega arith) in
-    let next : (machine_line r line (suc n)).memory ≡ bytes_put_below r line (n + 1) =
-    elim (cases_Bool (does_end_on p line n)) [
-      | inl ends ↦ end-put r line n (ends-line r line n h.timely (omega arith) (ends-on p line n ends)) h
-          (omega arith) before
-      | inr none ↦
-          let stays = number-stays r line n (λ i e takes.
-          both_ways (does_end_on p line n) none (taken-ends r line n i h.timely h.bounds (omega arith) e takes)) in
-          no-end-memory r line n h (omega arith) none ∙ before ∙ sym (same-bytes r line (n + 1) n stays)
-    ] in
-    next ∙ ap (bytes_put_below r line) (add-one n)
+    grind (
+      arith,
+      end-put,
+      ends-line,
+      ends-on,
+      number-stays,
+      taken-ends,
+      no-end-memory,
+      same-bytes,
+      memory-below-run r line n h (omega arith),
+    )
 
 -- at the end of the trace these are the bytes that are kept
 pub memory-kept : (r : Run) (line : ℕ) → HasValues r → (machine_line r line (length r.trace)).memory ≡ bytes_put r line
@@ -158,10 +154,7 @@ all-below : (first end : ℕ) (log : List Done) → is_in_time first end log ≡
     → list_all (λ done. nat_lt done.clock end) log ≡ true
 unfolding is_in_time
 all-below first end [] e = refl
-all-below first end (done ∷ log) e =
-    let parts = and_parts (nat_le first done.clock) (nat_lt done.clock end && is_in_time done.clock end log) e in
-    let rest = and_parts (nat_lt done.clock end) (is_in_time done.clock end log) parts.1 in
-    rw (rest.0, all-below done.clock end log rest.1) refl
+all-below first end (done ∷ log) e = grind (arith, all-below done.clock end log)
 
 -- below the end of the trace lies the whole log
 pub bytes-at-end : (r : Run) (line : ℕ) → HasValues r → bytes_below r line (length r.trace) ≡ bytes_now r line

@@ -1,18 +1,15 @@
 -- The bytes of a line in the replay of a log: what the stores on it make of them.
-use Rattle.std.proofs.Common.{◌≡◌, ℕ, zero, suc, ◌+◌, ◌-◌, ◌*◌, ◌/◌, ◌%◌, ◌<◌, ◌≤◌, true, Bool, ◌&&◌, not}
-use Rattle.std.proofs.Common.{if◌then◌else◌, ◌≢◌, ◌⊎◌, List, [], ◌∷◌, map, fold, slice_index, refl, sym, ap, ◌∙◌, inl}
-use Rattle.std.proofs.Common.{inr, arith, add-zero}
-use Rattle.std.proofs.lemmas.Bool.{and_parts, cases_Bool, cases_lt}
-use Rattle.std.proofs.lemmas.Bool.Decides.{nat_tests}
+use Rattle.std.proofs.Common.{◌≡◌, ℕ, zero, suc, ◌+◌, ◌*◌, ◌/◌, ◌%◌, ◌<◌, ◌≤◌, true, Bool, ◌&&◌, not, if◌then◌else◌}
+use Rattle.std.proofs.Common.{◌≢◌, List, [], ◌∷◌, map, fold, slice_index, refl, ap, ◌∙◌, arith, add-zero}
+use Rattle.std.proofs.lemmas.Bool.{and_parts}
 use Rattle.std.specs.Prelude.{nat_eq}
 use Rattle.std.specs.List.{filter, list_all}
 use Rattle.fsb_access.specs.Access.{accessed_line, addr_of, is_place, size_of}
-use Rattle.fsb_access.specs.ByteMemory.{ByteMemory, byte_of, bytes_at, put_value}
+use Rattle.fsb_access.specs.ByteMemory.{ByteMemory, bytes_at, put_value}
 use Rattle.fsb_access.specs.declared.access.Access.{Access}
-use Rattle.fsb_access.specs.declared.access.Access.TheVariants.{Load, Store}
 use Rattle.fsb_access.specs.declared.log.Done.{Done}
 use Rattle.fsb_access.specs.Replay.{ReplayState, replay, replayed_values, served_state, served_value}
-use Rattle.fsb_access.proofs.Interface.{bytes_at-beside, place-within_line, put_value-inside, put_value-outside}
+use Rattle.fsb_access.proofs.Interface.{bytes_at-beside, put_value-inside, put_value-outside}
 use Rattle.fsb_timely.specs.Scripts.{is_load}
 use Rattle.fsb_coherent.specs.LineEvents.{change_of, changes_of}
 use Rattle.fsb_timely.specs.Kept.{line_bytes}
@@ -30,10 +27,7 @@ bytes_at-shifted memory other addr place (suc count) same =
     rw (first, rest) refl
   where
     moved : (k : ℕ) → memory (addr + suc k) ≡ other (place + suc k) → memory (addr + 1 + k) ≡ other (place + 1 + k)
-    moved k h =
-        let here : addr + 1 + k ≡ addr + suc k = omega arith in
-        let there : place + 1 + k ≡ place + suc k = omega arith in
-        rw (here, there) h
+    moved k h = grind arith
 
 -- the bytes that were read from an address on are those of the memory
 byte-read : (memory : ByteMemory) (addr count k : ℕ) → k < count
@@ -41,32 +35,13 @@ byte-read : (memory : ByteMemory) (addr count k : ℕ) → k < count
 unfolding bytes_at
 byte-read memory addr zero k l = absurd (omega arith)
 byte-read memory addr (suc count) zero l = let same : addr + 0 ≡ addr = add-zero addr in rw same refl
-byte-read memory addr (suc count) (suc k) l =
-    let next : addr + 1 + k ≡ addr + suc k = omega arith in
-    byte-read memory (addr + 1) count k (omega arith) ∙ ap memory next
+byte-read memory addr (suc count) (suc k) l = grind (arith, byte-read memory (addr + 1) count k (omega arith))
 
 -- a byte of a line behind a number that is put into it, seen from the line's first byte on
 byte-put : (memory : ByteMemory) (bytes : List ℕ) (addr size value k : ℕ)
     → slice_index bytes k ≡ memory (addr / 32 * 32 + k)
     → put_value memory addr size value (addr / 32 * 32 + k) ≡ put_value (slice_index bytes) (addr % 32) size value k
-byte-put memory bytes addr size value k read =
-    elim (cases_lt (addr / 32 * 32 + k) addr) [
-      | inl below ↦
-          put_value-outside memory addr size value (addr / 32 * 32 + k) (inl below)
-          ∙ sym (put_value-outside (slice_index bytes) (addr % 32) size value k (inl (omega arith)) ∙ read)
-      | inr from ↦ elim (cases_lt (addr / 32 * 32 + k) (addr + size)) [
-        | inl within ↦
-            put_value-inside memory addr size value (addr / 32 * 32 + k) (omega arith) within
-            ∙ ap (byte_of value) (place addr k from)
-            ∙ sym (put_value-inside (slice_index bytes) (addr % 32) size value k (omega arith) (omega arith))
-        | inr beyond ↦
-            put_value-outside memory addr size value (addr / 32 * 32 + k) (inr (omega arith))
-            ∙ sym (put_value-outside (slice_index bytes) (addr % 32) size value k (inr (omega arith)) ∙ read)
-      ]
-    ]
-  where
-    place : (addr k : ℕ) → addr ≤ addr / 32 * 32 + k → addr / 32 * 32 + k - addr ≡ k - addr % 32
-    place addr k from = omega arith
+byte-put memory bytes addr size value k read = grind (arith, put_value-outside, put_value-inside)
 
 -- a number that is put into a line, in the line's bytes
 line-put : (memory : ByteMemory) (addr size value : ℕ)
@@ -84,11 +59,7 @@ line-put memory addr size value =
 line-beside : (memory : ByteMemory) (addr size value line : ℕ) → addr / 32 ≢ line → addr % 32 + size ≤ 32
     → line_bytes (put_value memory addr size value) line ≡ line_bytes memory line
 unfolding line_bytes
-line-beside memory addr size value line other within =
-    bytes_at-beside memory addr size value (line * 32) 32 apart
-  where
-    apart : (line * 32 + 32 ≤ addr) ⊎ (addr + size ≤ line * 32)
-    apart = elim (cases_lt (addr / 32) line) [ inl below ↦ inr (omega arith) | inr above ↦ inl (omega (arith, other)) ]
+line-beside memory addr size value line other within = grind (arith, bytes_at-beside)
 
 -- the entry stores into the line
 unfoldable pub stores_into : ℕ → Done → Bool
@@ -107,18 +78,7 @@ line-served : (state : ReplayState) (agent value line : ℕ) (access : Access)
     (size_of access) value) 0 32
     else line_bytes state.memory line)
 unfolding is_load
-line-served state agent value line (Load size addr) placed served = refl
-line-served state agent value line (Store size addr operand) placed served =
-    elim (cases_Bool (nat_eq (addr / 32) line)) [
-      | inl here ↦
-          let same : addr / 32 ≡ line = grind (arith, nat_tests) in
-          let put = line-put state.memory addr size value in
-          rw (here, ← served, ← same) put
-      | inr beside ↦
-          let other : addr / 32 ≢ line = grind (arith, nat_tests) in
-          let within = place-within_line size addr placed in
-          rw (beside, ← served) (line-beside state.memory addr size value line other within)
-    ]
+line-served state agent value line access h1 h2 = grind (arith, line-put, line-beside)
 
 -- The bytes of a line after entries are served one after the other: those of before, with the stores on the line made
 -- in their order.
@@ -143,7 +103,4 @@ replay-line state line (done ∷ log) placed values =
         (put_value (slice_index bytes) (addr_of done.access % 32)
         (size_of done.access) done.value) 0 32 else bytes) (filter (stores_into line) log)
         ≡ fold (λ before d. change_of d before) bytes (filter (stores_into line) (done ∷ log))
-    one done log bytes = elim (cases_Bool (not (is_load done.access) && nat_eq (accessed_line done.access) line)) [
-      | inl here ↦ rw here refl
-      | inr beside ↦ rw beside refl
-    ]
+    one done log bytes = grind arith

@@ -1,7 +1,7 @@
 -- The bytes of a line in the machine are those of the one byte memory that serves the log.
 use Rattle.std.proofs.Common.{◌≡◌, ℕ, zero, suc, ◌<◌, ◌≤◌, true, ◌&&◌, nat_eq, nat_le, nat_lt, List, [], ◌∷◌, ◌++◌}
-use Rattle.std.proofs.Common.{length, refl, sym, ap, subst, ◌∙◌, inl, inr, arith, add-one}
-use Rattle.std.proofs.lemmas.Bool.{and_parts, cases_Bool, cases_lt, le-ltb, leb-true, lt-ltb}
+use Rattle.std.proofs.Common.{length, refl, sym, ap, subst, ◌∙◌, inl, inr, arith}
+use Rattle.std.proofs.lemmas.Bool.{and_parts, cases_lt, le-ltb, leb-true, lt-ltb}
 use Rattle.std.proofs.lemmas.List.Elements.{filter-append}
 use Rattle.std.specs.List.{filter, list_all}
 use Rattle.fsb_access.specs.Access.{accessed_line}
@@ -17,7 +17,6 @@ use Rattle.fsb_timely.specs.Completions.{is_in_time}
 use Rattle.fsb_timely.specs.Kept.{line_bytes}
 use Rattle.fsb_timely.specs.Past.{Past}
 use Rattle.fsb_timely.specs.Runs.{Run, past_of}
-use Rattle.fsb_timely.specs.Scripts.{is_load}
 use Rattle.fsb_timely.proofs.Interface.{at, below, below-more}
 use Rattle.fsb_coherent.specs.KeepsTie.{IsTiedTo, KeepsTie}
 use Rattle.fsb_coherent.specs.LineEvents.{changes_of, entries_on, events_at, events_below}
@@ -37,21 +36,7 @@ stores-there : (line n : ℕ) (log : List Done)
     ≡ filter (stores_into line) (at n log)
 unfolding stores_into
 stores-there line n [] = refl
-stores-there line n (done ∷ log) =
-    let rest = stores-there line n log in
-    elim (cases_Bool (nat_eq done.clock n)) [
-      | inr other ↦ rw other rest
-      | inl now ↦ elim (cases_Bool (nat_eq (accessed_line done.access) line)) [
-        | inr beside ↦ elim (cases_Bool (is_load done.access)) [
-          | inl load ↦ rw (now, beside, load) rest
-          | inr store ↦ rw (now, beside, store) rest
-        ]
-        | inl here ↦ elim (cases_Bool (is_load done.access)) [
-          | inl load ↦ rw (now, here, load) rest
-          | inr store ↦ rw (now, here, store) (ap (λ ds. done ∷ ds) rest)
-        ]
-      ]
-    ]
+stores-there line n (done ∷ log) = grind (arith, stores-there line n log)
 
 -- all stores on the line below n, in the order of the log
 pub now-below : (p : Past) (line n end : ℕ) (bytes : Bytes) → is_in_time 0 end p.log ≡ true
@@ -70,10 +55,8 @@ now-below p line (suc n) end bytes in_time keeps stores =
     let before = now-below p line n end bytes in_time (λ c l. keeps c (omega arith)) (λ c l. stores c (omega arith)) in
     let here = stores n (omega arith) x x.now tied in
     let more = below-more 0 end n p.log in_time in
-    let split : filter (stores_into line) (below (suc n) p.log)
-    ≡ filter (stores_into line) (below n p.log) ++ filter (stores_into line) (at n p.log) =
-    ap (λ k. filter (stores_into line) (below k p.log)) (sym (add-one n)) ∙ ap (filter (stores_into line)) more
-    ∙ filter-append (stores_into line) (below n p.log) (at n p.log) in
+    let split : filter (stores_into line) (below (suc n) p.log) ≡ filter (stores_into line) (below n p.log) ++ filter
+    (stores_into line) (at n p.log) = grind (arith, filter-append) in
     ap (λ y. y.now) (run-append (unheld bytes) (events_below p line n) (events_at p line n))
     ∙ run-now x (events_at p line n)
     ∙ here
@@ -107,10 +90,7 @@ below-first first end n (done ∷ log) e =
 
 placed-below : (n : ℕ) (log : List Done) → list_all is_placed log ≡ true → list_all is_placed (below n log) ≡ true
 placed-below n [] h = refl
-placed-below n (done ∷ log) h =
-    let parts = and_parts (is_placed done) (list_all is_placed log) h in
-    let rest = placed-below n log parts.1 in
-    elim (cases_Bool (nat_lt done.clock n)) [ inl early ↦ rw (early, parts.0, rest) refl | inr late ↦ rw late rest ]
+placed-below n (done ∷ log) h = grind (arith, placed-below n log)
 
 -- in a run whose log is served the machine's line has the bytes that the one byte memory has below each clock
 pub now-served : (r : Run) (line n : ℕ) → is_in_time 0 (length r.trace) r.log ≡ true → Served r.plan.mem r.log

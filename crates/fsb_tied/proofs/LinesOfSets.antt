@@ -1,5 +1,5 @@
 -- An agent has one line of a cache set at most, held or asked for.
-use Rattle.std.proofs.Common.{ℕ, ◌≤◌, ◌≡◌, Bool, true, false, length, inl, inr}
+use Rattle.std.proofs.Common.{ℕ, ◌≤◌, ◌≡◌, true, false, length, inr, arith}
 use Rattle.std.proofs.lemmas.Bool.{false_from_ne_true}
 use Rattle.fsb_timely.specs.Grants.{holds_line, is_rival}
 use Rattle.fsb_timely.specs.Runs.{Run, past_of}
@@ -11,14 +11,12 @@ use Rattle.fsb_tied.proofs.Slots.{one-slot}
 pub held-alone : (r : Run) (a line other n : ℕ) → Timely r → KeepsBounds r.plan → n ≤ length r.trace
     → is_rival (past_of r) line other ≡ true → holds_line (past_of r) a line n ≡ true
     → holds_line (past_of r) a other n ≡ false
-held-alone r a line other n h bounds l rival held =
-    false_from_ne_true _ (λ t. one-slot r a line other n h bounds l rival (inl held) (inl t))
+held-alone r a line other n h bounds l rival held = grind (arith, one-slot)
 
 pub held-unasked : (r : Run) (a line other n : ℕ) → Timely r → KeepsBounds r.plan → n ≤ length r.trace
     → is_rival (past_of r) line other ≡ true → holds_line (past_of r) a line n ≡ true
     → is_asked_for (owed (past_of r) a n) other ≡ false
-held-unasked r a line other n h bounds l rival held =
-    false_from_ne_true _ (λ t. one-slot r a line other n h bounds l rival (inl held) (inr t))
+held-unasked r a line other n h bounds l rival held = grind (arith, one-slot)
 
 pub asked-alone : (r : Run) (a line other n : ℕ) → Timely r → KeepsBounds r.plan → n ≤ length r.trace
     → is_rival (past_of r) line other ≡ true → is_asked_for (owed (past_of r) a n) line ≡ true

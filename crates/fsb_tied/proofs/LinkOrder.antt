@@ -1,7 +1,7 @@
 -- In a timely run responses and ends come in the order of the links of each line.
-use Rattle.std.proofs.Common.{ℕ, ◌+◌, ◌<◌, ◌≤◌, ◌≡◌, Bool, true, false, ◌||◌, List, [], ◌∷◌, Option, Some, None, length}
-use Rattle.std.proofs.Common.{nat_eq, refl, sym, ap, ◌∙◌, arith, inl, inr}
-use Rattle.std.proofs.lemmas.Bool.{both_ways, cases_Bool, eq-eqb, ne_eqb}
+use Rattle.std.proofs.Common.{ℕ, ◌+◌, ◌<◌, ◌≤◌, ◌≡◌, Bool, true, false, List, [], ◌∷◌, Option, Some, length, refl}
+use Rattle.std.proofs.Common.{sym, ap, ◌∙◌, arith}
+use Rattle.std.proofs.lemmas.Bool.{both_ways, eq-eqb, ne_eqb}
 use Rattle.fsb_line.specs.declared.link.Link.{Link}
 use Rattle.fsb_line.specs.Links.{carries}
 use Rattle.fsb_timely.specs.Grants.{ended_requests, is_end_at, is_ended, snooped_at}
@@ -15,7 +15,8 @@ use Rattle.fsb_coherent.specs.Relation.{chain_below, is_moved_below, link_left, 
 use Rattle.fsb_tied.proofs.AnswersInOrder.{AnswersInOrder, answers-in-order}
 use Rattle.fsb_tied.proofs.Awaiting.{awaited-there}
 use Rattle.fsb_tied.proofs.CarryingRuns.{carries-awaited}
-use Rattle.fsb_tied.proofs.Chains.{at-gone, at-there, first-left, link_of, links_at, none-left, others-left, same-left}
+use Rattle.fsb_tied.proofs.Chains.{at-gone, at-there, first-left, link_of, links_at, none-left, others-left}
+use Rattle.fsb_tied.proofs.Chains.{same-left}
 use Rattle.fsb_tied.proofs.InTurn.{HasAwaited, earlier-ended, ended-by, ended-later, ended-parts, has-awaited, not-so}
 use Rattle.fsb_tied.proofs.InTurn.{snooped-before, snooped-before-end, unended-at-end, unended-at-response}
 use Rattle.fsb_tied.proofs.MovedOn.{moved-more, unmoved}
@@ -65,30 +66,18 @@ responds-in-order r line n h l = record {
 unended-same : (p : Past) (line n t : ℕ) (s : SnoopEnd) → snooped_at p t ≡ Some s → is_end_at p n s.first ≡ false
     → links_at p line n t ≡ links_at p line (n + 1) t
 unfolding link_left
-unended-same p line n t s e none =
-    let ended : is_ended p (n + 1) s.first ≡ is_ended p n s.first = is_ended-more p n s.first
-    ∙ ap (λ b. is_ended p n s.first || b) none ∙ or-none (is_ended p n s.first) in
-    rw (e, ended) refl
-  where
-    or-none : (b : Bool) → (b || false) ≡ b
-    or-none true = refl
-    or-none false = refl
+unended-same p line n t s e none = grind (arith, is_ended-more)
 
 quiet-same : (p : Past) (line n t : ℕ) (o : Option SnoopEnd) → snooped_at p t ≡ o
     → ((s : SnoopEnd) → snooped_at p t ≡ Some s → links_at p line n t ≡ links_at p line (n + 1) t)
     → links_at p line n t ≡ links_at p line (n + 1) t
-quiet-same p line n t None e same = rw e refl
-quiet-same p line n t (Some s) e same = same s e
+quiet-same p line n t o h1 h2 = grind arith
 
 -- a snoop end after which no end on the line is awaited makes no link of it
 other-line : (p : Past) (line n t : ℕ) (s : SnoopEnd) (o : Option Awaited) → awaited_by s ≡ o → snooped_at p t ≡ Some s
     → ((awaited : Awaited) → o ≡ Some awaited → awaited.line ≡ line → ⊥) → links_at p line n t ≡ []
 unfolding link_left link_for
-other-line p line n t s None f e elsewhere =
-    elim (cases_Bool (is_ended p n s.first)) [ inl t ↦ rw (e, t) refl | inr u ↦ rw (e, u, f) refl ]
-other-line p line n t s (Some awaited) f e elsewhere =
-    let other : nat_eq awaited.line line ≡ false = ne_eqb awaited.line line (λ same. elsewhere awaited refl same) in
-    elim (cases_Bool (is_ended p n s.first)) [ inl t ↦ rw (e, t) refl | inr u ↦ rw (e, u, f, other) refl ]
+other-line p line n t s o h1 h2 h3 = grind arith
 
 pub listed-alone : (p : Past) (n q : ℕ) → ended_requests p n ≡ q ∷ [] → is_end_at p n q ≡ true
 unfolding is_end_at
@@ -125,22 +114,7 @@ moved-there : (p : Past) (m line n t : ℕ) (s : SnoopEnd) (awaited : Awaited) �
     → awaited.carries ≡ true → ((u : ℕ) → u ≤ n → responded_in p u ≡ Some s.first → u < n)
     → is_moved_below p line n ≡ true
 moved-there p m line n t s awaited a l e ends awaits names carried later =
-    let k = a.responded n s.first l ends in
-    let gap = snooped-before-end p m n t s a l e ends in
-    moved-from p line n (record {
-      at = t;
-      end = s;
-      there = e;
-      below = omega arith;
-      awaited = awaited;
-      awaits = awaits;
-      names = names;
-      carried = carried;
-      response = k.at;
-      responds = k.there;
-      before = later k.at k.before k.there;
-      unended = unended-at-end p m n s.first a l ends;
-    })
+    grind (arith, snooped-before-end, moved-from, unended-at-end)
 
 -- where no end is awaited on the line its links are left
 all-left : (p : Past) (m line n : ℕ) → AnswersInOrder p m → n < m → does_end_on p line n ≡ false
@@ -163,12 +137,7 @@ all-left p m line n a l none =
 -- the request of the snoop end of a clock has not ended there
 newest-left : (p : Past) (m n : ℕ) (s : SnoopEnd) → AnswersInOrder p m → n < m → snooped_at p n ≡ Some s
     → is_ended p (n + 1) s.first ≡ false
-newest-left p m n s a l e =
-    not-so (is_ended p (n + 1) s.first) (λ t.
-    let v = ended-parts p (n + 1) s.first t in
-    let low : v.0 < n + 1 = v.1 in
-    let gap = snooped-before-end p m v.0 n s a (omega arith) e v.2 in
-    omega arith)
+newest-left p m n s a l e = grind (arith, ended-parts, snooped-before-end)
 
 ends-oldest : (r : Run) (line n q : ℕ) (awaited : Awaited) → Timely r → n < length r.trace
     → ended_requests (past_of r) n ≡ q ∷ [] → HasAwaited (past_of r) n q awaited → awaited.line ≡ line

@@ -2,7 +2,7 @@
 use Rattle.std.proofs.Common.{ℕ, zero, suc, ◌+◌, ◌<◌, ◌≤◌, ◌≡◌, ◌==◌, Bool, true, false, ◌||◌, List, [], ◌∷◌, ◌++◌}
 use Rattle.std.proofs.Common.{Option, Some, None, length, nat_eq, refl, sym, ap, subst, ◌∙◌, inl, inr, arith}
 use Rattle.std.specs.Option.{option_and_then, option_map_or}
-use Rattle.std.proofs.lemmas.Bool.{and_from, both_ways, cases_Bool, eq-eqb, eqb-true}
+use Rattle.std.proofs.lemmas.Bool.{both_ways}
 use Rattle.fsb_count.specs.Options.{is_some_and}
 use Rattle.fsb_line.specs.declared.link.Link.{Link}
 use Rattle.fsb_line.specs.Links.{is_linked}
@@ -16,7 +16,7 @@ use Rattle.fsb_timely.specs.Timely.{Timely}
 use Rattle.fsb_timely.specs.Wants.{is_asked_for, owed}
 use Rattle.fsb_timely.proofs.Interface.{snoop-tied}
 use Rattle.fsb_lawful.specs.Beginning.{KeepsBounds}
-use Rattle.fsb_lawful.proofs.Interface.{IsGrantedBy, Serves, ServesOther, granted-by, map-some, run_to-agrees}
+use Rattle.fsb_lawful.proofs.Interface.{IsGrantedBy, Serves, ServesOther, granted-by, run_to-agrees}
 use Rattle.fsb_coherent.specs.Awaits.{Awaited, awaited_by, awaited_by_claim, awaited_by_grant, is_written}
 use Rattle.fsb_coherent.specs.Relation.{chain_below, link_for, link_left, links_left}
 use Rattle.fsb_tied.proofs.ReplyGrants.{settled-there}
@@ -44,27 +44,18 @@ linked-append a [] ys = refl
 linked-append a (x ∷ xs) ys = by-first (x.agent == a) (is_linked a xs) (is_linked a (xs ++ ys)) (linked-append a xs ys)
   where
     by-first : (b c d : Bool) → d ≡ (c || is_linked a ys) → (b || d) ≡ ((b || c) || is_linked a ys)
-    by-first true c d e = refl
-    by-first false c d e = e
+    by-first b c d h1 = grind arith
 
 linked-for : (p : Past) (a line t : ℕ) (s : SnoopEnd) (awaited : Awaited) (b : Bool) → nat_eq awaited.line line ≡ b
     → is_linked a (link_for p line t s awaited) ≡ true → (awaited.agent ≡ a) × (awaited.line ≡ line)
 unfolding link_for
-linked-for p a line t s awaited false e f = absurd (let no : ⊥ = (let f' = rw (e, link_for) at f in cc) in no)
-linked-for p a line t s awaited true e f =
-    let f' = rw (e, link_for) at f in
-    (eqb-true awaited.agent a (alone (nat_eq awaited.agent a) f'), eqb-true awaited.line line e)
-  where
-    alone : (b : Bool) → (b || false) ≡ true → b ≡ true
-    alone true e = refl
-    alone false e = absurd (let no : ⊥ = cc in no)
+linked-for p a line t s awaited b h1 h2 = grind arith
 
 linked-left : (p : Past) (a line n t : ℕ) (s : SnoopEnd) (b : Bool) (o : Option Awaited) → snooped_at p t ≡ Some s
     → is_ended p n s.first ≡ b → awaited_by s ≡ o → is_linked a (link_left p line n t s) ≡ true
     → IsLinkedAt p a line n (suc t)
 unfolding link_left
-linked-left p a line n t s true o there e f g =
-    absurd (let no : ⊥ = (let g' = rw (e, link_left) at g in cc) in no)
+linked-left p a line n t s true o there e f g = grind arith
 linked-left p a line n t s false None there e f g =
     absurd (let no : ⊥ = (let g' = rw (e, link_left, f) at g in cc) in no)
 linked-left p a line n t s false (Some awaited) there e f g =
@@ -87,31 +78,10 @@ linked-snoop : (p : Past) (a line n t : ℕ) (o : Option SnoopEnd) → snooped_a
 linked-snoop p a line n t None e f = absurd (let no : ⊥ = cc in no)
 linked-snoop p a line n t (Some s) e f = linked-left p a line n t s (is_ended p n s.first) (awaited_by s) e refl refl f
 
-linked-later : (p : Past) (a line n t : ℕ) → IsLinkedAt p a line n t → IsLinkedAt p a line n (suc t)
-linked-later p a line n t k =
-    let below = k.below in
-    record {
-      at = k.at;
-      below = omega arith;
-      end = k.end;
-      there = k.there;
-      unended = k.unended;
-      awaited = k.awaited;
-      awaits = k.awaits;
-      agent = k.agent;
-      names = k.names;
-    }
-
 pub linked-at : (p : Past) (a line n t : ℕ) → is_linked a (links_left p line n t) ≡ true → IsLinkedAt p a line n t
 unfolding links_left
 linked-at p a line n zero e = absurd (let no : ⊥ = cc in no)
-linked-at p a line n (suc t) e =
-    let more = option_map_or (link_left p line n t) (snooped_at p t) [] in
-    let both = sym (linked-append a (links_left p line n t) more) ∙ e in
-    elim (cases_Bool (is_linked a (links_left p line n t))) [
-      | inl before ↦ linked-later p a line n t (linked-at p a line n t before)
-      | inr none ↦ linked-snoop p a line n t (snooped_at p t) refl (rw none at both)
-    ]
+linked-at p a line n (suc t) e = grind (arith, linked-append, linked-snoop, linked-at p a line n t)
 
 granted-there : (p : Past) (t : ℕ) (s : SnoopEnd) (grant : Grant) → snooped_at p t ≡ Some s → s.grant ≡ Some grant
     → grant_at p t ≡ Some grant
@@ -121,8 +91,7 @@ granted-there p t s grant there e = ap (option_and_then (λ s. s.grant)) there �
 is-granted : (p : Past) (t : ℕ) (grant : Grant) → grant_at p t ≡ Some grant
     → is_granted p grant.agent grant.line t ≡ true
 unfolding is_granted is_some_and
-is-granted p t grant e =
-    rw e (and_from _ _ (eq-eqb grant.agent grant.agent refl) (eq-eqb grant.line grant.line refl))
+is-granted p t grant e = grind arith
 
 -- what is granted by a reply: while the reply has no end, the request that it serves is owed
 reply-owed : (r : Run) (n u : ℕ) (s : SnoopEnd) (grant : Grant) → Timely r → KeepsBounds r.plan → n ≤ length r.trace
@@ -172,13 +141,7 @@ grant-by : (r : Run) (n u : ℕ) (s : SnoopEnd) (grant : Grant) → Timely r →
     → is_asked_for (owed (past_of r) grant.agent n) grant.line ≡ true
 grant-by r n u s grant h bounds l below there unended g first claims (inr k) =
     reply-owed r n u s grant h bounds l below unended g first k
-grant-by r n u s grant h bounds l below there unended g first claims (inl k) =
-    let w = r.trace in
-    let here = subst (λ i. live_clock_of w i ≡ Some g.begun) k.same g.is_begun in
-    let same : s.first ≡ g.begun = cc in
-    let claimed = claims ∙ ap (claim_at w) same ∙ g.claims in
-    asks-as r grant.agent grant.line n g.claim g.agent g.names
-    (snooped-owed r n u s g.claim h bounds l below there claimed unended)
+grant-by r n u s grant h bounds l below there unended g first claims (inl k) = grind (arith, snooped-owed)
 
 -- what is granted, and has no end so far, is owed
 grant-owed : (r : Run) (n u : ℕ) (s : SnoopEnd) (grant : Grant) → Timely r → KeepsBounds r.plan → n ≤ length r.trace
@@ -198,9 +161,7 @@ awaited-claim : (s : SnoopEnd) (awaited : Awaited) (b : Bool) → s.grant ≡ No
     → awaited_by s ≡ Some awaited
     → (claim : Claim) × (s.claim ≡ Some claim) × (awaited_by_claim claim ≡ awaited)
 unfolding awaited_by
-awaited-claim s awaited false e f g = absurd (let no : ⊥ = (let g' = rw (e, awaited_by, f) at g in cc) in no)
-awaited-claim s awaited true e f g =
-    map-some awaited_by_claim s.claim awaited (let g' = rw (e, awaited_by, f) at g in g')
+awaited-claim s awaited b h1 h2 h3 = grind arith
 
 link-by : (r : Run) (a line n : ℕ) (k : IsLinkedAt (past_of r) a line n n) (o : Option Grant) → Timely r
     → KeepsBounds r.plan → n ≤ length r.trace → k.end.grant ≡ o → is_asked_for (owed (past_of r) a n) line ≡ true

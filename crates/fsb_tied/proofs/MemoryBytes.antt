@@ -9,8 +9,6 @@ use Rattle.fsb_line.specs.Links.{carries, feeds_memory}
 use Rattle.fsb_line.specs.LineRuns.{run}
 use Rattle.fsb_trace.specs.Outcome.{does_move, does_take, response_clock_of}
 use Rattle.fsb_trace.specs.declared.outcome.Outcome.{Outcome}
-use Rattle.fsb_trace.specs.declared.outcome.Outcome.TheVariants.{Deferred, Failed, Granted, Handed, Replied, Retried}
-use Rattle.fsb_trace.specs.declared.outcome.Outcome.TheVariants.{Upgraded, Written}
 use Rattle.fsb_trace.proofs.Interface.{end_of-response}
 use Rattle.fsb_timely.specs.Past.{Past}
 use Rattle.fsb_timely.specs.Runs.{Run, past_of}
@@ -82,14 +80,7 @@ end-memory r line n k h l =
 
 takes-moves : (outcome : Outcome) → does_take outcome ≡ true → does_move outcome ≡ true
 unfolding does_take does_move
-takes-moves Handed e = refl
-takes-moves Written e = refl
-takes-moves Granted e = absurd (let no : ⊥ = cc in no)
-takes-moves Retried e = absurd (let no : ⊥ = cc in no)
-takes-moves Deferred e = absurd (let no : ⊥ = cc in no)
-takes-moves Replied e = absurd (let no : ⊥ = cc in no)
-takes-moves Failed e = absurd (let no : ⊥ = cc in no)
-takes-moves Upgraded e = absurd (let no : ⊥ = cc in no)
+takes-moves outcome h1 = grind arith
 
 -- the request that ends on the line puts it into memory
 pub record PutsLine (r : Run) (line n : ℕ) (k : EndsLine r line n) : Type 0 where

@@ -1,7 +1,7 @@
 -- The data of a line that are on the bus are, up to their end, those that their response put there.
-use Rattle.std.proofs.Common.{ℕ, zero, suc, ◌+◌, ◌<◌, ◌≤◌, ◌≡◌, true, false, not, ◌||◌, List, ◌++◌, Some, is_some}
-use Rattle.std.proofs.Common.{length, sym, ap, ◌∙◌, arith, inl, inr}
-use Rattle.std.proofs.lemmas.Bool.{and_parts, both_ways, cases_lt, not-true}
+use Rattle.std.proofs.Common.{ℕ, zero, suc, ◌+◌, ◌<◌, ◌≤◌, ◌≡◌, true, false, not, ◌||◌, List, ◌++◌, Some, length, sym}
+use Rattle.std.proofs.Common.{ap, ◌∙◌, arith}
+use Rattle.std.proofs.lemmas.Bool.{and_parts, both_ways, not-true}
 use Rattle.fsb_line.specs.Events.{Event}
 use Rattle.fsb_line.specs.Line.{MemoryLine}
 use Rattle.fsb_line.specs.LineRuns.{run}
@@ -75,30 +75,7 @@ pub moved-since : (r : Run) (line u n : ℕ) → HasValues r → StaysMoved r li
     → (machine_line r line n).moved ≡ Some (bytes_below r line u)
 moved-since r line u zero h k = let no : u < 0 = k.before in absurd (omega arith)
 moved-since r line u (suc n) h k =
-    let p : Past = past_of r in
-    let low : u < suc n = k.before in
-    let within : suc n ≤ length r.trace = k.within in
-    let facts = clock-facts r line n h.timely h.bounds (omega arith) in
-    let next = no-end-next r line n facts (k.no_end n (omega arith) (omega arith)) in
-    elim (cases_lt u n) [
-      | inl less ↦
-          let x : MemoryLine = machine_line r line n in
-          let before = moved-since r line u n h (record {
-            before = less;
-            within = omega arith;
-            responds = k.responds;
-            no_end = λ c from below. k.no_end c from (omega arith);
-          }) in
-          let there : is_moved_below p line n ≡ true =
-          sym (machine-tied r line n h (omega arith)).tied.moved ∙ ap is_some before in
-          let none = not-so (does_respond_on p line n)
-          (λ t. both_ways (is_moved_below p line n) (facts.responds.unmoved t) there) in
-          next ∙ ap (λ (z : MemoryLine). z.moved) (no-response x p line n none) ∙ before
-      | inr more ↦
-          let same : n ≡ u = omega arith in
-          next ∙ responded-next r line n h (omega arith) (ap (does_respond_on p line) same ∙ k.responds)
-          ∙ ap (λ c. Some (bytes_below r line c)) same
-    ]
+    grind (arith, clock-facts, no-end-next, machine-tied, no-response, responded-next, moved-since r line u n h)
 
 -- data that are on the bus at n are there at each clock since their response
 moved-between : (r : Run) (line n c : ℕ) → HasValues r → n ≤ length r.trace → (k : IsMoved (past_of r) line n)

@@ -1,7 +1,7 @@
 -- Data of one request at most are on the bus, from its response up to its end.
 use Rattle.std.proofs.Common.{ℕ, ◌+◌, ◌<◌, ◌≡◌, true, false, not, ◌&&◌, ◌||◌, Some, sym, ap, subst, ◌∙◌, arith, inl}
 use Rattle.std.proofs.Common.{inr}
-use Rattle.std.proofs.lemmas.Bool.{and_from, and_parts, both_ways, cases_Bool, cases_lt, not-true, or_left, or_right}
+use Rattle.std.proofs.lemmas.Bool.{and_from, both_ways, cases_lt, or_left, or_right}
 use Rattle.fsb_timely.specs.Grants.{is_end_at, is_ended, snooped_at}
 use Rattle.fsb_timely.specs.Past.{Past, SnoopEnd}
 use Rattle.fsb_coherent.specs.Awaits.{responded_in}
@@ -13,14 +13,10 @@ use Rattle.fsb_tied.proofs.InTurn.{earlier-ended, ended-by, ended-later, ended-p
 use Rattle.fsb_tied.proofs.InTurn.{unended-at-response}
 use Rattle.fsb_tied.proofs.Moving.{EndsOn, IsMoved, Moves, end-on, ends-on, moved-from, moved-parts, moves-from}
 use Rattle.fsb_tied.proofs.Moving.{moves-parts}
-use Rattle.fsb_tied.proofs.RepliesSeen.{same-both}
 
 both-firsts : (p : Past) (t u : ℕ) (s e : SnoopEnd) → snooped_at p t ≡ Some s → snooped_at p u ≡ Some e → t ≡ u
     → s.first ≡ e.first
-both-firsts p t u s e f g same =
-    let both : Some s ≡ Some e = sym f ∙ ap (snooped_at p) same ∙ g in
-    let one : s ≡ e = cc in
-    ap (λ (x : SnoopEnd). x.first) one
+both-firsts p t u s e f g same = grind arith
 
 -- where data are put on the bus none are there
 pub unmoved : (p : Past) (m line n : ℕ) → AnswersInOrder p m → n < m → Moves p line n → IsMoved p line n → ⊥
@@ -39,8 +35,7 @@ unmoved p m line n a l h k =
             both_ways (is_ended p n e.end.first) none (ended-later p k.response n e.end.first (omega arith) ended)
         | inr other ↦
             let first = both-firsts p k.at e.at k.end e.end k.there e.there (omega arith) in
-            let same : k.response ≡ n = a.one_response k.response n e.end.first (omega arith) l
-            (k.responds ∙ ap Some first) responds in
+            let same : k.response ≡ n = grind arith in
             omega arith
       ]
     ]
@@ -70,14 +65,7 @@ clash p m line n a l k h =
     ]
 
 still : (p : Past) (n q : ℕ) → is_ended p n q ≡ false → (is_end_at p n q ≡ true → ⊥) → is_ended p (n + 1) q ≡ false
-still p n q none now =
-    not-so (is_ended p (n + 1) q) (λ t.
-    let v = ended-parts p (n + 1) q t in
-    let low : v.0 < n + 1 = v.1 in
-    elim (cases_lt v.0 n) [
-      | inl less ↦ both_ways (is_ended p n q) none (ended-by p n v.0 q less v.2)
-      | inr more ↦ let same : v.0 ≡ n = omega arith in now (subst (λ k. is_end_at p k q ≡ true) same v.2)
-    ])
+still p n q none now = grind (arith, ended-parts, ended-by)
 
 -- what stays on the bus, or is put there, while no end is awaited on the line
 moved-on : (p : Past) (m line n : ℕ) → AnswersInOrder p m → n < m → IsMoved p line (n + 1)
@@ -164,14 +152,4 @@ gets-moved p m line n a l none h =
 pub moved-more : (p : Past) (m line n : ℕ) → AnswersInOrder p m → n < m
     → is_moved_below p line (n + 1)
     ≡ ((is_moved_below p line n || does_respond_on p line n) && not (does_end_on p line n))
-moved-more p m line n a l =
-    same-both (is_moved_below p line (n + 1))
-    ((is_moved_below p line n || does_respond_on p line n) && not (does_end_on p line n))
-    (λ e. moved-on p m line n a l (moved-parts p line (n + 1) e))
-    (λ e.
-    let parts = and_parts (is_moved_below p line n || does_respond_on p line n) (not (does_end_on p line n)) e in
-    let none = not-true (does_end_on p line n) parts.1 in
-    elim (cases_Bool (is_moved_below p line n)) [
-      | inl t ↦ stays-moved p m line n a l none (moved-parts p line n t)
-      | inr f ↦ gets-moved p m line n a l none (moves-parts p line n (rw f at parts.0))
-    ])
+moved-more p m line n a l = grind (arith, moved-on, moved-parts, stays-moved, gets-moved, moves-parts)

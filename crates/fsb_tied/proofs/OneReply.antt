@@ -1,12 +1,11 @@
 -- A reply answers one request alone: while a Deferred request awaits its reply no other one begins with its ID.
-use Rattle.std.proofs.Common.{ℕ, suc, ◌+◌, ◌-◌, ◌<◌, ◌≤◌, ◌≡◌, Bool, true, false, not, Option, Some, None, length}
-use Rattle.std.proofs.Common.{nat_lt, refl, sym, ap, subst, ◌∙◌, arith, inl, inr}
-use Rattle.std.proofs.lemmas.Bool.{and_from, and_left, and_parts, and_right, both_ways, cases_Bool, eq-eqb, eqb-true}
+use Rattle.std.proofs.Common.{ℕ, suc, ◌+◌, ◌-◌, ◌<◌, ◌≤◌, ◌≡◌, Bool, true, false, not, Option, Some, length, nat_lt}
+use Rattle.std.proofs.Common.{refl, sym, ap, subst, ◌∙◌, arith, inl, inr}
+use Rattle.std.proofs.lemmas.Bool.{and_from, and_left, and_parts, and_right, both_ways, cases_Bool, eq-eqb}
 use Rattle.std.proofs.lemmas.Bool.{false_from_ne_true, lt-ltb}
 use Rattle.fsb_count.specs.Options.{is_before, is_some_and}
 use Rattle.fsb_count.proofs.Interface.{is_before-parts, nth_where-found}
 use Rattle.fsb_encode.specs.declared.request.Kind.{Kind}
-use Rattle.fsb_encode.specs.declared.request.Kind.TheVariants.{Reply, Invalidate, Read, WriteBack, Upgrade}
 use Rattle.fsb_encode.specs.declared.request.Request.{Request}
 use Rattle.fsb_hazard.specs.declared.choice.Turn.TheVariants.{Keep}
 use Rattle.fsb_hazard.specs.Choice.{is_never_held_up}
@@ -23,7 +22,8 @@ use Rattle.fsb_trace.specs.Response.{end_of}
 use Rattle.fsb_trace.specs.Rules.{is_id_taken_by}
 use Rattle.fsb_trace.proofs.Interface.{AgreeTo-sym, end_of-response, line_at-agree, live_clock_of-rises}
 use Rattle.fsb_trace.proofs.Interface.{live_clock_of-stays, live_request_of-at, request_at-agree}
-use Rattle.fsb_trace.proofs.Interface.{response_clock_of-stays, snoop_end_of-clock, snoop_end_of-stays, winner_at-agree}
+use Rattle.fsb_trace.proofs.Interface.{response_clock_of-stays, snoop_end_of-clock, snoop_end_of-stays}
+use Rattle.fsb_trace.proofs.Interface.{winner_at-agree}
 use Rattle.fsb_laws.proofs.Interface.{end_after_clock, last_clock_of-deferred, last_clock_of-plain}
 use Rattle.fsb_timely.specs.Grants.{snooped_at}
 use Rattle.fsb_timely.specs.Past.{SnoopEnd}
@@ -41,12 +41,7 @@ use Rattle.fsb_tied.proofs.SnoopOutcomes.{outcome-shown, turn-fits}
 kept-plain : (handed : Bool) (request : Request) (kind : Kind) → request.kind ≡ kind
     → is_deferral (outcome_under handed Keep (Some request)) ≡ false
 unfolding outcome_under outcome_by_turn outcome_by_kind is_deferral
-kept-plain true request kind e = refl
-kept-plain false request Reply e = rw e refl
-kept-plain false request Invalidate e = rw e refl
-kept-plain false request Read e = rw e refl
-kept-plain false request WriteBack e = rw e refl
-kept-plain false request Upgrade e = rw e refl
+kept-plain handed request kind h1 = grind arith
 
 -- what is Deferred is no write-back and no reply
 pub deferred-held : (r : Run) (t j : ℕ) (s : SnoopEnd) (request : Request) → Timely r → IsSnooped r t j s
@@ -60,11 +55,7 @@ deferred-held r t j s request h k e deferred =
 
 pub held-plain : (kind : Kind) → is_never_held_up kind ≡ false → is_reply_kind kind ≡ false
 unfolding is_reply_kind
-held-plain Reply e = absurd (let no : ⊥ = cc in no)
-held-plain Invalidate e = refl
-held-plain Read e = refl
-held-plain WriteBack e = refl
-held-plain Upgrade e = refl
+held-plain kind h1 = grind arith
 
 clock-within : (w : Trace) (i q : ℕ) → live_clock_of w i ≡ Some q → q < length w
 unfolding live_clock_of
@@ -170,8 +161,7 @@ awaiting r c n t k i s request h l snooped deferred decoded early low reply late
 ids-of : (o a b : Option Request) (x y : Request) → a ≡ Some x → b ≡ Some y → have_same_id o a ≡ true
     → have_same_id o b ≡ true → x.did ≡ y.did
 unfolding have_same_id is_some_and
-ids-of None a b x y e f g k = absurd (let no : ⊥ = cc in no)
-ids-of (Some z) a b x y e f g k = sym (eqb-true z.did x.did (rw e at g)) ∙ eqb-true z.did y.did (rw f at k)
+ids-of o a b x y h1 h2 h3 h4 = grind arith
 
 same-ids : (a b : Option Request) (x y : Request) → a ≡ Some x → b ≡ Some y → x.did ≡ y.did → have_same_id a b ≡ true
 unfolding have_same_id is_some_and

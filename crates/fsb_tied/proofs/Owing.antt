@@ -1,11 +1,10 @@
 -- A request that has begun, and is neither cancelled nor ended, is one that its agent owes.
-use Rattle.std.proofs.Common.{ℕ, zero, suc, ◌+◌, ◌-◌, ◌<◌, ◌≤◌, ◌≡◌, Bool, true, false, not, ◌&&◌, List, [], ◌∷◌, Some}
-use Rattle.std.proofs.Common.{None, length, nat_eq, nat_lt, refl, sym, ap, subst, ◌∙◌, inl, inr, arith}
+use Rattle.std.proofs.Common.{ℕ, zero, suc, ◌+◌, ◌<◌, ◌≤◌, ◌≡◌, Bool, true, false, ◌&&◌, List, [], ◌∷◌, Some, None}
+use Rattle.std.proofs.Common.{length, nat_eq, refl, sym, ap, subst, ◌∙◌, inl, inr, arith}
 use Rattle.std.specs.List.{filter, list_any}
-use Rattle.std.specs.Option.{option_and_then, option_map}
 use Rattle.std.proofs.lemmas.Bool.{and_from, and_parts, both_ways, cases_Bool, cases_lt, eq-eqb, eqb-true}
-use Rattle.std.proofs.lemmas.Bool.{false_from_ne_true, le-leb, lt-ltb, ltb-true}
-use Rattle.fsb_count.specs.Options.{is_at, is_before, is_some_and}
+use Rattle.std.proofs.lemmas.Bool.{false_from_ne_true}
+use Rattle.fsb_count.specs.Options.{is_at, is_some_and}
 use Rattle.fsb_count.proofs.Interface.{any_where-at, is_at-from, is_before-parts}
 use Rattle.fsb_encode.specs.declared.request.Request.{Request}
 use Rattle.fsb_signal.specs.declared.lines.TheConstants.Lines.{ADS, AERR}
@@ -25,7 +24,7 @@ use Rattle.fsb_timely.specs.Timely.{Timely}
 use Rattle.fsb_timely.specs.Wants.{is_asked_for, owed}
 use Rattle.fsb_timely.proofs.Interface.{cancelled-told, moment-at, moment_of}
 use Rattle.fsb_lawful.specs.Beginning.{KeepsBounds}
-use Rattle.fsb_lawful.proofs.Interface.{IsListed, any-from, any-kept, any-listed, length-cut, map-some, outstanding-of}
+use Rattle.fsb_lawful.proofs.Interface.{IsListed, any-from, any-kept, any-listed, length-cut, outstanding-of}
 use Rattle.fsb_lawful.proofs.Interface.{owing-then, run_to-agrees}
 use Rattle.fsb_coherent.specs.Awaits.{cancelled_in}
 use Rattle.fsb_coherent.specs.Relation.{IsOpen, is_cancelled_below}
@@ -36,23 +35,13 @@ use Rattle.fsb_tied.proofs.Ended.{end-below, ended-snooped, response-within}
 begun-owing : (r : Run) (q : ℕ) (claim : Claim) → q < length r.trace → begun_at (past_of r) q ≡ Some claim
     → (owing : Owing) × ((moment_of r q).begun ≡ Some owing) × (owing.claim ≡ claim)
 unfolding begun_at past_of
-begun-owing r q claim l e =
-    let at = moment-at r (length r.trace) q l in
-    map-some (λ (owing : Owing). owing.claim) (moment_of r q).begun claim
-    (sym (ap (λ o. option_map (λ owing. owing.claim) (option_and_then (λ moment. moment.begun) o)) at) ∙ e)
+begun-owing r q claim l e = grind (arith, moment-at)
 
 -- so the clock e knows it, where it began there or before
 pub owing-gives : (r : Run) (e q : ℕ) → q < e + 1
     → owing_at (past_with r (moments_below r e) e) (run_to r e).trace e q ≡ (moment_of r q).begun
 unfolding owing_at moment_at
-owing-gives r e q l =
-    elim (cases_lt q e) [
-      | inl early ↦ owing-then r e q early
-      | inr late ↦
-          let same : e ≡ q = omega arith in
-          subst (λ k. owing_at (past_with r (moments_below r e) e) (run_to r e).trace e k ≡ (moment_of r k).begun) same
-          (rw (eq-eqb e e refl, owing_at) refl)
-    ]
+owing-gives r e q l = grind (arith, owing-then)
 
 -- a request that is outstanding behind the clock e is one that its agent owes there
 pub listed-owed : (r : Run) (e q : ℕ) (claim : Claim) → e < length r.trace → q < e + 1
@@ -81,15 +70,7 @@ listed-owed r e q claim l below out begun =
 any-both : {X : Type 0} (f g : X → Bool) (xs : List X) → list_any g (filter f xs) ≡ true
     → list_any (λ x. f x && g x) xs ≡ true
 any-both f g [] e = absurd (let no : ⊥ = cc in no)
-any-both f g (x ∷ xs) e =
-    elim (cases_Bool (f x)) [
-      | inr off ↦ rw off (any-both f g xs (let e' = rw off at e in e'))
-      | inl on ↦
-          elim (cases_Bool (g x)) [
-            | inl passes ↦ rw (on, passes) refl
-            | inr fails ↦ rw (on, fails) (any-both f g xs (let e' = rw (on, fails) at e in e'))
-          ]
-    ]
+any-both f g (x ∷ xs) e = grind (arith, any-both f g xs)
 
 -- what an agent owes has begun, and is outstanding
 pub record IsOwed (r : Run) (a line e : ℕ) : Type 0 where
@@ -103,16 +84,12 @@ pub record IsOwed (r : Run) (a line e : ℕ) : Type 0 where
 
 outstanding-below : (w : Trace) (c q : ℕ) → is_outstanding w c q ≡ true → q < c
 unfolding is_outstanding
-outstanding-below w c q e =
-    ltb-true q c (and_parts _ _ (and_parts _ _ (and_parts _ _ (and_parts _ _ e).0).0).0).1
+outstanding-below w c q e = grind arith
 
 owing-begun : (r : Run) (q : ℕ) (owing : Owing) → q < length r.trace → (moment_of r q).begun ≡ Some owing
     → begun_at (past_of r) q ≡ Some owing.claim
 unfolding begun_at past_of
-owing-begun r q owing l e =
-    ap (λ o. option_map (λ owing. owing.claim) (option_and_then (λ moment. moment.begun) o))
-    (moment-at r (length r.trace) q l)
-    ∙ ap (option_map (λ owing. owing.claim)) e
+owing-begun r q owing l e = grind (arith, moment-at)
 
 pub is-owed : (r : Run) (a line e : ℕ) → e < length r.trace → is_asked_for (owed (past_of r) a (suc e)) line ≡ true
     → IsOwed r a line e
@@ -141,9 +118,7 @@ is-owed r a line e l asked =
 pub cancelled-at : (r : Run) (q : ℕ) → q + 3 < length r.trace → line_at ADS r.trace q ≡ true
     → line_at AERR r.trace (q + 3) ≡ true → cancelled_in (past_of r) (q + 3) ≡ Some q
 unfolding cancelled_in cancelled_at
-cancelled-at r q l t e =
-    let back : q + 3 - 3 ≡ q = omega arith in
-    cancelled-told r (q + 3) l ∙ rw (cancelled_at, le-leb 3 (q + 3) (omega arith), back, e, t) (ap Some back)
+cancelled-at r q l t e = grind (arith, cancelled-told)
 
 pub cancelled-below : (r : Run) (n q : ℕ) → q + 3 < n → n ≤ length r.trace → line_at ADS r.trace q ≡ true
     → line_at AERR r.trace (q + 3) ≡ true → is_cancelled_below (past_of r) n q ≡ true
@@ -165,23 +140,7 @@ pub record IsLeft (r : Run) (e q : ℕ) : Type 0 where
 pub left-outstanding : (r : Run) (e q : ℕ) → e < length r.trace → IsLeft r e q
     → is_outstanding (run_to r e).trace (e + 1) q ≡ true
 unfolding is_outstanding is_dropped is_finished is_cancelled
-left-outstanding r e q l k =
-    let u = (run_to r e).trace in
-    let agree = run_to-agrees r e l in
-    let below = k.below in
-    let ads = sym (line_at-agree ADS (e + 1) r.trace u q agree below) ∙ k.asks in
-    let kept : (line_at AERR u (q + 3) && nat_lt (q + 3) (e + 1)) ≡ false = false_from_ne_true _ (λ t.
-    let parts = and_parts (line_at AERR u (q + 3)) (nat_lt (q + 3) (e + 1)) t in
-    let low = ltb-true (q + 3) (e + 1) parts.1 in
-    k.uncancelled (line_at-agree AERR (e + 1) r.trace u (q + 3) agree low ∙ parts.0) low) in
-    let going : (is_live u q && is_before (last_clock_of u (live_number_of u q)) (e + 1)) ≡ false =
-    false_from_ne_true _ (λ t.
-    let parts = and_parts (is_live u q) _ t in
-    let x = is_before-parts (last_clock_of u (live_number_of u q)) (e + 1) parts.1 in
-    k.unfinished (live_number_of u q) x.0 parts.0 refl x.1 x.2) in
-    and_from _ _ (and_from _ _ (and_from _ _ (and_from _ _ ads (lt-ltb q (e + 1) below)) (ap not k.no_reply))
-    (ap not kept))
-    (ap not going)
+left-outstanding r e q l k = grind (arith, run_to-agrees, line_at-agree, is_before-parts)
 
 reply-some : (request : Request) → is_reply (Some request) ≡ is_reply_kind request.kind
 unfolding is_reply is_some_and

@@ -1,16 +1,14 @@
 -- In a timely run the link of a grant that owns its line owns it.
-use Rattle.std.proofs.Common.{ℕ, ◌≡◌, Bool, true, false, Option, Some, None, refl, sym, ap, ◌∙◌}
+use Rattle.std.proofs.Common.{ℕ, ◌≡◌, Bool, true, false, Option, Some, refl, sym, ◌∙◌, arith}
 use Rattle.std.specs.Option.{option_map}
 use Rattle.fsb_count.specs.Options.{is_some_and}
-use Rattle.fsb_encode.specs.declared.request.Kind.{Kind}
-use Rattle.fsb_encode.specs.declared.request.Kind.TheVariants.{Invalidate, Read, Reply, Upgrade, WriteBack}
 use Rattle.fsb_encode.specs.declared.request.Request.{Request}
 use Rattle.fsb_line.specs.States.{kind_owns}
 use Rattle.fsb_trace.specs.At.{Trace, request_at}
 use Rattle.fsb_trace.specs.declared.outcome.Outcome.{Outcome}
 use Rattle.fsb_trace.specs.Requests.{is_reply, is_reply_kind}
 use Rattle.fsb_timely.specs.Grants.{is_owning, snooped_at}
-use Rattle.fsb_timely.specs.Moments.{gives_line, grant_to, is_owner_request, is_shared_at}
+use Rattle.fsb_timely.specs.Moments.{gives_line, grant_to, is_owner_request}
 use Rattle.fsb_timely.specs.Past.{Claim, Grant, Past, SnoopEnd}
 use Rattle.fsb_timely.specs.Runs.{Run, past_of}
 use Rattle.fsb_timely.proofs.Interface.{tied-snoop}
@@ -25,25 +23,13 @@ own-owns : (p : Past) (w : Trace) (q t : ℕ) (outcome : Outcome) (claim : Claim
     → gives_line p w q t outcome ≡ b → Some grant ≡ own_grant p w q t outcome claim
     → grant.owns ≡ is_owner_request (request_at w q)
 unfolding own_grant grant_to
-own-owns p w q t outcome claim grant false e f = absurd (let no : ⊥ = (let f' = rw e at f in cc) in no)
-own-owns p w q t outcome claim grant true e f =
-    let f' = rw e at f in
-    let same : grant ≡ grant_to q (is_owner_request (request_at w q)) (is_shared_at w t) claim = cc in
-    ap (λ (g : Grant). g.owns) same
+own-owns p w q t outcome claim grant b h1 h2 = grind arith
 
 by-request : (s : SnoopEnd) (grant : Grant) (o : Option Request) → s.grant ≡ Some grant → grant.owns ≡ true
     → s.kind ≡ option_map (λ (x : Request). x.kind) o
     → (is_reply o ≡ false → grant.owns ≡ is_owner_request o) → kind_owns (purpose_at s) ≡ true
 unfolding purpose_at purpose_of purpose_granted is_some_and is_reply is_reply_kind is_owner_request is_owning
-by-request s grant None e owns k own = rw (k, e, owns) refl
-by-request s grant (Some request) e owns k own = by-kind request.kind refl
-  where
-    by-kind : (kind : Kind) → request.kind ≡ kind → kind_owns (purpose_at s) ≡ true
-    by-kind Reply f = let k' = k ∙ ap Some f in rw (k', e, owns) refl
-    by-kind Invalidate f = let k' = k ∙ ap Some f in rw k' refl
-    by-kind Upgrade f = let k' = k ∙ ap Some f in rw k' refl
-    by-kind Read f = absurd (let no : ⊥ = (let o' = (rw f at own) refl in cc) in no)
-    by-kind WriteBack f = absurd (let no : ⊥ = (let o' = (rw f at own) refl in cc) in no)
+by-request s grant o h1 h2 h3 h4 = grind arith
 
 -- what is asked of a line by a request that is granted it to own owns
 pub granted-owns : (r : Run) (t : ℕ) (s : SnoopEnd) (grant : Grant) → snooped_at (past_of r) t ≡ Some s

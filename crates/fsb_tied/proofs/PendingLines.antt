@@ -1,8 +1,8 @@
 -- A line with a deferral that is not replied to is pending: requests for it are retried.
-use Rattle.std.proofs.Common.{ℕ, zero, suc, ◌+◌, ◌<◌, ◌≤◌, ◌≡◌, true, false, not, ◌&&◌, List, Option, Some, length}
-use Rattle.std.proofs.Common.{slice_index, take, nat_eq, refl, sym, ap, subst, ◌∙◌, arith, inl, inr}
-use Rattle.std.specs.Option.{option_and_then, option_map}
-use Rattle.std.proofs.lemmas.Bool.{and_from, and_parts, cases_lt, eq-eqb, eqb-true, false_from_ne_true}
+use Rattle.std.proofs.Common.{ℕ, zero, suc, ◌+◌, ◌<◌, ◌≤◌, ◌≡◌, true, false, not, List, Option, Some, length}
+use Rattle.std.proofs.Common.{slice_index, take, refl, sym, ap, subst, ◌∙◌, arith, inl, inr}
+use Rattle.std.specs.Option.{option_and_then}
+use Rattle.std.proofs.lemmas.Bool.{and_from, cases_lt, false_from_ne_true}
 use Rattle.std.proofs.lemmas.List.{take-append-le, take_all}
 use Rattle.fsb_count.specs.Options.{is_before, is_some_and}
 use Rattle.fsb_count.proofs.Interface.{any_where-at, is_at-from, is_before-from, is_before-parts}
@@ -19,15 +19,14 @@ use Rattle.fsb_trace.specs.Requests.{line_of, live_clock_of, live_count}
 use Rattle.fsb_trace.specs.Snoop.{snoop_end_of}
 use Rattle.fsb_trace.proofs.Interface.{AgreeTo-sym, live_below_count, live_clock_of-stays, request_at-agree}
 use Rattle.fsb_trace.proofs.Interface.{settled_outcome_of-ended, snoop_end_of-stays}
-use Rattle.fsb_timely.specs.Grants.{snooped_at}
-use Rattle.fsb_timely.specs.Moments.{agent_at, claim_at, effective_choice, number_of_turn, snoop_end_with, turns_in}
+use Rattle.fsb_timely.specs.Moments.{claim_at, effective_choice, number_of_turn, snoop_end_with, turns_in}
 use Rattle.fsb_timely.specs.Past.{Claim, SnoopEnd}
 use Rattle.fsb_timely.specs.Runs.{Run, moments_below, past_of, past_to, run_to}
 use Rattle.fsb_timely.specs.Timely.{Timely}
 use Rattle.fsb_timely.proofs.Interface.{length-moments, line_of-agree, moment-snooped, settled_by-agree, snoop_of}
 use Rattle.fsb_timely.proofs.Interface.{snooped-there}
 use Rattle.fsb_coherent.specs.Relation.{deferral_at, deferred_to, defers_line}
-use Rattle.fsb_lawful.proofs.Interface.{and-then, map-some, past-cut, run_to-agrees, some-and, turned-at}
+use Rattle.fsb_lawful.proofs.Interface.{and-then, past-cut, run_to-agrees, some-and, turned-at}
 use Rattle.fsb_tied.proofs.RepliesSeen.{reply-snooped}
 use Rattle.fsb_tied.proofs.SnoopClaims.{IsSnooped, snooped-in}
 
@@ -46,19 +45,11 @@ HasNoReply r j n = (i x : ℕ) → reply_number_of r.trace j ≡ Some i → snoo
 
 pub put-off-at : (r : Run) (line t : ℕ) → defers_line (past_of r) line t ≡ true → (j : ℕ) × IsPutOff r line t j
 unfolding defers_line
-put-off-at r line t e =
-    let d = some-and (snooped_at (past_of r) t)
-    (λ (s : SnoopEnd). is_deferral s.outcome && is_some_and s.claim (λ claim. nat_eq claim.line line)) e in
-    let parts = and_parts (is_deferral d.0.outcome) (is_some_and d.0.claim (λ claim. nat_eq claim.line line)) d.2 in
-    let c = some-and d.0.claim (λ (claim : Claim). nat_eq claim.line line) parts.1 in
-    let k = snooped-in r t d.0 d.1 in
-    let names = eqb-true c.0.line line c.2 in
-    (k.0, record { end = d.0; snooped = k.1; deferred = parts.0; claim = c.0; claims = c.1; names = names })
+put-off-at r line t e = grind (arith, some-and, snooped-in)
 
 pub defers-there : (r : Run) (line t j : ℕ) → IsPutOff r line t j → defers_line (past_of r) line t ≡ true
 unfolding defers_line is_some_and
-defers-there r line t j d =
-    rw (d.snooped.tied.there, d.claims) (and_from _ _ d.deferred (eq-eqb d.claim.line line d.names))
+defers-there r line t j d = grind arith
 
 -- what is deferred by it
 pub put-off-as : (r : Run) (line t j : ℕ) → (d : IsPutOff r line t j)
@@ -69,11 +60,7 @@ put-off-as r line t j d = rw (d.snooped.tied.there, d.claims) refl
 -- the line of a claim
 pub claim-names : (w : Trace) (q : ℕ) (claim : Claim) → claim_at w q ≡ Some claim → line_of w q ≡ Some claim.line
 unfolding claim_at
-claim-names w q claim e =
-    let a = and-then (λ a. option_map (λ line. record { first = q; agent = a; line = line }) (line_of w q))
-    (agent_at w q) claim e in
-    let l = map-some (λ line. record { first = q; agent = a.0; line = line }) (line_of w q) claim a.2 in
-    l.1 ∙ ap (λ c. Some c.line) l.2
+claim-names w q claim e = grind arith
 
 -- the moments below a clock begin those below a later one
 moments-begin : (r : Run) (n m : ℕ) → n ≤ m → take n (moments_below r m) ≡ moments_below r n
@@ -188,8 +175,7 @@ pending-retried r n i s request line t j h k e names held d less none =
     let u = (run_to r n).trace in
     let above = k.above in
     let l = k.within in
-    let there : Some s ≡ Some (snoop_of r n i s.first) = sym k.tied.there ∙ snooped-there r n l
-    ∙ moment-snooped r i n s.first k.tied.reached k.tied.first in
+    let there : Some s ≡ Some (snoop_of r n i s.first) = grind (arith, snooped-there, moment-snooped) in
     let same : s ≡ snoop_of r n i s.first = cc in
     let decoded = sym (request_at-agree (n + 1) r.trace u s.first (run_to-agrees r n l) (omega arith)) ∙ e in
     let pending = pending-there r line n t j h d less l none in

@@ -2,7 +2,6 @@
 use Rattle.std.proofs.Common.{ℕ, zero, suc, ◌+◌, ◌<◌, ◌≤◌, ◌≡◌, true, false, Some, length, refl, sym, ap, subst, ◌∙◌}
 use Rattle.std.proofs.Common.{inl, inr, arith}
 use Rattle.std.proofs.lemmas.Bool.{both_ways, cases_Bool}
-use Rattle.fsb_count.specs.Options.{is_at}
 use Rattle.fsb_count.proofs.Interface.{any_where-off}
 use Rattle.fsb_line.specs.Line.{LineDeferral}
 use Rattle.fsb_signal.specs.declared.lines.TheConstants.Lines.{AERR}
@@ -20,7 +19,6 @@ use Rattle.fsb_timely.specs.Wants.{is_asked_for, owed}
 use Rattle.fsb_timely.proofs.Interface.{tied-snoop}
 use Rattle.fsb_lawful.specs.Beginning.{KeepsBounds}
 use Rattle.fsb_lawful.proofs.Interface.{and-then, run_to-agrees}
-use Rattle.fsb_coherent.specs.Awaits.{cancelled_in}
 use Rattle.fsb_coherent.specs.Relation.{deferral_below, is_cancelled_below}
 use Rattle.fsb_tied.proofs.Deferrals.{deferral-awaits}
 use Rattle.fsb_tied.proofs.Beginnings.{begun-from, begun-want}
@@ -40,14 +38,7 @@ pub snooped-owed : (r : Run) (n u : ℕ) (s : SnoopEnd) (claim : Claim) → Time
     → is_asked_for (owed (past_of r) claim.agent n) claim.line ≡ true
 unfolding is_cancelled_below
 snooped-owed r n u s claim h bounds l below there claims unended =
-    let tied = tied-snoop r u s there in
-    let k = snooped-by r u tied.0 s tied.1 in
-    let above = k.above in
-    let begun = begun-from r s.first claim (omega arith) k.ads (sym k.tied.claim ∙ claims) in
-    own-owed r n s.first claim h bounds l (omega arith) begun
-    (any_where-off (λ t. is_at (cancelled_in (past_of r) t) s.first) n
-    (λ t m. live-uncancelled r tied.0 s.first t (omega arith) k.tied.first))
-    unended
+    grind (arith, tied-snoop, snooped-by, begun-from, own-owed, any_where-off, live-uncancelled)
 
 -- no reply to live request j has its end so far
 abbrev pub HasNoReplyEnd : Run → ℕ → ℕ → Type 0

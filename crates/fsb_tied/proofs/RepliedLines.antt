@@ -7,7 +7,7 @@ use Rattle.std.proofs.Math.Bool.{or-false}
 use Rattle.fsb_count.specs.Options.{is_at, is_some_and}
 use Rattle.fsb_count.proofs.Interface.{first_where-same, is_at-from, is_at-some}
 use Rattle.fsb_encode.specs.declared.request.Kind.{Kind}
-use Rattle.fsb_encode.specs.declared.request.Kind.TheVariants.{Reply, Invalidate, Read, WriteBack, Upgrade}
+use Rattle.fsb_encode.specs.declared.request.Kind.TheVariants.{Reply}
 use Rattle.fsb_encode.specs.declared.request.Request.{Request}
 use Rattle.fsb_hazard.specs.declared.choice.Turn.{Turn}
 use Rattle.fsb_hazard.specs.declared.choice.Turn.TheVariants.{Keep}
@@ -122,25 +122,16 @@ hit-before r line n s grant h k =
 owns-as : (request : Request) (kind : Kind) → request.kind ≡ kind → is_reply_kind kind ≡ false → (s : SnoopEnd)
     → s.kind ≡ Some kind → is_owner_request (Some request) ≡ kind_owns (purpose_at s)
 unfolding is_owner_request is_some_and is_owning is_reply_kind purpose_at purpose_of
-owns-as request Reply e plain s k = absurd (let wrong : ⊥ = cc in wrong)
-owns-as request Invalidate e plain s k = rw (e, k) refl
-owns-as request Read e plain s k = rw (e, k) refl
-owns-as request WriteBack e plain s k = rw (e, k) refl
-owns-as request Upgrade e plain s k = rw (e, k) refl
+owns-as request kind h1 h2 s h3 = grind arith
 
 kind-reply : (kind : Kind) → is_reply_kind kind ≡ true → kind ≡ Reply
 unfolding is_reply_kind
-kind-reply Reply e = refl
-kind-reply Invalidate e = absurd (let wrong : ⊥ = cc in wrong)
-kind-reply Read e = absurd (let wrong : ⊥ = cc in wrong)
-kind-reply WriteBack e = absurd (let wrong : ⊥ = cc in wrong)
-kind-reply Upgrade e = absurd (let wrong : ⊥ = cc in wrong)
+kind-reply kind h1 = grind arith
 
 reply-request : (o : Option Request) → is_reply o ≡ true → (request : Request) × (o ≡ Some request)
     × (request.kind ≡ Reply)
 unfolding is_reply is_some_and
-reply-request None e = absurd (let wrong : ⊥ = cc in wrong)
-reply-request (Some request) e = (request, refl, kind-reply request.kind e)
+reply-request o h1 = grind (arith, kind-reply)
 
 reply-kept : (o : Option Request) (request : Request) → o ≡ Some request → request.kind ≡ Reply
     → is_always_kept o ≡ true

@@ -1,8 +1,6 @@
 -- A reply that is seen in the samples up to a clock is the reply of the whole run.
-use Rattle.std.proofs.Common.{ℕ, ◌+◌, ◌<◌, ◌≤◌, ◌≡◌, Bool, true, false, ◌&&◌, Some, length, refl, sym, ap, subst, ◌∙◌}
-use Rattle.std.proofs.Common.{arith}
+use Rattle.std.proofs.Common.{ℕ, ◌+◌, ◌<◌, ◌≤◌, ◌≡◌, Bool, true, ◌&&◌, Some, length, refl, sym, ap, ◌∙◌, arith}
 use Rattle.std.specs.Option.{option_map}
-use Rattle.std.proofs.lemmas.Bool.{and_parts}
 use Rattle.fsb_count.specs.Options.{is_before}
 use Rattle.fsb_count.proofs.Interface.{count_where-same, first_where-carried, first_where-found, is_before-from}
 use Rattle.fsb_count.proofs.Interface.{is_before-parts}
@@ -12,19 +10,15 @@ use Rattle.fsb_trace.specs.Agree.{AgreeTo}
 use Rattle.fsb_trace.specs.At.{Trace, request_at}
 use Rattle.fsb_trace.specs.Flight.{is_live_reply_to, is_reply_to, reply_clock_of, reply_number_of}
 use Rattle.fsb_trace.specs.Outcome.{response_clock_of}
-use Rattle.fsb_trace.specs.Requests.{have_same_id, is_live, is_reply, live_clock_of, live_number_of, live_request_of}
-use Rattle.fsb_trace.proofs.Interface.{AgreeTo-sym, is_live-agree, line_at-agree, live_clock_of-number}
-use Rattle.fsb_trace.proofs.Interface.{live_clock_of-stays, request_at-agree, response_clock_of-stays}
-use Rattle.fsb_trace.proofs.Interface.{snoop_end_of-clock, snoop_end_of-stays}
+use Rattle.fsb_trace.specs.Requests.{have_same_id, is_reply, live_clock_of, live_number_of, live_request_of}
+use Rattle.fsb_trace.proofs.Interface.{is_live-agree, line_at-agree, live_clock_of-number, live_clock_of-stays}
+use Rattle.fsb_trace.proofs.Interface.{request_at-agree, response_clock_of-stays, snoop_end_of-clock}
+use Rattle.fsb_trace.proofs.Interface.{snoop_end_of-stays}
 use Rattle.fsb_trace.specs.Snoop.{snoop_end_of}
-use Rattle.fsb_laws.proofs.Interface.{live_of_reply}
-use Rattle.fsb_lawful.proofs.Interface.{and4, map-some}
 
 -- two tests of which each gives the other are the same
 pub same-both : (x y : Bool) → (x ≡ true → y ≡ true) → (y ≡ true → x ≡ true) → x ≡ y
-same-both true y f g = sym (f refl)
-same-both false true f g = g refl
-same-both false false f g = refl
+same-both x y h1 h2 = grind arith
 
 response-kept : (n : ℕ) (w v : Trace) (j c : ℕ) → AgreeTo n w v → c ≤ n → is_before (response_clock_of w j) c ≡ true
     → is_before (response_clock_of v j) c ≡ true
@@ -35,9 +29,7 @@ response-kept n w v j c a l e =
 
 response-same : (n : ℕ) (w v : Trace) (j c : ℕ) → AgreeTo n w v → c ≤ n
     → is_before (response_clock_of w j) c ≡ is_before (response_clock_of v j) c
-response-same n w v j c a l =
-    same-both (is_before (response_clock_of w j) c) (is_before (response_clock_of v j) c)
-    (response-kept n w v j c a l) (response-kept n v w j c (AgreeTo-sym n w v a) l)
+response-same n w v j c a l = grind (arith, response-kept)
 
 pub live-request : (w : Trace) (j q : ℕ) → live_clock_of w j ≡ Some q → live_request_of w j ≡ request_at w q
 unfolding live_request_of
@@ -79,31 +71,11 @@ pub record HasReply (w : Trace) (j i : ℕ) : Type 0 where
 
 pub has-reply : (w : Trace) (j i : ℕ) → reply_number_of w j ≡ Some i → HasReply w j i
 unfolding reply_number_of reply_clock_of is_live_reply_to is_reply_to
-has-reply w j i e =
-    let q = map-some (live_number_of w) (reply_clock_of w j) i e in
-    let live = live_of_reply w j q.0 q.1 in
-    let found = first_where-found (is_live_reply_to w j) (length w) q.0 q.1 in
-    let parts = and_parts (is_live w q.0) (is_reply_to w j q.0) found.1 in
-    let a = and4 (line_at ADS w q.0) (is_reply (request_at w q.0))
-    (have_same_id (request_at w q.0) (live_request_of w j)) (is_before (response_clock_of w j) q.0) parts.1 in
-    let response = is_before-parts (response_clock_of w j) q.0 a.3 in
-    record {
-      clock = q.0;
-      is_clock = q.1;
-      first = subst (λ n. live_clock_of w n ≡ Some q.0) q.2 (live_clock_of-number w q.0 live.1 live.0);
-      number = q.2;
-      replies = a.1;
-      same_id = a.2;
-      ads = a.0;
-      response = response.0;
-      is_response = response.1;
-      after = response.2;
-    }
+has-reply w j i e = grind (arith, first_where-found, is_before-parts, live_clock_of-number)
 
 number-same : (n : ℕ) (w v : Trace) (c : ℕ) → AgreeTo n w v → c + 3 < n → live_number_of w c ≡ live_number_of v c
 unfolding live_number_of
-number-same n w v c a l =
-    count_where-same (is_live w) (is_live v) c (record { same = λ k m. is_live-agree n w v k a (omega arith) })
+number-same n w v c a l = grind (arith, count_where-same, is_live-agree)
 
 reply-number : (w : Trace) (j q : ℕ) → reply_clock_of w j ≡ Some q → reply_number_of w j ≡ Some (live_number_of w q)
 unfolding reply_number_of

@@ -1,11 +1,11 @@
 -- What the snoop end of a reply that grants a line answers: a request that was Deferred on the line, the last one.
-use Rattle.std.proofs.Common.{ℕ, ◌+◌, ◌<◌, ◌≤◌, ◌≡◌, Bool, true, false, ◌&&◌, List, Some, None, is_none, nat_eq, nat_le}
-use Rattle.std.proofs.Common.{refl, sym, ap, subst, ◌∙◌, arith, inl, inr}
+use Rattle.std.proofs.Common.{ℕ, ◌+◌, ◌<◌, ◌≤◌, ◌≡◌, Bool, true, false, List, Some, None, refl, sym, ap, subst, ◌∙◌}
+use Rattle.std.proofs.Common.{arith, inl, inr}
 use Rattle.std.specs.Option.{option_and_then}
-use Rattle.std.proofs.lemmas.Bool.{and_parts, both_ways, cases_lt, eqb-true, false_from_ne_true, leb-true}
+use Rattle.std.proofs.lemmas.Bool.{and_parts, both_ways, cases_lt, false_from_ne_true}
 use Rattle.fsb_count.specs.Clocks.{any_where, from_clock, last_where}
-use Rattle.fsb_count.specs.Options.{is_at, is_some_and}
-use Rattle.fsb_count.proofs.Interface.{any_where-off, first_where-found, is_at-some, is_none-none}
+use Rattle.fsb_count.specs.Options.{is_at}
+use Rattle.fsb_count.proofs.Interface.{any_where-off, first_where-found, is_at-some}
 use Rattle.fsb_trace.specs.declared.outcome.Outcome.{Outcome}
 use Rattle.fsb_trace.specs.At.{Trace, request_at}
 use Rattle.fsb_trace.specs.Flight.{reply_number_of}
@@ -22,7 +22,7 @@ use Rattle.fsb_timely.specs.Timely.{Timely}
 use Rattle.fsb_timely.proofs.Interface.{last_where-found, last_where-from, one_end, snoop-tied}
 use Rattle.fsb_coherent.specs.Relation.{deferral_at, deferral_below, deferred_to, defers_line, replies_line}
 use Rattle.fsb_lawful.specs.Beginning.{KeepsBounds}
-use Rattle.fsb_lawful.proofs.Interface.{and-fails, and-then, map-some, some-and}
+use Rattle.fsb_lawful.proofs.Interface.{and-then, some-and}
 use Rattle.fsb_tied.proofs.Deferrals.{retry-outcome}
 use Rattle.fsb_tied.proofs.OneReply.{deferred-held}
 use Rattle.fsb_tied.proofs.PendingLines.{HasNoReply, IsPutOff, defers-there, pending-retried, put-off-as, put-off-at}
@@ -48,8 +48,7 @@ served-from : (p : Past) (w : Trace) (i q t : ℕ) (outcome : Outcome) (grant : 
     → gives_line p w q t outcome ≡ b → grant_of p w i q t outcome ≡ Some grant
     → option_and_then (grant_for w q t) (served_number w (turns_in p.moments) i) ≡ Some grant
 unfolding grant_of
-served-from p w i q t outcome grant true e f = let f' = rw (e, grant_of) at f in f'
-served-from p w i q t outcome grant false e f = absurd (let wrong : ⊥ = (let f' = rw (e, grant_of) at f in cc) in wrong)
+served-from p w i q t outcome grant b h1 h2 = grind arith
 
 -- what makes a grant without a claim is a reply
 reply-served : (w : Trace) (turns : List ℕ) (i j q : ℕ) (claim : Claim) (b : Bool) → is_reply (live_request_of w i) ≡ b
@@ -57,14 +56,7 @@ reply-served : (w : Trace) (turns : List ℕ) (i j q : ℕ) (claim : Claim) (b :
     → claim_at w q ≡ None
     → (b ≡ true) × (j < i) × (is_answered_by w turns i j ≡ true)
 unfolding served_number live_claim_of
-reply-served w turns i j q claim true e f claims clock none =
-    let found = first_where-found (is_answered_by w turns i) i j (let f' = rw (e, served_number) at f in f') in
-    (refl, found.0, found.1)
-reply-served w turns i j q claim false e f claims clock none =
-    let same : i ≡ j = (let f' = rw (e, served_number) at f in cc) in
-    let itself = ap (option_and_then (claim_at w)) clock ∙ none in
-    let here = subst (λ x. option_and_then (claim_at w) (live_clock_of w x) ≡ None) same itself in
-    absurd (let wrong : ⊥ = (let e' = sym here ∙ claims in cc) in wrong)
+reply-served w turns i j q claim b h1 h2 h3 h4 h5 = grind (arith, first_where-found)
 
 -- a live request with a claim on the line that is settled as Deferred
 put-off-from : (r : Run) (line t j : ℕ) (s : SnoopEnd) (claim : Claim) → IsSnooped r t j s
@@ -85,10 +77,7 @@ granted-from : (w : Trace) (q t j : ℕ) (grant : Grant) → grant_for w q t j �
     → (claim : Claim) × (live_claim_of w j ≡ Some claim)
     × (grant_to q (is_owner_request (live_request_of w j)) (is_shared_at w t) claim ≡ grant) × (claim.line ≡ grant.line)
 unfolding grant_for grant_to
-granted-from w q t j grant e =
-    let give = grant_to q (is_owner_request (live_request_of w j)) (is_shared_at w t) in
-    let c = map-some give (live_claim_of w j) grant e in
-    (c.0, c.1, c.2, ap (λ g. g.line) c.2)
+granted-from w q t j grant e = grind arith
 
 pub reply-end-at : (r : Run) (line n : ℕ) (s : SnoopEnd) (grant : Grant) → snooped_at (past_of r) n ≡ Some s
     → s.claim ≡ None
@@ -128,21 +117,12 @@ reply-end-at r line n s grant there none grants names =
 replied-at : (r : Run) (line x : ℕ) → replies_line (past_of r) line x ≡ true
     → (s : SnoopEnd) × (grant : Grant) × IsReplyEnd r line x s grant
 unfolding replies_line
-replied-at r line x e =
-    let s = some-and (snooped_at (past_of r) x)
-    (λ (s : SnoopEnd). is_none s.claim && is_some_and s.grant (λ grant. nat_eq grant.line line)) e in
-    let parts = and_parts (is_none s.0.claim) (is_some_and s.0.grant (λ grant. nat_eq grant.line line)) s.2 in
-    let g = some-and s.0.grant (λ (grant : Grant). nat_eq grant.line line) parts.1 in
-    (s.0, g.0, reply-end-at r line x s.0 g.0 s.1 (is_none-none s.0.claim parts.0) g.1 (eqb-true g.0.line line g.2))
+replied-at r line x e = grind (arith, some-and, reply-end-at)
 
 -- up to its reply's snoop end a request has no reply
 not-before : (r : Run) (j i n m : ℕ) → reply_number_of r.trace j ≡ Some i → snoop_end_of r.trace i ≡ Some n → m ≤ n
     → HasNoReply r j m
-not-before r j i n m reply reached low = λ k x other ends less.
-    let one : k ≡ i = cc in
-    let two : snoop_end_of r.trace i ≡ Some x = subst (λ y. snoop_end_of r.trace y ≡ Some x) one ends in
-    let same : x ≡ n = cc in
-    omega arith
+not-before r j i n m reply reached low = grind arith
 
 -- a line is not Deferred again before the reply
 not-again : (r : Run) (line t j u k : ℕ) → Timely r → KeepsBounds r.plan → IsPutOff r line t j → IsPutOff r line u k
@@ -197,9 +177,7 @@ last-at test n c l t none =
 none-from : (test : ℕ → Bool) (n c : ℕ) → ((t : ℕ) → c < t → t < n → test t ≡ false)
     → any_where (from_clock (c + 1) test) n ≡ false
 unfolding from_clock
-none-from test n c none =
-    any_where-off (from_clock (c + 1) test) n (λ t l. and-fails (nat_le (c + 1) t) (test t) (λ e.
-    let low = leb-true (c + 1) t e in none t (omega arith) l))
+none-from test n c none = grind (arith, any_where-off)
 
 deferral-by : (p : Past) (line n t : ℕ) → last_where (defers_line p line) n ≡ Some t
     → any_where (from_clock (t + 1) (replies_line p line)) n ≡ false → deferral_below p line n ≡ deferral_at p line t

@@ -1,18 +1,17 @@
 -- A reply grants the line of the request that it answers.
-use Rattle.std.proofs.Common.{ℕ, suc, ◌+◌, ◌<◌, ◌≤◌, ◌≡◌, true, false, List, Option, Some, None, length, refl, sym, ap}
-use Rattle.std.proofs.Common.{subst, ◌∙◌, arith, inl, inr}
+use Rattle.std.proofs.Common.{ℕ, suc, ◌+◌, ◌<◌, ◌≤◌, ◌≡◌, true, false, List, Option, Some, None, length, refl, sym}
+use Rattle.std.proofs.Common.{ap, subst, ◌∙◌, arith}
 use Rattle.std.specs.Option.{option_and_then}
-use Rattle.std.proofs.lemmas.Bool.{and_from, and_parts, cases_lt, eq-eqb, false_from_ne_true}
+use Rattle.std.proofs.lemmas.Bool.{and_from, and_parts, eq-eqb, false_from_ne_true}
 use Rattle.fsb_count.specs.Options.{is_at, is_some_and}
 use Rattle.fsb_count.proofs.Interface.{first_where-at, is_at-from, is_at-some}
 use Rattle.fsb_encode.specs.declared.request.Kind.{Kind}
-use Rattle.fsb_encode.specs.declared.request.Kind.TheVariants.{Reply, Invalidate, Read, WriteBack, Upgrade}
 use Rattle.fsb_encode.specs.declared.request.Request.{Request}
 use Rattle.fsb_signal.specs.declared.lines.TheConstants.Lines.{ADS}
 use Rattle.fsb_signal.specs.Samples.{line_at}
 use Rattle.fsb_trace.specs.declared.outcome.Outcome.{Outcome}
 use Rattle.fsb_trace.specs.declared.who.Who.{Who}
-use Rattle.fsb_trace.specs.declared.who.Who.TheVariants.{Symmetric, Priority}
+use Rattle.fsb_trace.specs.declared.who.Who.TheVariants.{Priority}
 use Rattle.fsb_trace.specs.At.{Trace, request_at}
 use Rattle.fsb_trace.specs.Flight.{reply_number_of}
 use Rattle.fsb_trace.specs.Outcome.{is_deferral, is_settled_deferred}
@@ -39,9 +38,7 @@ use Rattle.fsb_tied.proofs.SnoopClaims.{IsSnooped, snooped-by}
 unclaimed-by : (w : Trace) (q : ℕ) (o : Option Who) → winner_at w q ≡ o → is_agent o Priority ≡ true
     → claim_at w q ≡ None
 unfolding claim_at agent_at is_agent is_some_and is_same_agent
-unclaimed-by w q None e f = rw (claim_at, agent_at, e) refl
-unclaimed-by w q (Some Priority) e f = rw (claim_at, agent_at, e) refl
-unclaimed-by w q (Some (Symmetric a)) e f = absurd (let wrong : ⊥ = cc in wrong)
+unclaimed-by w q o h1 h2 = grind arith
 
 -- a reply has no claim
 pub reply-unclaimed : (r : Run) (q : ℕ) → Timely r → WantsLawfully r → r.plan.ahead ≤ 4 → suc q < length r.trace
@@ -60,17 +57,12 @@ reply-unclaimed r q h wants few l ads replies =
 
 reply-kind-gives : (kind : Kind) (outcome : Outcome) → is_reply_kind kind ≡ true → makes_grant kind outcome ≡ true
 unfolding is_reply_kind makes_grant
-reply-kind-gives Reply outcome e = refl
-reply-kind-gives Invalidate outcome e = absurd (let wrong : ⊥ = cc in wrong)
-reply-kind-gives Read outcome e = absurd (let wrong : ⊥ = cc in wrong)
-reply-kind-gives WriteBack outcome e = absurd (let wrong : ⊥ = cc in wrong)
-reply-kind-gives Upgrade outcome e = absurd (let wrong : ⊥ = cc in wrong)
+reply-kind-gives kind outcome h1 = grind arith
 
 reply-gives : (p : Past) (w : Trace) (q t : ℕ) (outcome : Outcome) (o : Option Request) → request_at w q ≡ o
     → is_reply o ≡ true → gives_line p w q t outcome ≡ true
 unfolding gives_line is_reply is_some_and
-reply-gives p w q t outcome None e f = absurd (let wrong : ⊥ = cc in wrong)
-reply-gives p w q t outcome (Some request) e f = rw (e, reply-kind-gives request.kind outcome f) refl
+reply-gives p w q t outcome o h1 h2 = grind (arith, reply-kind-gives)
 
 grant-by : (p : Past) (w : Trace) (i q t j : ℕ) (outcome : Outcome) (claim : Claim) → gives_line p w q t outcome ≡ true
     → served_number w (turns_in p.moments) i ≡ Some j → live_claim_of w j ≡ Some claim
@@ -109,19 +101,7 @@ alone r line t j i k h wants few d reply less =
 
 -- a reply comes behind the request that it answers
 answered-later : (w : Trace) (j i q : ℕ) → live_clock_of w j ≡ Some q → (k : HasReply w j i) → q < k.clock → j < i
-answered-later w j i q e k l =
-    elim (cases_lt j i) [
-      | inl less ↦ less
-      | inr more ↦ elim (cases_lt i j) [
-        | inl less ↦ let rise = live_clock_of-rises w i j k.clock q less k.first e in absurd (omega arith)
-        | inr same ↦
-            let one : i ≡ j = omega arith in
-            let first = k.first in
-            let two : live_clock_of w i ≡ Some q = subst (λ x. live_clock_of w x ≡ Some q) (sym one) e in
-            let clock : k.clock ≡ q = cc in
-            absurd (omega arith)
-      ]
-    ]
+answered-later w j i q e k l = grind (arith, live_clock_of-rises)
 
 -- the snoop end x of the reply i to live request j, which was Deferred with this claim: it grants the claim's line
 pub record Replies (r : Run) (i j x : ℕ) (claim : Claim) : Type 0 where

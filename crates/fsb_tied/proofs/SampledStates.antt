@@ -1,9 +1,8 @@
 -- The states of a line in the machine at the sample of a clock are those of the run: the response and the hits of
 -- the clock
 -- are counted, and nothing else of it.
-use Rattle.std.proofs.Common.{ℕ, ◌<◌, ◌≤◌, ◌≡◌, ◌++◌, Bool, true, false, length, refl, sym, arith}
+use Rattle.std.proofs.Common.{ℕ, ◌<◌, ◌≡◌, ◌++◌, length, arith}
 use Rattle.fsb_line.specs.declared.state.Mesi.{Mesi}
-use Rattle.fsb_line.specs.declared.state.Mesi.TheVariants.{Exclusive, Invalid, Modified, Shared}
 use Rattle.fsb_line.specs.Line.{Bytes, MemoryLine, unheld}
 use Rattle.fsb_line.specs.LineRuns.{run}
 use Rattle.fsb_line.specs.States.{is_held, is_modified, is_sole}
@@ -23,10 +22,7 @@ state-told : (p : Past) (a line n : ℕ) (state : Mesi) → is_held state ≡ ho
     → is_sole state ≡ is_exclusive p a line n → is_modified state ≡ is_dirty p a line n
     → state ≡ line_state_of p a line n
 unfolding line_state_of
-state-told p a line n Invalid held sole dirty = rw (line_state_of, ← held) refl
-state-told p a line n Shared held sole dirty = rw (line_state_of, ← held, ← sole) refl
-state-told p a line n Exclusive held sole dirty = rw (line_state_of, ← held, ← sole, ← dirty) refl
-state-told p a line n Modified held sole dirty = rw (line_state_of, ← held, ← sole, ← dirty) refl
+state-told p a line n state h1 h2 h3 = grind arith
 
 -- with the response and the hits of n
 pub state-at-sample : (r : Run) (a line n : ℕ) (bytes : Bytes) → Timely r → KeepsBounds r.plan → n < length r.trace

@@ -1,8 +1,7 @@
 -- The accesses of a clock of a timely run are served: those of hits, and those that come with the end of another line.
-use Rattle.std.proofs.Common.{ℕ, ◌+◌, ◌<◌, ◌≡◌, Bool, true, false, not, ◌&&◌, ◌||◌, List, [], ◌∷◌, Some, length, nat_eq}
-use Rattle.std.proofs.Common.{refl, sym, ap, subst, ◌∙◌, arith, inl, inr}
-use Rattle.std.proofs.lemmas.Bool.{and_from, and_parts, both_ways, cases_Bool, eq-eqb, eqb-true, not-true, or_left}
-use Rattle.std.proofs.lemmas.Bool.{or_right}
+use Rattle.std.proofs.Common.{ℕ, ◌+◌, ◌<◌, ◌≡◌, Bool, true, false, not, ◌&&◌, ◌||◌, List, [], ◌∷◌, Some, length}
+use Rattle.std.proofs.Common.{nat_eq, refl, sym, ap, subst, ◌∙◌, arith}
+use Rattle.std.proofs.lemmas.Bool.{and_from, and_parts, both_ways, eq-eqb}
 use Rattle.std.specs.List.{list_all, list_any}
 use Rattle.std.specs.Option.{option_and_then}
 use Rattle.fsb_count.specs.Options.{is_some_and}
@@ -12,17 +11,17 @@ use Rattle.fsb_trace.specs.Requests.{live_clock_of}
 use Rattle.fsb_access.specs.declared.item.Item.{Item}
 use Rattle.fsb_access.specs.declared.log.Done.{Done}
 use Rattle.fsb_access.specs.ScriptOrder.{Step, step_of}
-use Rattle.fsb_timely.specs.Completions.{Completed, brings_at, completed_of_item, completes_by, is_arrival, is_brought}
-use Rattle.fsb_timely.specs.Completions.{is_there}
+use Rattle.fsb_timely.specs.Completions.{Completed, brings_at, completed_of_item, completes_by, is_arrival}
+use Rattle.fsb_timely.specs.Completions.{is_brought, is_there}
 use Rattle.fsb_timely.specs.Grants.{ended_requests, grant_at, has_arrived, holds_line, is_end_at, is_exclusive}
 use Rattle.fsb_timely.specs.Grants.{is_granted, is_ready, snooped_at}
 use Rattle.fsb_timely.specs.Hits.{is_hit, is_met, is_served}
 use Rattle.fsb_timely.specs.Past.{Grant, Past, SnoopEnd}
 use Rattle.fsb_timely.specs.Runs.{Run, past_of}
-use Rattle.fsb_timely.specs.Scripts.{Need, is_idling, is_load, needs_of, next_item}
+use Rattle.fsb_timely.specs.Scripts.{Need, is_load, needs_of, next_item}
 use Rattle.fsb_timely.specs.Timely.{Timely}
 use Rattle.fsb_timely.proofs.Interface.{one_end, tied-snoop}
-use Rattle.fsb_lawful.proofs.Interface.{and-then, granted-by, some-and}
+use Rattle.fsb_lawful.proofs.Interface.{granted-by, some-and}
 use Rattle.fsb_coherent.specs.Awaits.{awaited_at, awaited_by_grant}
 use Rattle.fsb_coherent.specs.Facts.{is_served_hit, is_served_other}
 use Rattle.fsb_coherent.specs.LineEvents.{entries_on, is_awaited_for, is_brought_to, is_of_other_line}
@@ -39,12 +38,7 @@ pub record HasFor (p : Past) (a line c : ℕ) (load : Bool) : Type 0 where
 met-for : (p : Past) (a c : ℕ) (need : Need) (load alone : Bool) → need.alone ≡ alone → (alone ≡ false → load ≡ true)
     → is_met p a c need ≡ true → HasFor p a need.line c load
 unfolding is_met
-met-for p a c need load true e f met =
-    let parts = and_parts (holds_line p a need.line c) (not need.alone || is_exclusive p a need.line c) met in
-    record { holds = parts.0; alone = or_right load (is_exclusive p a need.line c) (rw e at parts.1) }
-met-for p a c need load false e f met =
-    let parts = and_parts (holds_line p a need.line c) (not need.alone || is_exclusive p a need.line c) met in
-    record { holds = parts.0; alone = or_left load (is_exclusive p a need.line c) (f refl) }
+met-for p a c need load alone h1 h2 h3 = grind arith
 
 -- an access that is met at c
 met-access : (p : Past) (a c line : ℕ) (need : Need) (step : Step) → NeedOf need step.access
@@ -63,10 +57,7 @@ HitServed p line n x =
 hit-item : (p : Past) (a n : ℕ) (item : Item) → is_hit p a n ≡ true → next_item p a n ≡ Some item
     → list_all (is_served p a n) (needs_of item) ≡ true
 unfolding is_hit is_some_and
-hit-item p a n item e f =
-    let parts = and_parts (not (is_idling p a n))
-    (is_some_and (next_item p a n) (λ x. list_all (is_served p a n) (needs_of x))) e in
-    rw f at parts.1
+hit-item p a n item e f = grind arith
 
 hit-served : (p : Past) (line a n k : ℕ) (item : Item) → is_hit p a n ≡ true → next_item p a n ≡ Some item
     → Each (HitServed p line n) (completed_of_item a k item)
@@ -83,11 +74,7 @@ pub arrival-parts : (p : Past) (a n : ℕ) → is_arrival p a n ≡ true
     → (is_hit p a n ≡ false)
     × (is_some_and (next_item p a n) (λ item. list_any (completes_by p a n (needs_of item)) (needs_of item)) ≡ true)
 unfolding is_arrival
-arrival-parts p a n e =
-    let items = is_some_and (next_item p a n) (λ item. list_any (completes_by p a n (needs_of item)) (needs_of item)) in
-    let two = and_parts (not (is_idling p a n) && not (is_hit p a n)) items e in
-    let one = and_parts (not (is_idling p a n)) (not (is_hit p a n)) two.0 in
-    (not-true (is_hit p a n) one.1, two.1)
+arrival-parts p a n e = grind arith
 
 each-absurd : (so : Completed → Type 0) (a k : ℕ) (item : Item)
     → ((step : Step) → so (record { agent = a; step = step }))
@@ -108,9 +95,7 @@ hit-says : (p : Past) (line n : ℕ) (done : Done) (b : Bool) → is_hit p done.
     → accessed_line done.access ≡ line
     → HitServed p line n (record { agent = done.agent; step = step_of done }) → is_served_hit p line n done ≡ true
 unfolding is_served_hit
-hit-says p line n done false e names so = rw e refl
-hit-says p line n done true e names so =
-    let k = so e names in rw (e, k.0.holds, k.1, k.0.alone) refl
+hit-says p line n done b h1 h2 h3 = grind arith
 
 pub hits-served : (r : Run) (line n : ℕ) → Timely r → n < length r.trace
     → list_all (is_served_hit (past_of r) line n) (entries_on (past_of r) line n) ≡ true
@@ -130,8 +115,7 @@ grant-first r a line t s grant l e f granted =
     let k = granted-by r a line t l granted in
     let tied = tied-snoop r t s e in
     let number = one_end r.trace t k.number tied.0 k.is_snoop tied.1.reached in
-    let there : option_and_then (λ (x : SnoopEnd). x.grant) (snooped_at (past_of r) t) ≡ Some grant = ap
-    (option_and_then (λ (x : SnoopEnd). x.grant)) e ∙ f in
+    let there : option_and_then (λ (x : SnoopEnd). x.grant) (snooped_at (past_of r) t) ≡ Some grant = grind arith in
     let both : Some k.grant ≡ Some grant = sym k.granted ∙ there in
     let same : k.grant ≡ grant = cc in
     let clock : Some k.grant.first ≡ Some s.first = sym k.is_first ∙ ap (live_clock_of r.trace) number ∙ tied.1.first in
@@ -142,12 +126,7 @@ pub granted-parts : (p : Past) (a line t : ℕ) → is_granted p a line t ≡ tr
     → (s : SnoopEnd) × (grant : Grant) × (snooped_at p t ≡ Some s) × (s.grant ≡ Some grant) × (grant.agent ≡ a)
     × (grant.line ≡ line)
 unfolding is_granted grant_at
-granted-parts p a line t e =
-    let g = some-and (option_and_then (λ (x : SnoopEnd). x.grant) (snooped_at p t))
-    (λ (x : Grant). nat_eq x.agent a && nat_eq x.line line) e in
-    let s = and-then (λ (x : SnoopEnd). x.grant) (snooped_at p t) g.0 g.1 in
-    let names = and_parts (nat_eq g.0.agent a) (nat_eq g.0.line line) g.2 in
-    (s.0, g.0, s.1, s.2, eqb-true g.0.agent a names.0, eqb-true g.0.line line names.1)
+granted-parts p a line t e = grind (arith, some-and)
 
 -- a line that is brought to an agent is one whose end it awaits
 pub brought-to : (r : Run) (a n : ℕ) (need : Need) → Timely r → n < length r.trace
@@ -187,14 +166,7 @@ completing : (needs all : List Need) (p : Past) (a n : ℕ) → list_any (comple
     × (list_all (λ other. nat_eq other.line need.line || is_there p a n other) all ≡ true)
 unfolding completes_by
 completing [] all p a n e = absurd (let no : ⊥ = cc in no)
-completing (need ∷ needs) all p a n e =
-    elim (cases_Bool (completes_by p a n all need)) [
-      | inl t ↦
-          let parts = and_parts (is_brought p a n need)
-          (list_all (λ other. nat_eq other.line need.line || is_there p a n other) all) t in
-          (need, parts.0, parts.1)
-      | inr f ↦ completing needs all p a n (rw f at e)
-    ]
+completing (need ∷ needs) all p a n e = grind (arith, completing needs all p a n)
 
 -- what is needed of another line than the one that is brought is there
 other-access : (r : Run) (line a n : ℕ) (need brought : Need) (step : Step) (b : Bool) → Timely r → n < length r.trace
@@ -203,11 +175,7 @@ other-access : (r : Run) (line a n : ℕ) (need brought : Need) (step : Step) (b
     → accessed_line step.access ≡ line
     → HasFor (past_of r) a line (n + 1) (is_load step.access) × (has_arrived (past_of r) a line (n + 1) n ≡ true)
 unfolding is_there
-other-access r line a n need brought step true h l of e there comes none names =
-    let same : brought.line ≡ line = sym (eqb-true need.line brought.line e) ∙ of.names ∙ names in
-    let to : is_brought_to (past_of r) line n a ≡ true = ap (λ k. is_brought_to (past_of r) k n a) (sym same)
-    ∙ brought-to r a n brought h l comes in
-    absurd (both_ways (is_brought_to (past_of r) line n a) none to)
+other-access r line a n need brought step true h l of e there comes none names = grind (arith, brought-to)
 other-access r line a n need brought step false h l of e there comes none names =
     let p : Past = past_of r in
     let parts = and_parts (is_met p a (n + 1) need) (has_arrived p a need.line (n + 1) n) there in (
@@ -238,10 +206,7 @@ other-says : (p : Past) (line n : ℕ) (done : Done) (b c : Bool) → is_hit p d
     → accessed_line done.access ≡ line → OtherServed p line n (record { agent = done.agent; step = step_of done })
     → is_served_other p line n done ≡ true
 unfolding is_served_other is_of_other_line
-other-says p line n done true c e f names so = rw e refl
-other-says p line n done false true e f names so = rw (e, f) refl
-other-says p line n done false false e f names so =
-    let k = so e f names in rw (e, f, k.0.holds, k.1, k.0.alone) refl
+other-says p line n done b c h1 h2 h3 h4 = grind arith
 
 pub others-served : (r : Run) (line n : ℕ) → Timely r → n < length r.trace
     → list_all (is_served_other (past_of r) line n) (entries_on (past_of r) line n) ≡ true

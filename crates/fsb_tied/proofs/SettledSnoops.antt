@@ -1,15 +1,14 @@
 -- The snoop end of each clock settles in order.
-use Rattle.std.proofs.Common.{ℕ, ◌<◌, ◌≡◌, ◌≢◌, Bool, true, false, if◌then◌else◌, Some, None, length, refl, sym, ap}
-use Rattle.std.proofs.Common.{subst, ◌∙◌, arith}
+use Rattle.std.proofs.Common.{ℕ, ◌<◌, ◌≡◌, ◌≢◌, Bool, if◌then◌else◌, Some, None, length, refl, sym, ap, subst, ◌∙◌}
+use Rattle.std.proofs.Common.{arith}
 use Rattle.fsb_encode.specs.declared.request.Kind.{Kind}
-use Rattle.fsb_encode.specs.declared.request.Kind.TheVariants.{Reply, Invalidate, Read, WriteBack, Upgrade}
 use Rattle.fsb_line.specs.declared.purpose.Purpose.{Purpose}
-use Rattle.fsb_line.specs.declared.purpose.Purpose.TheVariants as purposes
 use Rattle.fsb_line.specs.States.{kind_owns}
 use Rattle.fsb_trace.specs.declared.outcome.Outcome.{Outcome}
-use Rattle.fsb_trace.specs.declared.outcome.Outcome.TheVariants.{Granted, Handed, Retried, Deferred, Written, Upgraded}
+use Rattle.fsb_trace.specs.declared.outcome.Outcome.TheVariants.{Granted, Handed, Retried, Deferred, Written}
+use Rattle.fsb_trace.specs.declared.outcome.Outcome.TheVariants.{Upgraded}
 use Rattle.fsb_timely.specs.Grants.{begun_at, holds_line, is_owning, snooped_at}
-use Rattle.fsb_timely.specs.Moments.{claim_at, is_shared_at}
+use Rattle.fsb_timely.specs.Moments.{is_shared_at}
 use Rattle.fsb_timely.specs.Past.{Claim, Grant, SnoopEnd}
 use Rattle.fsb_timely.specs.Runs.{Run, past_of}
 use Rattle.fsb_timely.specs.Timely.{Timely}
@@ -30,19 +29,13 @@ use Rattle.fsb_tied.proofs.SnoopTold.{held-whole}
 -- what owns is asked for as such
 owns-by : (kind : Kind) (purpose : Purpose) → purpose_of kind ≡ Some purpose → is_owning kind ≡ kind_owns purpose
 unfolding purpose_of is_owning
-owns-by Reply purpose e = absurd (let wrong : ⊥ = cc in wrong)
-owns-by Invalidate purpose e = let same : purposes.Own ≡ purpose = cc in ap kind_owns same
-owns-by Read purpose e = let same : purposes.Read ≡ purpose = cc in ap kind_owns same
-owns-by WriteBack purpose e = let same : purposes.WriteBack ≡ purpose = cc in ap kind_owns same
-owns-by Upgrade purpose e = let same : purposes.Upgrade ≡ purpose = cc in ap kind_owns same
+owns-by kind purpose h1 = grind arith
 
 -- with such an outcome the line has no deferral
 free-with : (r : Run) (n i : ℕ) (s : SnoopEnd) (claim : Claim) (outcome : Outcome) → Timely r → KeepsBounds r.plan
     → IsSnooped r n i s → IsClaimed r s claim → outcome ≢ Handed → outcome ≢ Retried → outcome ≢ Written
     → s.outcome ≡ outcome → deferral_below (past_of r) claim.line n ≡ None
-free-with r n i s claim outcome h bounds k c handed retried written e =
-    given-free r n i s claim h bounds k c
-    (λ f. handed (sym e ∙ f)) (λ f. retried (sym e ∙ f)) (λ f. written (sym e ∙ f))
+free-with r n i s claim outcome h bounds k c handed retried written e = grind (arith, given-free)
 
 settled-on : (r : Run) (n : ℕ) (s : SnoopEnd) (claim : Claim) → Timely r → KeepsBounds r.plan → n < length r.trace
     → snooped_at (past_of r) n ≡ Some s → s.claim ≡ Some claim → IsSettledOn (past_of r) claim.line n s
@@ -91,17 +84,10 @@ settled-on r n s claim h bounds l there claimed =
 -- the claim of a snoop end is that of the request that began
 claim-begun : (r : Run) (n : ℕ) (s : SnoopEnd) → snooped_at (past_of r) n ≡ Some s
     → s.claim ≡ begun_at (past_of r) s.first
-claim-begun r n s there =
-    let k = (snooped-in r n s there).1 in
-    let above = k.above in
-    let within = k.within in
-    let w = r.trace in
-    let begun = begun-told r s.first (omega arith) in
-    k.tied.claim ∙ sym (begun ∙ ap (λ b. if b then claim_at w s.first else None) k.ads)
+claim-begun r n s there = grind (arith, snooped-in, begun-told)
 
 granted-line : (b : Bool) (made grant : Grant) → (if b then Some made else None) ≡ Some grant → grant.line ≡ made.line
-granted-line true made grant e = let same : made ≡ grant = cc in sym (ap (λ g. g.line) same)
-granted-line false made grant e = absurd (let wrong : ⊥ = cc in wrong)
+granted-line b made grant h1 = grind arith
 
 pub settles-in-order : (r : Run) (line n : ℕ) → Timely r → KeepsBounds r.plan → n < length r.trace
     → SettlesInOrder (past_of r) line n

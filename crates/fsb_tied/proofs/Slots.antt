@@ -1,19 +1,17 @@
 -- An agent has at most one line of a cache set, held or asked for.
-use Rattle.std.proofs.Common.{ℕ, zero, suc, ◌+◌, ◌<◌, ◌≤◌, ◌≡◌, ◌⊎◌, true, false, not, ◌&&◌, Some, length, nat_eq, refl}
-use Rattle.std.proofs.Common.{sym, ap, subst, ◌∙◌, inl, inr, arith, add-one}
-use Rattle.std.proofs.lemmas.Bool.{and_from, and_parts, both_ways, cases_Bool, cases_lt, eq-eqb, eqb-true}
-use Rattle.std.proofs.lemmas.Bool.{false_from_ne_true, not-true, or_parts}
+use Rattle.std.proofs.Common.{ℕ, zero, suc, ◌+◌, ◌<◌, ◌≤◌, ◌≡◌, ◌⊎◌, true, false, not, Some, length, nat_eq, refl}
+use Rattle.std.proofs.Common.{sym, subst, ◌∙◌, inl, inr, arith, add-one}
+use Rattle.std.proofs.lemmas.Bool.{and_parts, both_ways, cases_Bool, cases_lt, false_from_ne_true, not-true, or_parts}
 use Rattle.fsb_count.specs.Options.{is_some_and}
 use Rattle.fsb_signal.specs.declared.lines.TheConstants.Lines.{ADS}
 use Rattle.fsb_signal.specs.Samples.{line_at}
 use Rattle.fsb_trace.specs.declared.who.Who.TheVariants.{Symmetric}
 use Rattle.fsb_trace.specs.At.{Trace}
 use Rattle.fsb_trace.specs.Flight.{is_outstanding}
-use Rattle.fsb_trace.specs.Winner.{begins_at, is_agent, winner_at}
+use Rattle.fsb_trace.specs.Winner.{begins_at}
 use Rattle.fsb_trace.proofs.Interface.{line_at-agree}
 use Rattle.fsb_laws.proofs.Interface.{same_outstanding}
 use Rattle.fsb_timely.specs.Grants.{begun_at, holds_line, is_evicted, is_granted, is_lost, is_rival}
-use Rattle.fsb_timely.specs.Growth.{is_last_clock}
 use Rattle.fsb_timely.specs.Hits.{is_dirty}
 use Rattle.fsb_timely.specs.Past.{Claim, Past}
 use Rattle.fsb_timely.specs.Runs.{Run, past_of, run_to}
@@ -42,8 +40,7 @@ unfolding is_asked_for owed outstanding_at
 none-first p a line = refl
 
 out-before : (w : Trace) (c q : ℕ) → q < c → is_outstanding w (c + 1) q ≡ true → is_outstanding w c q ≡ true
-out-before w c q l e =
-    (and_parts (is_outstanding w c q) (not (is_last_clock w c q)) (sym (is_outstanding-more w c q l) ∙ e)).0
+out-before w c q l e = grind (arith, is_outstanding-more)
 
 -- what is outstanding behind a clock at which a request begins was outstanding before it
 out-earlier : (r : Run) (e q : ℕ) → Timely r → suc e < length r.trace → line_at ADS r.trace (suc e) ≡ true
@@ -73,9 +70,7 @@ Asks r a line n = is_asked_for (owed (past_of r) a n) line ≡ true
 -- what an agent has asked for, by a claim
 pub asks-as : (r : Run) (a line n : ℕ) (claim : Claim) → claim.agent ≡ a → claim.line ≡ line
     → is_asked_for (owed (past_of r) claim.agent n) claim.line ≡ true → Asks r a line n
-asks-as r a line n claim e f asked =
-    ap (λ b. is_asked_for (owed (past_of r) b n) line) (sym e)
-    ∙ ap (is_asked_for (owed (past_of r) claim.agent n)) (sym f) ∙ asked
+asks-as r a line n claim e f asked = grind arith
 
 -- what an agent owes behind the clock e + 1, if a request begins there: it owed that before, or begins it there
 asked-begun : (r : Run) (a line n : ℕ) → Timely r → n < length r.trace → line_at ADS r.trace n ≡ true
@@ -89,9 +84,7 @@ asked-begun r a line (suc e) h l t k early =
 no-begin : (r : Run) (a n : ℕ) → n < length r.trace → line_at ADS r.trace n ≡ false
     → begins_at (run_to r n).trace n (Symmetric a) ≡ false
 unfolding begins_at
-no-begin r a n l f =
-    let here = sym (line_at-agree ADS (n + 1) r.trace (run_to r n).trace n (run_to-agrees r n l) (omega arith)) ∙ f in
-    ap (λ b. b && is_agent (winner_at (run_to r n).trace n) (Symmetric a)) here
+no-begin r a n l f = grind (arith, line_at-agree, run_to-agrees)
 
 -- what an agent owes, one clock further: it owed that before, or begins it at the clock
 asked-more : (r : Run) (a line n : ℕ) → Timely r → n < length r.trace → Asks r a line (suc n)
@@ -127,16 +120,12 @@ DropsNot r a line n =
 -- an agent that has asked for a line begins no request for another line of the set
 asked-stays : (r : Run) (a line n : ℕ) → Timely r → KeepsBounds r.plan → n < length r.trace → Asks r a line n
     → DropsNot r a line n
-asked-stays r a line n h bounds l asked claim begun agent rival =
-    let apart = begun-apart r n claim h bounds l begun line (rival-set (past_of r) claim.line line rival) in
-    both_ways (is_asked_for (owed (past_of r) a n) line)
-    (ap (λ b. is_asked_for (owed (past_of r) b n) line) (sym agent) ∙ apart) asked
+asked-stays r a line n h1 h2 h3 h4 = grind (arith, begun-apart, rival-set)
 
 evicted-by : (p : Past) (a line n : ℕ) (claim : Claim) → begun_at p n ≡ Some claim → claim.agent ≡ a
     → is_rival p claim.line line ≡ true → is_evicted p a line n ≡ true
 unfolding is_evicted is_some_and
-evicted-by p a line n claim begun agent rival =
-    rw begun (and_from _ _ (eq-eqb claim.agent a agent) rival)
+evicted-by p a line n claim begun agent rival = grind arith
 
 -- one that holds it behind the clock, and was not granted it there, does neither
 held-stays : (p : Past) (a line n : ℕ) → is_lost p a line n ≡ false → is_evicted p a line n ≡ false
@@ -146,11 +135,7 @@ held-stays p a line n e = (or_parts _ _ (or_parts _ _ e).0).0
 -- what an agent has one clock further it had, and it drops it not; or it begins the request for it
 slot-before : (r : Run) (a line n : ℕ) → Timely r → KeepsBounds r.plan → n < length r.trace → Slot r a line (suc n)
     → (Slot r a line n × DropsNot r a line n) ⊎ BeginsFor r a line n
-slot-before r a line n h bounds l (inr asked) =
-    elim (asked-more r a line n h l asked) [
-      | inl before ↦ inl (inr before, asked-stays r a line n h bounds l before)
-      | inr begins ↦ inr begins
-    ]
+slot-before r a line n h bounds l (inr asked) = grind (arith, asked-more, asked-stays)
 slot-before r a line n h bounds l (inl held) =
     let p = past_of r in
     let now = sym (holds_line-more p a line n) ∙ subst (λ c. holds_line p a line c ≡ true) (sym (add-one n)) held in
@@ -193,11 +178,7 @@ one-slot r a x y (suc n) h bounds l rival s t =
     ]
   where
     same-line : BeginsFor r a x n → BeginsFor r a y n → x ≡ y
-    same-line one two =
-        let e = one.1 in
-        let f = two.1 in
-        let same : one.0 ≡ two.0 = cc in
-        sym one.3 ∙ ap (λ c. c.line) same ∙ two.3
+    same-line one two = grind arith
 
 -- what its agent drops for the line of a request that begins is not dirty
 pub dropped-clean : (r : Run) (n : ℕ) (claim : Claim) (line : ℕ) → Timely r → KeepsBounds r.plan → n < length r.trace
@@ -220,8 +201,4 @@ dropped-clean r n claim line h bounds l begun rival =
 pub asked-unevicted : (r : Run) (a line n : ℕ) → Timely r → KeepsBounds r.plan → n < length r.trace → Asks r a line n
     → is_evicted (past_of r) a line n ≡ false
 unfolding is_evicted
-asked-unevicted r a line n h bounds l asked = false_from_ne_true _ (λ t.
-    let p = past_of r in
-    let k = some-and (begun_at p n) (λ (claim : Claim). nat_eq claim.agent a && is_rival p claim.line line) t in
-    let parts = and_parts (nat_eq k.0.agent a) (is_rival p k.0.line line) k.2 in
-    asked-stays r a line n h bounds l asked k.0 k.1 (eqb-true k.0.agent a parts.0) parts.1)
+asked-unevicted r a line n h bounds l asked = grind (arith, some-and, asked-stays)

@@ -11,7 +11,7 @@ use Rattle.fsb_trace.proofs.Interface.{request_at-agree, snoop_end_of-clock}
 use Rattle.fsb_timely.specs.Grants.{snooped_at}
 use Rattle.fsb_timely.specs.Moments.{claim_at}
 use Rattle.fsb_timely.specs.Past.{Claim, SnoopEnd}
-use Rattle.fsb_timely.specs.Runs.{Run, past_of, run_to}
+use Rattle.fsb_timely.specs.Runs.{Run, past_of}
 use Rattle.fsb_timely.specs.Tied.{IsSnoopOf}
 use Rattle.fsb_timely.specs.Timely.{Timely}
 use Rattle.fsb_timely.proofs.Interface.{tied-snoop}
@@ -29,16 +29,7 @@ pub record IsShown (r : Run) (q : ℕ) : Type 0 where
 
 pub shown-at : (r : Run) (q : ℕ) → Timely r → WantsLawfully r → suc q < length r.trace → line_at ADS r.trace q ≡ true
     → IsShown r q
-shown-at r q h wants l ads =
-    let b = begun-decoded r q h l (sym (line-whole ADS r q (omega arith)) ∙ ads) in
-    let agree = run_to-agrees r (suc q) l in
-    record {
-      request = b.0;
-      begun = b.1;
-      decoded = request_at-agree (suc q + 1) r.trace (run_to r (suc q)).trace q agree (omega arith)
-          ∙ b.2 (wants.lawful q b.0 b.1);
-      lawful = wants.lawful q b.0 b.1;
-    }
+shown-at r q h wants l ads = grind (arith, begun-decoded, line-whole, run_to-agrees, request_at-agree)
 
 -- live request i, whose snoop end is at n: its first clock has ADS#, and is four clocks before at least
 pub record IsSnooped (r : Run) (n i : ℕ) (s : SnoopEnd) : Type 0 where
@@ -60,8 +51,7 @@ snooped-in r n s there = let t = tied-snoop r n s there in (t.0, snooped-by r n 
 
 -- the request of a snoop end is shown
 pub asked-at : (r : Run) (n i : ℕ) (s : SnoopEnd) → Timely r → WantsLawfully r → IsSnooped r n i s → IsShown r s.first
-asked-at r n i s h wants k =
-    let above = k.above in let within = k.within in shown-at r s.first h wants (omega arith) k.ads
+asked-at r n i s h wants k = grind (arith, shown-at)
 
 pub kind-shown : (r : Run) (n i : ℕ) (s : SnoopEnd) (request : Request) → IsSnooped r n i s
     → request_at r.trace s.first ≡ Some request → s.kind ≡ Some request.kind

@@ -1,9 +1,8 @@
 -- At the snoop end of a symmetric agent's request that request is open, and no open one is older.
-use Rattle.std.proofs.Common.{ℕ, ◌+◌, ◌-◌, ◌<◌, ◌≤◌, ◌≡◌, Bool, true, false, not, ◌&&◌, Some, length, nat_eq, nat_le}
-use Rattle.std.proofs.Common.{refl, sym, ap, subst, ◌∙◌, inl, inr, arith}
+use Rattle.std.proofs.Common.{ℕ, ◌+◌, ◌-◌, ◌<◌, ◌≤◌, ◌≡◌, Bool, true, false, not, ◌&&◌, Some, length, nat_le, refl}
+use Rattle.std.proofs.Common.{sym, ap, subst, ◌∙◌, inl, inr, arith}
 use Rattle.std.specs.Option.{option_and_then, option_map}
-use Rattle.std.proofs.lemmas.Bool.{and_from, and_parts, both_ways, cases_Bool, cases_lt, eqb-true, false_from_ne_true}
-use Rattle.std.proofs.lemmas.Bool.{leb-true, not-true}
+use Rattle.std.proofs.lemmas.Bool.{and_from, and_parts, both_ways, cases_Bool, cases_lt, false_from_ne_true, not-true}
 use Rattle.fsb_count.specs.Options.{is_at, is_some_and}
 use Rattle.fsb_count.proofs.Interface.{any_where-off, count_where-above, is_at-some, nth_where-found}
 use Rattle.fsb_encode.specs.declared.request.Kind.{Kind}
@@ -36,12 +35,7 @@ use Rattle.fsb_tied.proofs.Wanted.{want-is}
 cancels-by : (w : Trace) (t q : ℕ) (b : Bool) → (nat_le 3 t && line_at AERR w t && line_at ADS w (t - 3)) ≡ b
     → cancelled_at w t ≡ Some q → (t ≡ q + 3) × (line_at AERR w t ≡ true)
 unfolding cancelled_at
-cancels-by w t q false e f = absurd (let no : ⊥ = (let f' = rw (e, cancelled_at) at f in cc) in no)
-cancels-by w t q true e f =
-    let same : t - 3 ≡ q = (let f' = rw (e, cancelled_at) at f in cc) in
-    let parts = and_parts (nat_le 3 t) (line_at AERR w t) (and_parts (nat_le 3 t && line_at AERR w t) _ e).0 in
-    let late = leb-true 3 t parts.0 in
-    (omega arith, parts.1)
+cancels-by w t q b h1 h2 = grind arith
 
 pub cancels : (r : Run) (t q : ℕ) → t < length r.trace → cancelled_in (past_of r) t ≡ Some q
     → (t ≡ q + 3) × (line_at AERR r.trace t ≡ true)
@@ -74,13 +68,7 @@ live-uncancelled r i q t l clock = false_from_ne_true _ (λ e.
 pub snooped-once : (r : Run) (i q t n : ℕ) → live_clock_of r.trace i ≡ Some q → snoop_end_of r.trace i ≡ Some n
     → is_some_and (snooped_at (past_of r) t) (is_snoop_of q) ≡ true → t ≡ n
 unfolding is_snoop_of
-snooped-once r i q t n clock snoop e =
-    let s = some-and (snooped_at (past_of r) t) (λ (s : SnoopEnd). nat_eq s.first q) e in
-    let k = tied-snoop r t s.0 s.1 in
-    let first = k.1.first ∙ ap Some (eqb-true s.0.first q s.2) in
-    let same : k.0 ≡ i = one-begins r.trace k.0 i q first clock in
-    let reached = subst (λ j. snoop_end_of r.trace j ≡ Some t) same k.1.reached in
-    cc
+snooped-once r i q t n clock snoop e = grind (arith, some-and, tied-snoop, one-begins)
 
 -- a claim with its first clock
 pub claim-with : (claim : Claim) (q : ℕ) → claim.first ≡ q

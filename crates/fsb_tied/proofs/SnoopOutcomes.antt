@@ -1,17 +1,16 @@
 -- How a request of a symmetric agent is settled: its outcome fits its kind, and its grant is the one that both make.
 use Rattle.std.proofs.Common.{ℕ, ◌+◌, ◌<◌, ◌≤◌, ◌≡◌, ◌≢◌, Bool, true, false, not, ◌&&◌, nat_eq, Option, Some, None}
 use Rattle.std.proofs.Common.{is_some, refl, sym, ap, subst, ◌∙◌, arith, inl, inr}
-use Rattle.std.proofs.lemmas.Bool.{and_parts, both_ways, cases_lt, false_from_ne_true, ne_eqb, or_right}
-use Rattle.std.proofs.Math.Bool.{or-false}
+use Rattle.std.proofs.lemmas.Bool.{both_ways, cases_lt, false_from_ne_true, ne_eqb}
 use Rattle.fsb_count.specs.Clocks.{any_where, first_where}
 use Rattle.fsb_count.specs.Options.{is_some_and}
 use Rattle.fsb_count.proofs.Interface.{any_where-found, any_where-none, first_where-none}
 use Rattle.fsb_encode.specs.declared.request.Kind.{Kind}
-use Rattle.fsb_encode.specs.declared.request.Kind.TheVariants.{Reply, Invalidate, Read, WriteBack, Upgrade}
+use Rattle.fsb_encode.specs.declared.request.Kind.TheVariants.{Upgrade}
 use Rattle.fsb_encode.specs.declared.request.Request.{Request}
 use Rattle.fsb_encode.specs.Request.{are_lawful_fields, is_lawful_request}
 use Rattle.fsb_hazard.specs.declared.choice.Turn.{Turn}
-use Rattle.fsb_hazard.specs.declared.choice.Turn.TheVariants.{Keep, Retry, Defer}
+use Rattle.fsb_hazard.specs.declared.choice.Turn.TheVariants.{Keep}
 use Rattle.fsb_hazard.specs.Choice.{is_defer, is_never_held_up}
 use Rattle.fsb_signal.specs.declared.lines.TheConstants.Lines.{HIT, HITM}
 use Rattle.fsb_signal.specs.Samples.{line_at}
@@ -31,9 +30,8 @@ use Rattle.fsb_timely.specs.Timely.{Timely}
 use Rattle.fsb_coherent.specs.Awaits.{owner_at}
 use Rattle.fsb_coherent.specs.Fitting.{IsUncontested, fits_getting, fits_kind, fits_upgrade, fits_write_back}
 use Rattle.fsb_coherent.specs.Settled.{outcome_by_turn, outcome_under, own_grant}
-use Rattle.fsb_coherent.proofs.Interface.{grant-made, outcome-made}
-use Rattle.fsb_coherent.proofs.Interface.{grant_if}
-use Rattle.fsb_lawful.proofs.Interface.{TurnFits, not-true, run_to-agrees, turned-at}
+use Rattle.fsb_coherent.proofs.Interface.{grant-made, outcome-made, grant_if}
+use Rattle.fsb_lawful.proofs.Interface.{TurnFits, run_to-agrees, turned-at}
 use Rattle.fsb_tied.proofs.SnoopClaims.{IsClaimed, IsSnooped}
 use Rattle.fsb_tied.proofs.SnoopTold.{IsTold, dirty-whole, told-at}
 
@@ -45,30 +43,14 @@ fits-by : (handed : Bool) (turn : Turn) (request : Request) (kind : Kind) → re
     → fits_kind kind (outcome_under handed turn (Some request)) ≡ true
 unfolding is_reply_kind outcome_under outcome_by_turn outcome_by_kind fits_kind fits_getting fits_upgrade
     fits_write_back
-fits-by handed turn request Reply e plain keeps den own = absurd (let no : ⊥ = cc in no)
-fits-by true turn request Invalidate e plain keeps den own = refl
-fits-by true turn request Read e plain keeps den own = refl
-fits-by true turn request Upgrade e plain keeps den own = refl
-fits-by true turn request WriteBack e plain keeps den own = absurd (own refl refl)
-fits-by false turn request WriteBack e plain keeps den own = rw (keeps refl, e) refl
-fits-by false Keep request Invalidate e plain keeps den own = rw e refl
-fits-by false Keep request Read e plain keeps den own = rw e refl
-fits-by false Keep request Upgrade e plain keeps den own = rw e refl
-fits-by false Retry request Invalidate e plain keeps den own = refl
-fits-by false Retry request Read e plain keeps den own = refl
-fits-by false Retry request Upgrade e plain keeps den own = refl
-fits-by false (Defer later) request Invalidate e plain keeps den own = refl
-fits-by false (Defer later) request Read e plain keeps den own = refl
-fits-by false (Defer later) request Upgrade e plain keeps den own = absurd (let no : ⊥ = (let f = den refl in cc) in no)
+fits-by handed turn request kind h1 h2 h3 h4 h5 = grind arith
 
 -- an upgrade has no DEN#
 upgrade-plain : (request : Request) (kind : Kind) → request.kind ≡ kind → kind ≡ Upgrade
     → is_lawful_request request ≡ true
     → request.den ≡ false
 unfolding is_lawful_request are_lawful_fields
-upgrade-plain request Upgrade e same lawful =
-    not-true request.den (and_parts _ (not request.den) (and_parts _ _ (rw e at lawful)).0).1
-upgrade-plain request _ e same lawful = absurd (let no : ⊥ = cc in no)
+upgrade-plain request kind h1 h2 h3 = grind arith
 
 undeferred : (turn : Turn) (den : Bool) → den ≡ false → (is_defer turn ≡ true → den ≡ true) → is_defer turn ≡ false
 undeferred turn den plain has = false_from_ne_true (is_defer turn) (λ t. both_ways den plain (has t))
@@ -94,8 +76,7 @@ turn-fits r n i s request h k e =
 pub outcome-shown : (r : Run) (n i : ℕ) (s : SnoopEnd) (request : Request) → IsSnooped r n i s
     → request_at r.trace s.first ≡ Some request
     → s.outcome ≡ outcome_under (line_at HITM r.trace n) s.turn (Some request)
-outcome-shown r n i s request k e =
-    outcome-made r n s k.tied.there ∙ ap (outcome_under (line_at HITM r.trace n) s.turn) e
+outcome-shown r n i s request k e = grind (arith, outcome-made)
 
 pub kind-fits : (r : Run) (n i : ℕ) (s : SnoopEnd) (claim : Claim) → Timely r → IsSnooped r n i s
     → (c : IsClaimed r s claim)
@@ -112,14 +93,7 @@ kind-fits r n i s claim h k c own =
 handed-by : (handed : Bool) (turn : Turn) (request : Request) (kind : Kind) → request.kind ≡ kind
     → outcome_under handed turn (Some request) ≡ Handed → handed ≡ true
 unfolding outcome_under outcome_by_turn outcome_by_kind
-handed-by true turn request kind e f = refl
-handed-by false Keep request Reply e f = absurd (let no : ⊥ = (let f' = rw e at f in cc) in no)
-handed-by false Keep request Invalidate e f = absurd (let no : ⊥ = (let f' = rw e at f in cc) in no)
-handed-by false Keep request Read e f = absurd (let no : ⊥ = (let f' = rw e at f in cc) in no)
-handed-by false Keep request WriteBack e f = absurd (let no : ⊥ = (let f' = rw e at f in cc) in no)
-handed-by false Keep request Upgrade e f = absurd (let no : ⊥ = (let f' = rw e at f in cc) in no)
-handed-by false Retry request kind e f = absurd (let no : ⊥ = cc in no)
-handed-by false (Defer later) request kind e f = absurd (let no : ⊥ = cc in no)
+handed-by handed turn request kind h1 h2 = grind arith
 
 pub handed-told : (r : Run) (n i : ℕ) (s : SnoopEnd) (request : Request) → IsSnooped r n i s
     → request_at r.trace s.first ≡ Some request → s.outcome ≡ Handed → line_at HITM r.trace n ≡ true
@@ -161,29 +135,23 @@ found-any test n None e any =
 -- where another agent is dirty on a line, it has an owner
 owner-there : (p : Past) (a line n : ℕ) → is_dirty_elsewhere p a line n ≡ true → is_some (owner_at p a line n) ≡ true
 unfolding is_dirty_elsewhere owner_at
-owner-there p a line n e =
-    let test : ℕ → Bool = λ b. not (nat_eq b a) && is_dirty p b line n in found-any test 4 (first_where test 4) refl e
+owner-there p a line n e = grind (arith, found-any)
 
 pub told-of : (r : Run) (n i : ℕ) (s : SnoopEnd) (claim : Claim) → Timely r → IsSnooped r n i s → IsClaimed r s claim
     → IsTold r claim.line n claim.agent
-told-of r n i s claim h k c =
-    told-at r n s claim c.request.kind h k.within k.tied.there (k.tied.claim ∙ c.claims) c.kind c.plain
+told-of r n i s claim h k c = grind (arith, told-at)
 
 -- the snoop end of a symmetric agent's request is as it may be: its claim, its grant, and that a line has an owner
 -- where it is handed over
 pub snoop-claimed : (r : Run) (n i : ℕ) (s : SnoopEnd) (claim : Claim) → IsSnooped r n i s → IsClaimed r s claim
     → s.claim ≡ Some (record { first = s.first; agent = claim.agent; line = claim.line })
-snoop-claimed r n i s claim k c =
-    let first = c.first in
-    k.tied.claim ∙ c.claims ∙ (λ j. Some (record { first = first j; agent = claim.agent; line = claim.line }))
+snoop-claimed r n i s claim k c = grind arith
 
 pub snoop-granted : (r : Run) (n i : ℕ) (s : SnoopEnd) (claim : Claim) → IsSnooped r n i s → (c : IsClaimed r s claim)
     → s.grant
     ≡ grant_if s.first claim.agent claim.line c.request.kind s.outcome (holds_line (past_of r) claim.agent claim.line n)
     (is_owning c.request.kind) (is_shared_at r.trace n)
-snoop-granted r n i s claim k c =
-    grant-made r n s claim k.tied.there (k.tied.claim ∙ c.claims) (no-reply _ c.request c.decoded c.plain)
-    ∙ grant-form (past_of r) r.trace s.first n s.outcome claim c.request c.decoded c.claims
+snoop-granted r n i s claim k c = grind (arith, grant-made, no-reply, grant-form)
 
 pub snoop-owned : (r : Run) (n i : ℕ) (s : SnoopEnd) (claim : Claim) → Timely r → IsSnooped r n i s
     → IsClaimed r s claim
@@ -221,8 +189,7 @@ snoop-clean r n i s claim h k c few plain b other =
 shared-by : (w : Trace) (n : ℕ) (dirty held : Bool) → line_at HITM w n ≡ dirty → line_at HIT w n ≡ (not dirty && held)
     → dirty ≡ false → is_shared_at w n ≡ held
 unfolding is_shared_at
-shared-by w n true held e f g = absurd (let no : ⊥ = cc in no)
-shared-by w n false held e f g = rw (e, f) (or-false held)
+shared-by w n dirty held h1 h2 h3 = grind arith
 
 -- without HITM#, HIT# told whether another agent holds the line
 pub snoop-seen : (r : Run) (n i : ℕ) (s : SnoopEnd) (claim : Claim) → Timely r → IsSnooped r n i s → IsClaimed r s claim
@@ -246,5 +213,4 @@ hit-told r n i s claim h k c plain =
 pub snoop-handed : (r : Run) (n i : ℕ) (s : SnoopEnd) (claim : Claim) → IsSnooped r n i s → IsClaimed r s claim
     → s.outcome ≡ Handed → is_shared_at r.trace n ≡ true
 unfolding is_shared_at
-snoop-handed r n i s claim k c e =
-    or_right (line_at HIT r.trace n) (line_at HITM r.trace n) (handed-told r n i s c.request k c.decoded e)
+snoop-handed r n i s claim k c e = grind (arith, handed-told)

@@ -1,7 +1,5 @@
 -- What HIT# and HITM# tell at a snoop end, in the words of the run's past.
 use Rattle.std.proofs.Common.{ℕ, ◌+◌, ◌<◌, ◌≡◌, true, false, not, ◌&&◌, Some, length, nat_eq, ap, ◌∙◌, arith}
-use Rattle.std.proofs.lemmas.Bool.{and_parts}
-use Rattle.std.specs.Bool.{beq}
 use Rattle.fsb_count.specs.Options.{is_some_and}
 use Rattle.fsb_count.proofs.Interface.{any_where-same}
 use Rattle.fsb_encode.specs.declared.request.Kind.{Kind}
@@ -18,7 +16,7 @@ use Rattle.fsb_timely.specs.Snoops.{has_right_result, has_snoop_result, is_dirty
 use Rattle.fsb_timely.specs.Snoops.{is_held_elsewhere, is_held_for, is_reply_end, was_hit_before}
 use Rattle.fsb_timely.specs.Timely.{Timely, holds_at, holds_in}
 use Rattle.fsb_timely.proofs.Interface.{done_below, going-alike, holds_line-same, is_dirty-alike, past-begins}
-use Rattle.fsb_lawful.proofs.Interface.{not-true, run_to-agrees, same-beq, snooped-to}
+use Rattle.fsb_lawful.proofs.Interface.{run_to-agrees, snooped-to}
 
 -- a line at a clock, in the whole run and in the run up to it
 pub line-whole : (line : Lines) (r : Run) (n : ℕ) → n < length r.trace
@@ -34,9 +32,7 @@ right-by r p n s e there = rw (there, has_snoop_result) at e
 right-at : (r : Run) (n : ℕ) (s : SnoopEnd) → Timely r → n < length r.trace → snooped_at (past_of r) n ≡ Some s
     → has_right_result (run_to r n) (past_to (past_of r) n) n s ≡ true
 unfolding holds_at holds_in
-right-at r n s h l there =
-    right-by (run_to r n) (past_to (past_of r) n) n s (h.snoop_results.at n l)
-    (snooped-to (past_of r) n n (omega arith) ∙ there)
+right-at r n s h l there = grind (arith, right-by, snooped-to)
 
 reply-end : (s : SnoopEnd) (kind : Kind) → s.kind ≡ Some kind → is_reply_end s ≡ is_reply_kind kind
 unfolding is_reply_end is_some_and
@@ -45,21 +41,13 @@ reply-end s kind k = ap (λ o. is_some_and o is_reply_kind) k
 at-reply : (r : Run) (p : Past) (n : ℕ) (s : SnoopEnd) → has_right_result r p n s ≡ true → is_reply_end s ≡ true
     → (line_at HIT r.trace n ≡ was_hit_before r p n) × (line_at HITM r.trace n ≡ false)
 unfolding has_right_result
-at-reply r p n s e k =
-    let e' = rw (k, has_right_result) at e in
-    let a = and_parts (beq (line_at HIT r.trace n) (was_hit_before r p n)) (not (line_at HITM r.trace n)) e' in
-    (same-beq _ _ a.0, not-true (line_at HITM r.trace n) a.1)
+at-reply r p n s e k = grind arith
 
 at-other : (r : Run) (p : Past) (n : ℕ) (s : SnoopEnd) → has_right_result r p n s ≡ true → is_reply_end s ≡ false
     → (line_at HITM r.trace n ≡ is_dirty_for p n s)
     × (line_at HIT r.trace n ≡ (not (is_dirty_for p n s) && is_held_for p n s))
 unfolding has_right_result
-at-other r p n s e k =
-    let e' = rw (k, has_right_result) at e in
-    let dirty = beq (line_at HITM r.trace n) (is_dirty_for p n s) in
-    let held = beq (line_at HIT r.trace n) (not (is_dirty_for p n s) && is_held_for p n s) in
-    let a = and_parts dirty held e' in
-    (same-beq _ _ a.0, same-beq _ _ a.1)
+at-other r p n s e k = grind arith
 
 dirty-for : (p : Past) (n : ℕ) (s : SnoopEnd) (claim : Claim) → s.claim ≡ Some claim
     → is_dirty_for p n s ≡ is_dirty_elsewhere p claim.agent claim.line n

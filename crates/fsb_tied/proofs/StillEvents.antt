@@ -1,7 +1,7 @@
 -- Which events of a clock leave the data that are on the bus and the memory of a line as they are.
 use Rattle.std.proofs.Common.{ℕ, ◌≡◌, Bool, true, false, List, [], ◌∷◌, ◌++◌, map, Option, Some, None, refl, ap, ◌∙◌}
-use Rattle.std.proofs.Common.{inl, inr}
-use Rattle.std.proofs.lemmas.Bool.{and_parts, cases_Bool}
+use Rattle.std.proofs.Common.{inl, inr, arith}
+use Rattle.std.proofs.lemmas.Bool.{cases_Bool}
 use Rattle.std.specs.List.{filter, list_all, list_any}
 use Rattle.std.specs.Option.{option_and_then}
 use Rattle.std.specs.Prelude.{cond, nat_eq, unwrap_or}
@@ -41,8 +41,7 @@ both-same x y z f g = record { moved = f.moved ∙ g.moved; memory = f.memory �
 
 replied-data : (x : MemoryLine) (o : Option LineDeferral) → SameData (trimmed (replied x o)) x
 unfolding trimmed replied linked settled
-replied-data x None = record { moved = refl; memory = refl }
-replied-data x (Some d) = record { moved = refl; memory = refl }
+replied-data x o = grind arith
 
 still-data : (x : MemoryLine) (e : Event) → is_still e ≡ true → SameData (after x e) x
 unfolding after effect trimmed linked settled given
@@ -64,15 +63,12 @@ still-data x IsReplied h = replied-data x x.deferral
 
 all-still : (x : MemoryLine) (es : List Event) → list_all is_still es ≡ true → SameData (run x es) x
 all-still x [] h = same-data x
-all-still x (e ∷ es) h =
-    let parts = and_parts (is_still e) (list_all is_still es) h in
-    both-same (run (after x e) es) (after x e) x (all-still (after x e) es parts.1) (still-data x e parts.0)
+all-still x (e ∷ es) h = grind (arith, still-data, all-still (after x e) es)
 
 access-data : (x : MemoryLine) (done : Done) (load : Bool) → is_load done.access ≡ load
     → SameData (after x (access_event done)) x
 unfolding access_event after effect trimmed
-access-data x done true e = rw e (record { moved = refl; memory = refl })
-access-data x done false e = rw e (record { moved = refl; memory = refl })
+access-data x done load h1 = grind arith
 
 -- accesses of entries leave them
 pub accesses-data : (x : MemoryLine) (entries : List Done) → SameData (run x (map access_event entries)) x
@@ -112,8 +108,7 @@ no-response x p line n e = rw e refl
 
 response-kept : (x : MemoryLine) (links : List Link) → (trimmed (responded x links)).memory ≡ x.memory
 unfolding trimmed responded
-response-kept x [] = refl
-response-kept x (link ∷ links) = refl
+response-kept x links = grind arith
 
 -- no response changes memory
 pub response-memory : (x : MemoryLine) (p : Past) (line n : ℕ) → (run x (responds_on p line n)).memory ≡ x.memory
@@ -143,11 +138,7 @@ no-ends p line n (q ∷ qs) e = by-awaited (awaited_at p n q) refl (λ rest. no-
         → (list_any (λ k. is_some_and (awaited_at p n k) (λ (x : Awaited). nat_eq x.line line)) qs ≡ false
         → events_of_ends p line n qs ≡ [])
         → events_of_ends p line n (q ∷ qs) ≡ []
-    by-awaited None f rest = let e' = rw f at e in rw f (rest e')
-    by-awaited (Some awaited) f rest = elim (cases_Bool (nat_eq awaited.line line)) [
-      | inl here ↦ absurd (let no : ⊥ = (let e' = rw (f, here) at e in cc) in no)
-      | inr there ↦ let e' = rw (f, there) at e in rw (f, there) (rest e')
-    ]
+    by-awaited o h1 h2 = grind arith
 
 pub no-end-data : (x : MemoryLine) (p : Past) (line n : ℕ) → does_end_on p line n ≡ false
     → SameData (run x (ends_on p line n ++ others_on p line n)) x

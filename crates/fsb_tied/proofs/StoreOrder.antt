@@ -1,7 +1,7 @@
 -- The stores of each clock of a timely run are made in the order of its log: first those of hits, then the others.
-use Rattle.std.proofs.Common.{ℕ, ◌<◌, ◌≡◌, Bool, true, false, not, ◌&&◌, ◌||◌, List, [], ◌∷◌, Option, Some, None}
-use Rattle.std.proofs.Common.{length, nat_eq, refl, sym, ap, ◌∙◌, inl, inr}
-use Rattle.std.proofs.lemmas.Bool.{and_parts, cases_Bool, eq-eqb, eqb-true, or_from, or_parts}
+use Rattle.std.proofs.Common.{ℕ, ◌<◌, ◌≡◌, Bool, true, false, not, ◌&&◌, ◌||◌, List, [], ◌∷◌, Option, Some, length}
+use Rattle.std.proofs.Common.{nat_eq, refl, ap, ◌∙◌, inl, inr, arith}
+use Rattle.std.proofs.lemmas.Bool.{and_parts, cases_Bool, or_from, or_parts}
 use Rattle.std.specs.List.{filter, list_all, list_any}
 use Rattle.fsb_count.specs.Options.{is_some_and}
 use Rattle.fsb_access.specs.declared.log.Done.{Done}
@@ -14,7 +14,8 @@ use Rattle.fsb_timely.specs.Scripts.{is_load}
 use Rattle.fsb_timely.specs.Timely.{Timely}
 use Rattle.fsb_coherent.specs.Awaits.{Awaited, awaited_at}
 use Rattle.fsb_coherent.specs.Facts.{does_end_on}
-use Rattle.fsb_coherent.specs.LineEvents.{awaiting_stores, entries_on, is_awaited_for, is_brought_to, is_of_other_line}
+use Rattle.fsb_coherent.specs.LineEvents.{awaiting_stores, entries_on, is_awaited_for, is_brought_to}
+use Rattle.fsb_coherent.specs.LineEvents.{is_of_other_line}
 use Rattle.fsb_tied.specs.RunBytes.{stores_of}
 use Rattle.fsb_tied.proofs.HitsFirst.{hits-first}
 use Rattle.fsb_tied.proofs.StoredClocks.{StoresInOrder}
@@ -26,18 +27,7 @@ none-beside : (p : Past) (line n a : ℕ) (entries : List Done) → is_brought_t
     → filter (is_of_other_line p line n) entries ≡ []
 unfolding is_of_other_line
 none-beside p line n a [] e h = refl
-none-beside p line n a (done ∷ entries) e h =
-    let parts = and_parts (is_hit p done.agent n || nat_eq done.agent a)
-    (list_all (λ (d : Done). is_hit p d.agent n || nat_eq d.agent a) entries) h in
-    let rest = none-beside p line n a entries e parts.1 in
-    elim (cases_Bool (is_hit p done.agent n)) [
-      | inl hit ↦ rw hit rest
-      | inr none ↦
-          let same : nat_eq done.agent a ≡ true = rw none at parts.0 in
-          let agent = eqb-true done.agent a same in
-          let to : is_brought_to p line n done.agent ≡ true = ap (is_brought_to p line n) agent ∙ e in
-          rw (none, to) rest
-    ]
+none-beside p line n a (done ∷ entries) e h = grind (arith, none-beside p line n a entries e)
 
 -- the stores that await the end are those that are no hits
 all-awaiting : (p : Past) (n a : ℕ) (entries : List Done)
@@ -54,8 +44,7 @@ all-awaiting p n a (done ∷ entries) h =
           let hit = only (is_hit p done.agent n) (nat_eq done.agent a) other parts.0 in
           rw (other, hit) rest
       | inl same ↦
-          let agent : is_hit p a n ≡ is_hit p done.agent n =
-          ap (λ b. is_hit p b n) (sym (eqb-true done.agent a same)) in
+          let agent : is_hit p a n ≡ is_hit p done.agent n = grind arith in
           elim (cases_Bool (is_hit p done.agent n)) [
             | inl hit ↦ let here : is_hit p a n ≡ true = agent ∙ hit in rw (same, here, hit) rest
             | inr none ↦
@@ -68,21 +57,13 @@ all-awaiting p n a (done ∷ entries) h =
     ]
   where
     only : (b c : Bool) → c ≡ false → (b || c) ≡ true → b ≡ true
-    only true c e f = refl
-    only false c e f = absurd (let no : ⊥ = (let f' = rw e at f in cc) in no)
+    only b c h1 h2 = grind arith
 
 no-stores : (p : Past) (n : ℕ) (entries : List Done)
     → list_all (λ done. is_hit p done.agent n || is_load done.access) entries ≡ true
     → stores_of (filter (λ done. not (is_hit p done.agent n)) entries) ≡ []
 no-stores p n [] h = refl
-no-stores p n (done ∷ entries) h =
-    let parts = and_parts (is_hit p done.agent n || is_load done.access)
-    (list_all (λ (d : Done). is_hit p d.agent n || is_load d.access) entries) h in
-    let rest = no-stores p n entries parts.1 in
-    elim (cases_Bool (is_hit p done.agent n)) [
-      | inl hit ↦ rw hit rest
-      | inr none ↦ let load : is_load done.access ≡ true = rw none at parts.0 in rw (none, load) rest
-    ]
+no-stores p n (done ∷ entries) h = grind (arith, no-stores p n entries)
 
 -- where no end is awaited on the line nobody is brought it
 brought-nowhere : (p : Past) (line n a : ℕ) (qs : List ℕ)
@@ -99,25 +80,18 @@ brought-nowhere p line n a (q ∷ qs) e =
   where
     here : (o : Option Awaited) → is_some_and o (λ (x : Awaited). nat_eq x.line line) ≡ false
         → is_some_and o (is_awaited_for a line) ≡ false
-    here None f = refl
-    here (Some x) f = rw f refl
+    here o h1 = grind arith
 
 beside-all : (p : Past) (line n : ℕ) (entries : List Done) → ((a : ℕ) → is_brought_to p line n a ≡ false)
     → filter (is_of_other_line p line n) entries ≡ filter (λ done. not (is_hit p done.agent n)) entries
 unfolding is_of_other_line
 beside-all p line n [] none = refl
-beside-all p line n (done ∷ entries) none =
-    let rest = beside-all p line n entries none in
-    elim (cases_Bool (is_hit p done.agent n)) [
-      | inl hit ↦ rw hit rest
-      | inr out ↦ rw (out, none done.agent) (ap (λ ds. done ∷ ds) rest)
-    ]
+beside-all p line n (done ∷ entries) none = grind arith
 
 brought-here : (p : Past) (line n q : ℕ) (awaited : Awaited) → ended_requests p n ≡ q ∷ []
     → awaited_at p n q ≡ Some awaited → awaited.line ≡ line → is_brought_to p line n awaited.agent ≡ true
 unfolding is_brought_to is_awaited_for is_some_and
-brought-here p line n q awaited e f names =
-    rw (e, f, eq-eqb awaited.line line names, eq-eqb awaited.agent awaited.agent refl) refl
+brought-here p line n q awaited e f names = grind arith
 
 -- the stores of each clock of a timely run are made in the order of its log
 pub stores-in-order : (r : Run) (line n : ℕ) → Timely r → n < length r.trace → StoresInOrder (past_of r) line n

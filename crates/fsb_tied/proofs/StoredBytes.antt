@@ -1,7 +1,7 @@
 -- What the events of a clock store into a line: the stores of the entries on it, in their order.
-use Rattle.std.proofs.Common.{◌≡◌, ℕ, Bool, true, false, not, if◌then◌else◌, nat_eq, is_some, List, [], ◌∷◌, ◌++◌, map}
-use Rattle.std.proofs.Common.{fold, Option, Some, None, refl, ◌∙◌, inl, inr}
-use Rattle.std.proofs.lemmas.Bool.{and_parts, cases_Bool}
+use Rattle.std.proofs.Common.{◌≡◌, ℕ, Bool, true, false, not, if◌then◌else◌, nat_eq, List, [], ◌∷◌, ◌++◌, map, fold}
+use Rattle.std.proofs.Common.{Option, Some, None, refl, ◌∙◌, inl, inr, arith}
+use Rattle.std.proofs.lemmas.Bool.{cases_Bool}
 use Rattle.std.specs.List.{filter, list_all}
 use Rattle.std.specs.Option.{option_and_then, option_map_or}
 use Rattle.fsb_count.specs.Options.{is_some_and}
@@ -13,15 +13,13 @@ use Rattle.fsb_line.specs.Events.Event.{IsReplied, IsRetried, IsUpgraded, IsWrit
 use Rattle.fsb_line.specs.Line.{Bytes, MemoryLine}
 use Rattle.fsb_line.specs.LineRuns.{run, stored_by_all}
 use Rattle.fsb_trace.specs.declared.outcome.Outcome.{Outcome}
-use Rattle.fsb_trace.specs.declared.outcome.Outcome.TheVariants.{Deferred, Failed, Granted, Handed, Replied, Retried}
-use Rattle.fsb_trace.specs.declared.outcome.Outcome.TheVariants.{Upgraded, Written}
 use Rattle.fsb_timely.specs.Past.{Claim, Past, SnoopEnd}
-use Rattle.fsb_timely.specs.Grants.{begun_at, is_rival, snooped_at}
+use Rattle.fsb_timely.specs.Grants.{snooped_at}
 use Rattle.fsb_timely.specs.Scripts.{is_load}
-use Rattle.fsb_coherent.specs.Awaits.{awaited_at, cancelled_in, owner_at, purpose_of, purpose_wanted, responded_in}
-use Rattle.fsb_coherent.specs.LineEvents.{access_event, begin_events, moves_on, begins_on, cancel_events, cancels_on}
-use Rattle.fsb_coherent.specs.LineEvents.{change_of, changes_of, claimed_events, responds_on, settled_events}
-use Rattle.fsb_coherent.specs.LineEvents.{snoop_events, snoops_on}
+use Rattle.fsb_coherent.specs.Awaits.{purpose_of}
+use Rattle.fsb_coherent.specs.LineEvents.{access_event, begin_events, begins_on, cancel_events, cancels_on, change_of}
+use Rattle.fsb_coherent.specs.LineEvents.{changes_of, claimed_events, responds_on, settled_events, snoop_events}
+use Rattle.fsb_coherent.specs.LineEvents.{snoops_on}
 
 -- the stores of two lists of events, one after the other
 pub stored-append : (x : MemoryLine) (es fs : List Event) (bytes : Bytes)
@@ -49,29 +47,13 @@ is_still Responds = false
 
 storeless-one : (x : MemoryLine) (e : Event) (bytes : Bytes) → is_still e ≡ true → stored x e bytes ≡ bytes
 unfolding stored
-storeless-one x (Stores a change) bytes h = absurd (cc)
-storeless-one x (Ends change) bytes h = absurd (cc)
-storeless-one x (Loads a) bytes h = refl
-storeless-one x (Drops a) bytes h = refl
-storeless-one x (Begins a kind number) bytes h = refl
-storeless-one x (IsCancelled a) bytes h = refl
-storeless-one x (IsWritten a) bytes h = refl
-storeless-one x (IsHanded a kind owner) bytes h = refl
-storeless-one x (IsGranted a kind shared) bytes h = refl
-storeless-one x (IsUpgraded a) bytes h = refl
-storeless-one x (IsLost a) bytes h = refl
-storeless-one x (IsRetried a kind) bytes h = refl
-storeless-one x (IsDeferred a kind shared) bytes h = refl
-storeless-one x IsReplied bytes h = refl
-storeless-one x Responds bytes h = absurd (cc)
+storeless-one x e bytes h1 = grind arith
 
 -- events that make no store
 pub storeless : (x : MemoryLine) (es : List Event) (bytes : Bytes) → list_all is_still es ≡ true
     → stored_by_all x es bytes ≡ bytes
 storeless x [] bytes h = refl
-storeless x (e ∷ es) bytes h =
-    let parts = and_parts (is_still e) (list_all is_still es) h in
-    storeless (after x e) es (stored x e bytes) parts.1 ∙ storeless-one x e bytes parts.0
+storeless x (e ∷ es) bytes h = grind (arith, storeless-one, storeless (after x e) es (stored x e bytes))
 
 -- the accesses of entries store what these entries store
 pub accesses-store : (x : MemoryLine) (entries : List Done) (bytes : Bytes)
@@ -95,57 +77,22 @@ accesses-store x (done ∷ entries) bytes =
 pub response-storeless : (x : MemoryLine) (p : Past) (line n : ℕ) (bytes : Bytes)
     → stored_by_all x (responds_on p line n) bytes ≡ bytes
 unfolding responds_on stored
-response-storeless x p line n bytes =
-    elim (cases_Bool (is_some_and (option_and_then (awaited_at p n) (responded_in p n)) (moves_on line))) [
-      | inl e ↦ rw e refl
-      | inr e ↦ rw e refl
-    ]
+response-storeless x p line n bytes = grind arith
 
 -- a first clock, a cancellation and a snoop end make no store and move no data
 pub begins-still : (p : Past) (line n : ℕ) → list_all is_still (begins_on p line n) ≡ true
 unfolding begins_on begin_events
-begins-still p line n = one (begun_at p n) refl
-  where
-    wanted : (a : ℕ) (o : Option Purpose) → list_all is_still (option_map_or (λ kind. Begins a kind n ∷ []) o []) ≡ true
-    wanted a None = refl
-    wanted a (Some kind) = refl
-
-    one : (o : Option Claim) → begun_at p n ≡ o → list_all is_still (option_map_or (begin_events p line n) o []) ≡ true
-    one None e = refl
-    one (Some claim) e = elim (cases_Bool (nat_eq claim.line line)) [
-      | inl here ↦ rw here (wanted claim.agent (purpose_wanted p claim.agent n))
-      | inr there ↦ elim (cases_Bool (is_rival p claim.line line)) [
-        | inl f ↦ rw (there, f) refl
-        | inr f ↦ rw (there, f) refl
-      ]
-    ]
+begins-still p line n = grind arith
 
 pub cancels-still : (p : Past) (line n : ℕ) → list_all is_still (cancels_on p line n) ≡ true
 unfolding cancels_on cancel_events
-cancels-still p line n = one (option_and_then (begun_at p) (cancelled_in p n))
-  where
-    one : (o : Option Claim) → list_all is_still (option_map_or (cancel_events line) o []) ≡ true
-    one None = refl
-    one (Some claim) =
-        elim (cases_Bool (nat_eq claim.line line)) [ inl here ↦ rw here refl | inr there ↦ rw there refl ]
+cancels-still p line n = grind arith
 
 settled-still : (p : Past) (line n : ℕ) (s : SnoopEnd) (a : ℕ) (kind : Purpose) (outcome : Outcome)
     → s.outcome ≡ outcome
     → list_all is_still (settled_events p line n s a kind) ≡ true
 unfolding settled_events
-settled-still p line n s a kind Granted e = rw e refl
-settled-still p line n s a kind Handed e = rw e (owned (owner_at p a line n))
-  where
-    owned : (o : Option ℕ) → list_all is_still (option_map_or (λ owner. IsHanded a kind owner ∷ []) o []) ≡ true
-    owned None = refl
-    owned (Some owner) = refl
-settled-still p line n s a kind Retried e = rw e refl
-settled-still p line n s a kind Deferred e = rw e refl
-settled-still p line n s a kind Written e = rw e refl
-settled-still p line n s a kind Replied e = rw e refl
-settled-still p line n s a kind Failed e = rw e refl
-settled-still p line n s a kind Upgraded e =
-    elim (cases_Bool (is_some s.grant)) [ inl f ↦ rw (e, f) refl | inr f ↦ rw (e, f) refl ]
+settled-still p line n s a kind outcome h1 = grind arith
 
 claimed-still : (p : Past) (line n : ℕ) (s : SnoopEnd) (claim : Claim)
     → list_all is_still (claimed_events p line n s claim) ≡ true

@@ -1,7 +1,7 @@
 -- What a clock stores into a line: the stores of its entries on the line, in their order.
-use Rattle.std.proofs.Common.{◌≡◌, ℕ, true, false, ◌⊎◌, ◌+◌, not, nat_eq, List, [], ◌∷◌, ◌++◌, map, Option, Some, None}
-use Rattle.std.proofs.Common.{refl, sym, ap, ◌∙◌, inl, inr, append_assoc}
-use Rattle.std.proofs.lemmas.Bool.{and_parts, cases_Bool, eqb-true}
+use Rattle.std.proofs.Common.{◌≡◌, ℕ, true, false, ◌⊎◌, ◌+◌, not, nat_eq, List, [], ◌∷◌, ◌++◌, map, Option, Some}
+use Rattle.std.proofs.Common.{None, refl, sym, ap, ◌∙◌, inl, inr, append_assoc, arith}
+use Rattle.std.proofs.lemmas.Bool.{cases_Bool, eqb-true}
 use Rattle.std.proofs.lemmas.List.Elements.{filter-append}
 use Rattle.std.specs.List.{filter, list_all}
 use Rattle.fsb_access.specs.declared.log.Done.{Done}
@@ -138,9 +138,7 @@ ends-store x p line n more bytes ends order chain = by-ends (ended_requests p n)
 pub all_both : (es fs : List Event) → list_all is_still es ≡ true → list_all is_still fs ≡ true
     → list_all is_still (es ++ fs) ≡ true
 all_both [] fs h k = k
-all_both (e ∷ es) fs h k =
-    let parts = and_parts (is_still e) (list_all is_still es) h in
-    rw (parts.0, all_both es fs parts.1 k) refl
+all_both (e ∷ es) fs h k = grind (arith, all_both es fs)
 
 pub lists-are : (a b c d e : List Event) → (a ++ b ++ c ++ d) ++ e ≡ a ++ (b ++ (c ++ (d ++ e)))
 lists-are a b c d e = append_assoc (a ++ b ++ c) d e ∙ append_assoc (a ++ b) c (d ++ e)

@@ -1,12 +1,11 @@
 -- Where memory takes the data of a request for a line, its end is awaited on the line, and its link has a giver.
 use Rattle.std.proofs.Common.{ℕ, ◌≡◌, Bool, true, false, not, ◌&&◌, ◌||◌, nat_eq, if◌then◌else◌, Option, Some, None}
-use Rattle.std.proofs.Common.{is_some, refl, ◌∙◌}
+use Rattle.std.proofs.Common.{is_some, refl, ◌∙◌, arith}
 use Rattle.std.proofs.lemmas.Bool.{and_from, and_parts, both_ways}
 use Rattle.fsb_count.specs.Clocks.{first_where}
 use Rattle.fsb_count.specs.Options.{is_some_and}
 use Rattle.fsb_count.proofs.Interface.{any_where-at, first_where-found}
 use Rattle.fsb_encode.specs.declared.request.Kind.{Kind}
-use Rattle.fsb_encode.specs.declared.request.Kind.TheVariants.{Invalidate, Read, Reply, Upgrade, WriteBack}
 use Rattle.fsb_trace.specs.declared.outcome.Outcome.{Outcome}
 use Rattle.fsb_trace.specs.declared.outcome.Outcome.TheVariants.{Deferred, Failed, Granted, Handed, Replied, Retried}
 use Rattle.fsb_trace.specs.declared.outcome.Outcome.TheVariants.{Upgraded, Written}
@@ -67,21 +66,13 @@ written-ungranted : (kind : Kind) (outcome : Outcome) (won : Bool) (grant : Gran
     → fits_kind kind outcome ≡ true
     → (if makes_grant kind outcome || (is_upgraded outcome && won) then Some grant else None) ≡ None
 unfolding fits_kind fits_write_back makes_grant is_got is_upgraded
-written-ungranted Reply outcome won grant e fits = absurd (let no : ⊥ = cc in no)
-written-ungranted WriteBack outcome won grant e fits = rw e refl
-written-ungranted Invalidate outcome won grant e fits = rw e refl
-written-ungranted Read outcome won grant e fits = rw e refl
-written-ungranted Upgrade outcome won grant e fits = rw e refl
+written-ungranted kind outcome won grant h1 h2 = grind arith
 
 handed-granted : (kind : Kind) (outcome : Outcome) (won : Bool) (grant : Grant) → outcome ≡ Handed
     → fits_kind kind outcome ≡ true
     → (if makes_grant kind outcome || (is_upgraded outcome && won) then Some grant else None) ≡ Some grant
 unfolding fits_kind fits_write_back makes_grant is_got is_upgraded
-handed-granted Reply outcome won grant e fits = absurd (let no : ⊥ = cc in no)
-handed-granted WriteBack outcome won grant e fits = absurd (let no : ⊥ = (let f = rw e at fits in cc) in no)
-handed-granted Invalidate outcome won grant e fits = rw e refl
-handed-granted Read outcome won grant e fits = rw e refl
-handed-granted Upgrade outcome won grant e fits = rw e refl
+handed-granted kind outcome won grant h1 h2 = grind arith
 
 -- a snoop end of a request for the line after which memory takes its data
 pub taking : (p : Past) (line t : ℕ) (s : SnoopEnd) (fits : IsSnoopOn p line t s) → IsUncontested fits.kind s.outcome
@@ -116,14 +107,4 @@ taking p line t s fits free takes = by-outcome s.outcome refl
 -- where memory takes no data, the link has no giver
 pub ungiven : (p : Past) (line t a : ℕ) (s : SnoopEnd) → does_take s.outcome ≡ false → giver_at p line t a s ≡ None
 unfolding does_take giver_at
-ungiven p line t a s takes = by-outcome s.outcome refl
-  where
-    by-outcome : (outcome : Outcome) → s.outcome ≡ outcome → giver_at p line t a s ≡ None
-    by-outcome Written e = absurd (let no : ⊥ = (let f = rw e at takes in cc) in no)
-    by-outcome Handed e = absurd (let no : ⊥ = (let f = rw e at takes in cc) in no)
-    by-outcome Granted e = rw e refl
-    by-outcome Retried e = rw e refl
-    by-outcome Deferred e = rw e refl
-    by-outcome Replied e = rw e refl
-    by-outcome Failed e = rw e refl
-    by-outcome Upgraded e = rw e refl
+ungiven p line t a s takes = grind arith

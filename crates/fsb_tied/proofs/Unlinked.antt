@@ -1,21 +1,15 @@
 -- An agent that has a line ready awaits no link of it.
 use Rattle.std.proofs.Common.{ℕ, zero, suc, ◌<◌, ◌≤◌, ◌≡◌, Bool, true, false, ◌||◌, List, [], ◌∷◌, ◌++◌, Option, Some}
-use Rattle.std.proofs.Common.{None, length, nat_eq, refl, sym, ap, subst, ◌∙◌, arith, inl, inr}
-use Rattle.std.proofs.lemmas.Bool.{both_ways, cases_Bool, cases_lt, eq-eqb, eqb-true, ne_eqb, or_from, or_left}
-use Rattle.std.proofs.lemmas.Bool.{or_parts, or_right}
+use Rattle.std.proofs.Common.{None, length, refl, sym, ap, subst, ◌∙◌, arith, inl, inr}
+use Rattle.std.proofs.lemmas.Bool.{both_ways, cases_lt, eq-eqb, or_left, or_right}
 use Rattle.std.specs.Option.{option_and_then, option_map, option_map_or}
 use Rattle.fsb_count.specs.Clocks.{last_where}
 use Rattle.fsb_count.specs.Options.{is_some_and}
-use Rattle.fsb_encode.specs.declared.request.Kind.{Kind}
-use Rattle.fsb_encode.specs.declared.request.Kind.TheVariants.{Invalidate, Read, Reply, Upgrade, WriteBack}
+use Rattle.fsb_encode.specs.declared.request.Kind.TheVariants.{WriteBack}
 use Rattle.fsb_encode.specs.declared.request.Request.{Request}
 use Rattle.fsb_hazard.specs.declared.choice.Turn.{Turn}
-use Rattle.fsb_hazard.specs.declared.choice.Turn.TheVariants.{Defer, Keep, Retry}
 use Rattle.fsb_line.specs.declared.link.Link.{Link}
 use Rattle.fsb_line.specs.Links.{is_linked}
-use Rattle.fsb_signal.specs.declared.lines.TheConstants.Lines.{HITM}
-use Rattle.fsb_signal.specs.Samples.{line_at}
-use Rattle.fsb_trace.specs.At.{request_at}
 use Rattle.fsb_trace.specs.declared.outcome.Outcome.TheVariants.{Written}
 use Rattle.fsb_trace.specs.Outcome.{outcome_by_kind}
 use Rattle.fsb_trace.specs.Requests.{is_write_back_kind}
@@ -26,7 +20,7 @@ use Rattle.fsb_timely.specs.Past.{Grant, Past, SnoopEnd}
 use Rattle.fsb_timely.specs.Runs.{Run, past_of}
 use Rattle.fsb_timely.specs.Timely.{Timely}
 use Rattle.fsb_timely.proofs.Interface.{holds_line-says, last_where-found, last_where-from, tied-snoop}
-use Rattle.fsb_lawful.proofs.Interface.{and-then, some-and}
+use Rattle.fsb_lawful.proofs.Interface.{some-and}
 use Rattle.fsb_coherent.specs.Awaits.{Awaited, awaited_by}
 use Rattle.fsb_coherent.specs.Relation.{chain_below, link_for, link_left, links_left}
 use Rattle.fsb_coherent.specs.Settled.{outcome_by_turn, outcome_under}
@@ -41,28 +35,17 @@ use Rattle.fsb_tied.proofs.ServedAccesses.{grant-first, granted-parts}
 -- what is written back is a write-back
 kept-kind : (o : Option Request) → outcome_by_kind o ≡ Written → option_map (λ (x : Request). x.kind) o ≡ Some WriteBack
 unfolding outcome_by_kind
-kept-kind None e = absurd (let no : ⊥ = cc in no)
-kept-kind (Some request) e = by-kind request.kind refl
-  where
-    by-kind : (kind : Kind) → request.kind ≡ kind → Some request.kind ≡ Some WriteBack
-    by-kind WriteBack f = ap Some f
-    by-kind Reply f = absurd (let no : ⊥ = (let e' = rw f at e in cc) in no)
-    by-kind Invalidate f = absurd (let no : ⊥ = (let e' = rw f at e in cc) in no)
-    by-kind Read f = absurd (let no : ⊥ = (let e' = rw f at e in cc) in no)
-    by-kind Upgrade f = absurd (let no : ⊥ = (let e' = rw f at e in cc) in no)
+kept-kind o h1 = grind arith
 
 turn-kind : (turn : Turn) (o : Option Request) → outcome_by_turn turn o ≡ Written
     → option_map (λ (x : Request). x.kind) o ≡ Some WriteBack
 unfolding outcome_by_turn
-turn-kind Keep o e = kept-kind o e
-turn-kind Retry o e = absurd (let no : ⊥ = cc in no)
-turn-kind (Defer later) o e = absurd (let no : ⊥ = cc in no)
+turn-kind turn o h1 = grind (arith, kept-kind)
 
 written-kind : (handed : Bool) (turn : Turn) (o : Option Request) → outcome_under handed turn o ≡ Written
     → option_map (λ (x : Request). x.kind) o ≡ Some WriteBack
 unfolding outcome_under
-written-kind true turn o e = absurd (let no : ⊥ = cc in no)
-written-kind false turn o e = turn-kind turn o e
+written-kind handed turn o h1 = grind (arith, turn-kind)
 
 -- who writes a line back loses it
 written-lost : (r : Run) (a line t : ℕ) (s : SnoopEnd) (awaited : Awaited) → snooped_at (past_of r) t ≡ Some s
@@ -73,8 +56,7 @@ written-lost r a line t s awaited e b agent names =
     let p : Past = past_of r in
     let tied = tied-snoop r t s e in
     let made = sym (outcome-made r t s e) ∙ b.written in
-    let kind : s.kind ≡ Some WriteBack = tied.1.kind
-    ∙ written-kind (line_at HITM r.trace t) s.turn (request_at r.trace s.first) made in
+    let kind : s.kind ≡ Some WriteBack = grind (arith, written-kind) in
     or_left (is_evicted p a line t || is_some_and (snooped_at p t)
     (is_snooped (is_claim_of a line) is_write_back_kind)) (is_taken_away p a line t)
     (or_right (is_evicted p a line t)
@@ -107,24 +89,7 @@ same-grant p t s grant e f = sym (ap (option_and_then (λ (x : SnoopEnd). x.gran
 
 ready-parts : (p : Past) (a line m : ℕ) → is_ready p a line m ≡ true → IsReady p a line m
 unfolding has_arrived latest_grant
-ready-parts p a line m e =
-    let g = some-and (option_and_then (grant_at p) (last_where (is_granted p a line) m))
-    (λ (x : Grant). is_ended p m x.first) e in
-    let t = and-then (grant_at p) (last_where (is_granted p a line) m) g.0 g.1 in
-    let found = last_where-found (is_granted p a line) m t.0 t.1 in
-    let k = granted-parts p a line t.0 found.1 in
-    let at = same-grant p t.0 k.0 g.0 k.2 t.2 in
-    record {
-      at = t.0;
-      last = t.1;
-      end = k.0;
-      grant = g.0;
-      there = k.2;
-      made = at;
-      granted = found.1;
-      below = found.0;
-      ended = g.2;
-    }
+ready-parts p a line m e = grind (arith, some-and, last_where-found, granted-parts, same-grant)
 
 -- none of its links is the agent's
 record HasReady (r : Run) (a line m : ℕ) : Type 0 where
@@ -160,8 +125,7 @@ by-grant : (r : Run) (a line m t : ℕ) (s : SnoopEnd) (awaited : Awaited) → H
 unfolding is_granted grant_at is_some_and
 by-grant r a line m t s awaited k e l b agent names =
     let p : Past = past_of r in
-    let granted : is_granted p a line t ≡ true = rw
-    (e, b.granted, eq-eqb b.grant.agent a (b.agent ∙ agent), eq-eqb b.grant.line line (b.names ∙ names)) refl in
+    let granted : is_granted p a line t ≡ true = grind arith in
     let from = last_where-from (is_granted p a line) m t l granted in
     let both : Some from.0 ≡ Some k.ready.at = sym from.1 ∙ k.ready.last in
     let same : from.0 ≡ k.ready.at = cc in
@@ -197,17 +161,13 @@ awaited-done r a line m t s awaited (Some grant) f k e l g agent names =
 linked-append : (a : ℕ) (xs ys : List Link) → is_linked a xs ≡ false → is_linked a ys ≡ false
     → is_linked a (xs ++ ys) ≡ false
 linked-append a [] ys e f = f
-linked-append a (x ∷ xs) ys e f =
-    let parts = or_parts (nat_eq x.agent a) (is_linked a xs) e in
-    or_from (nat_eq x.agent a) (is_linked a (xs ++ ys)) parts.0 (linked-append a xs ys parts.1 f)
+linked-append a (x ∷ xs) ys e f = grind (arith, linked-append a xs ys)
 
 unlinked-all : (p : Past) (a line m b : ℕ) → ((t : ℕ) → t < b → is_linked a (links_at p line m t) ≡ false)
     → is_linked a (links_left p line m b) ≡ false
 unfolding links_left
 unlinked-all p a line m zero none = refl
-unlinked-all p a line m (suc b) none =
-    linked-append a (links_left p line m b) (links_at p line m b)
-    (unlinked-all p a line m b (λ t l. none t (omega arith))) (none b (omega arith))
+unlinked-all p a line m (suc b) none = grind (arith, linked-append, unlinked-all p a line m b)
 
 -- a snoop end leaves a link of the agent only where its end is awaited by it
 unlinked-end : (p : Past) (a line m t : ℕ) (s : SnoopEnd) (o : Option Awaited) → awaited_by s ≡ o
@@ -215,44 +175,21 @@ unlinked-end : (p : Past) (a line m t : ℕ) (s : SnoopEnd) (o : Option Awaited)
     → ((awaited : Awaited) → o ≡ Some awaited → awaited.agent ≡ a → awaited.line ≡ line → ⊥)
     → is_linked a (link_left p line m t s) ≡ false
 unfolding link_left link_for
-unlinked-end p a line m t s None f unended never = rw (unended, f) refl
-unlinked-end p a line m t s (Some awaited) f unended never =
-    elim (cases_Bool (nat_eq awaited.line line)) [
-      | inr other ↦ rw (unended, f, other) refl
-      | inl names ↦
-          let agent : nat_eq awaited.agent a ≡ false = ne_eqb awaited.agent a
-          (λ same. never awaited refl same (eqb-true awaited.line line names)) in
-          rw (unended, f, names, agent) refl
-    ]
+unlinked-end p a line m t s o h1 h2 h3 = grind arith
 
 unlinked-at : (r : Run) (a line m t : ℕ) (o : Option SnoopEnd) → HasReady r a line m → t < m
     → snooped_at (past_of r) t ≡ o
     → is_linked a (option_map_or (link_left (past_of r) line m t) o []) ≡ false
 unfolding link_left
-unlinked-at r a line m t None k l e = refl
-unlinked-at r a line m t (Some s) k l e =
-    let p : Past = past_of r in
-    elim (cases_Bool (is_ended p m s.first)) [
-      | inl ended ↦ rw ended refl
-      | inr unended ↦
-          unlinked-end p a line m t s (awaited_by s) refl unended
-          (λ awaited f agent names. both_ways (is_ended p m s.first) unended
-          (awaited-done r a line m t s awaited s.grant refl k e l f agent names))
-    ]
+unlinked-at r a line m t o h1 h2 h3 = grind (arith, unlinked-end, awaited-done)
 
 -- who holds a line that is ready for it awaits no link of it
 pub unlinked : (r : Run) (a line m : ℕ) → Timely r → m ≤ length r.trace → holds_line (past_of r) a line m ≡ true
     → is_ready (past_of r) a line m ≡ true → is_linked a (chain_below (past_of r) line m) ≡ false
 unfolding chain_below
-unlinked r a line m h l holds ready =
-    let p : Past = past_of r in
-    let parts = ready-parts p a line m ready in
-    let k : HasReady r a line m = record { timely = h; within = l; holds = holds; ready = parts } in
-    unlinked-all p a line m m (λ t low. unlinked-at r a line m t (snooped_at p t) k low refl)
+unlinked r a line m h l holds ready = grind (arith, ready-parts, unlinked-all, unlinked-at)
 
 -- so it does where its latest grant ended before
 pub arrived-ready : (p : Past) (a line m c : ℕ) → c ≤ m → has_arrived p a line m c ≡ true → is_ready p a line m ≡ true
 unfolding has_arrived is_some_and
-arrived-ready p a line m c l e =
-    let g = some-and (latest_grant p a line m) (λ (x : Grant). is_ended p c x.first) e in
-    ap (λ o. is_some_and o (λ (x : Grant). is_ended p m x.first)) g.1 ∙ ended-later p c m g.0.first l g.2
+arrived-ready p a line m c l e = grind (arith, ended-later)

@@ -1,13 +1,12 @@
 -- Lines of one cache set, and the victim among them.
 use Rattle.std.proofs.Common.{ℕ, zero, suc, ◌+◌, ◌<◌, ◌≤◌, ◌≡◌, Bool, true, false, not, ◌&&◌, List, [], ◌∷◌, Option}
-use Rattle.std.proofs.Common.{Some, None, min, nat_eq, refl, sym, ap, subst, ◌∙◌, inl, inr, arith}
+use Rattle.std.proofs.Common.{Some, None, nat_eq, refl, sym, subst, inl, inr, arith}
 use Rattle.std.specs.List.{filter, filter_map, list_any, range_with_len}
-use Rattle.std.specs.Option.{option_and_then}
 use Rattle.std.proofs.lemmas.Bool.{and_from, and_parts, both_ways, cases_Bool, cases_lt, eq-eqb, eqb-true}
-use Rattle.std.proofs.lemmas.Bool.{false_from_ne_true, not-true, or_left, or_parts, or_right}
-use Rattle.fsb_timely.specs.Past.{Grant, Owing, Past}
-use Rattle.fsb_timely.specs.Grants.{grant_at, holds_line, is_exclusive, is_granted, is_rival, line_granted_at}
-use Rattle.fsb_timely.specs.Grants.{lines_granted, set_of}
+use Rattle.std.proofs.lemmas.Bool.{false_from_ne_true, or_left}
+use Rattle.fsb_timely.specs.Past.{Owing, Past}
+use Rattle.fsb_timely.specs.Grants.{holds_line, is_exclusive, is_granted, is_rival, line_granted_at, lines_granted}
+use Rattle.fsb_timely.specs.Grants.{set_of}
 use Rattle.fsb_timely.specs.Hits.{is_dirty}
 use Rattle.fsb_timely.specs.Wants.{is_asked_for, is_same_set, least_of, victim_of}
 use Rattle.fsb_timely.proofs.Interface.{holds_line-says}
@@ -25,8 +24,7 @@ dirty-held p a line c e = exclusive-held p a line c (and_parts _ _ e).0
 -- lines of one cache set
 pub same-set : (p : Past) (x y z : ℕ) → is_same_set p x y ≡ true → is_same_set p x z ≡ true → is_same_set p y z ≡ true
 unfolding is_same_set
-same-set p x y z e f =
-    eq-eqb (set_of p y) (set_of p z) (sym (eqb-true (set_of p x) (set_of p y) e) ∙ eqb-true (set_of p x) (set_of p z) f)
+same-set p x y z e f = grind arith
 
 pub same-set-sym : (p : Past) (x y : ℕ) → is_same_set p x y ≡ true → is_same_set p y x ≡ true
 unfolding is_same_set
@@ -38,16 +36,11 @@ rival-set p x y e = (and_parts (nat_eq (set_of p x) (set_of p y)) (not (nat_eq x
 
 pub rival-other : (p : Past) (x y : ℕ) → is_rival p x y ≡ true → x ≡ y → ⊥
 unfolding is_rival
-rival-other p x y e same =
-    let other = not-true _ (and_parts (nat_eq (set_of p x) (set_of p y)) (not (nat_eq x y)) e).1 in
-    both_ways (nat_eq x y) other (eq-eqb x y same)
+rival-other p x y e same = grind arith
 
 pub rival-sym : (p : Past) (x y : ℕ) → is_rival p x y ≡ true → is_rival p y x ≡ true
 unfolding is_rival is_same_set
-rival-sym p x y e =
-    let set = same-set-sym p x y (rival-set p x y e) in
-    let other : nat_eq y x ≡ false = false_from_ne_true _ (λ t. rival-other p x y e (sym (eqb-true y x t))) in
-    and_from _ _ set (ap not other)
+rival-sym p x y e = grind arith
 
 -- no request is for a line of a set of which none is
 pub not-asked : (p : Past) (line other : ℕ) (owings : List Owing)
@@ -55,19 +48,12 @@ pub not-asked : (p : Past) (line other : ℕ) (owings : List Owing)
     → is_asked_for owings other ≡ false
 unfolding is_asked_for
 not-asked p line other [] e s = refl
-not-asked p line other (owing ∷ owings) e s =
-    let parts =
-    or_parts (is_same_set p line owing.claim.line) (list_any (λ x. is_same_set p line x.claim.line) owings) e in
-    let differs : nat_eq owing.claim.line other ≡ false = false_from_ne_true _ (λ t.
-    both_ways (is_same_set p line owing.claim.line) parts.0
-    (subst (λ k. is_same_set p line k ≡ true) (sym (eqb-true owing.claim.line other t)) s)) in
-    rw differs (not-asked p line other owings parts.1 s)
+not-asked p line other (owing ∷ owings) e s = grind (arith, not-asked p line other owings)
 
 -- where there is no least of those that pass, none passes
 least-there : (n : ℕ) (ns : List ℕ) (o : Option ℕ) → least_of ns ≡ o → least_of (n ∷ ns) ≡ None → ⊥
 unfolding least_of
-least-there n ns None e f = let f' = rw (least_of, e) at f in cc
-least-there n ns (Some m) e f = let f' = rw (least_of, e) at f in cc
+least-there n ns o h1 h2 = grind arith
 
 none-passes : (test : ℕ → Bool) (ns : List ℕ) → least_of (filter test ns) ≡ None → list_any test ns ≡ false
 none-passes test [] e = refl
@@ -81,8 +67,7 @@ none-passes test (n ∷ ns) e =
 -- what is found among those that are given for a stretch of clocks
 some-there : (g : ℕ → Option ℕ) (test : ℕ → Bool) (xs : List ℕ) (n : ℕ) (o : Option ℕ) → g n ≡ o
     → list_any test (filter_map g xs) ≡ true → list_any test (filter_map g (n ∷ xs)) ≡ true
-some-there g test xs n None e f = rw e f
-some-there g test xs n (Some y) e f = rw e (or_right _ _ f)
+some-there g test xs n o h1 h2 = grind arith
 
 any-between : (g : ℕ → Option ℕ) (test : ℕ → Bool) (first size k line : ℕ) → first ≤ k → k < first + size
     → g k ≡ Some line → test line ≡ true → list_any test (filter_map g (range_with_len first size)) ≡ true
@@ -98,17 +83,9 @@ any-between g test first (suc size) k line l m e t =
           rw here (or_left _ _ t)
     ]
 
-to-agent : (a : ℕ) (grant : Grant) → nat_eq grant.agent a ≡ true
-    → (elim (nat_eq grant.agent a) [ true ↦ Some grant.line | false ↦ None ]) ≡ Some grant.line
-to-agent a grant e = rw e refl
-
 granted-line : (p : Past) (a line t : ℕ) → is_granted p a line t ≡ true → line_granted_at p a t ≡ Some line
 unfolding is_granted line_granted_at
-granted-line p a line t e =
-    let g = some-and (grant_at p t) (λ (grant : Grant). nat_eq grant.agent a && nat_eq grant.line line) e in
-    let parts = and_parts (nat_eq g.0.agent a) (nat_eq g.0.line line) g.2 in
-    let give : Grant → Option ℕ = λ grant. elim (nat_eq grant.agent a) [ true ↦ Some grant.line | false ↦ None ] in
-    ap (option_and_then give) g.1 ∙ to-agent a g.0 parts.0 ∙ ap Some (eqb-true g.0.line line parts.1)
+granted-line p a line t e = grind (arith, some-and)
 
 -- a line that an agent holds is among those that were granted to it
 held-listed : (p : Past) (a line c : ℕ) (test : ℕ → Bool) → holds_line p a line c ≡ true → test line ≡ true
@@ -132,13 +109,6 @@ no-victim p a c line e other rival =
     both_ways (list_any test (lines_granted p a c)) none
     (held-listed p a other c test (dirty-held p a other c t) passes))
 
-of-two : (test : ℕ → Bool) (n m : ℕ) → test n ≡ true → test m ≡ true → test (min n m) ≡ true
-of-two test n m s t =
-    elim (cases_lt n m) [
-      | inl l ↦ let e : min n m ≡ n = omega arith in subst (λ k. test k ≡ true) (sym e) s
-      | inr l ↦ let e : min n m ≡ m = omega arith in subst (λ k. test k ≡ true) (sym e) t
-    ]
-
 none-least : (m : ℕ) → least_of [] ≡ Some m → ⊥
 unfolding least_of
 none-least m e = cc
@@ -146,11 +116,7 @@ none-least m e = cc
 least-more : (test : ℕ → Bool) (n m : ℕ) (ns : List ℕ) (o : Option ℕ) → least_of ns ≡ o
     → ((k : ℕ) → least_of ns ≡ Some k → test k ≡ true) → test n ≡ true → least_of (n ∷ ns) ≡ Some m → test m ≡ true
 unfolding least_of
-least-more test n m ns None e rest t least =
-    let same : n ≡ m = (let e' = rw (e, least_of) at least in cc) in subst (λ k. test k ≡ true) same t
-least-more test n m ns (Some k) e rest t least =
-    let same : min n k ≡ m = (let e' = rw (e, least_of) at least in cc) in
-    subst (λ k. test k ≡ true) same (of-two test n k t (rest k e))
+least-more test n m ns o h1 h2 h3 h4 = grind arith
 
 -- the least of those that pass passes
 least-passes : (test : ℕ → Bool) (ns : List ℕ) (m : ℕ) → least_of (filter test ns) ≡ Some m → test m ≡ true
@@ -167,6 +133,4 @@ least-passes test (n ∷ ns) m e =
 pub a-victim : (p : Past) (a c line victim : ℕ) → victim_of p a c line ≡ Some victim
     → (is_rival p victim line ≡ true) × (is_dirty p a victim c ≡ true)
 unfolding victim_of
-a-victim p a c line victim e =
-    and_parts (is_rival p victim line) (is_dirty p a victim c)
-    (least-passes (λ other. is_rival p other line && is_dirty p a other c) (lines_granted p a c) victim e)
+a-victim p a c line victim e = grind (arith, least-passes)

@@ -1,11 +1,10 @@
 -- What an agent wants suits what it has, and lies in a cache set of which it has asked for no line.
-use Rattle.std.proofs.Common.{ℕ, ◌≡◌, ◌⊎◌, Bool, true, false, not, ◌&&◌, ◌||◌, List, [], Option, Some, None, length}
-use Rattle.std.proofs.Common.{nat_le, refl, ap, subst, inl, inr}
+use Rattle.std.proofs.Common.{ℕ, ◌≡◌, ◌⊎◌, Bool, true, false, ◌&&◌, List, [], Option, Some, None, refl, inl, inr}
+use Rattle.std.proofs.Common.{arith}
 use Rattle.std.specs.List.{find}
 use Rattle.std.specs.Option.{option_map}
 use Rattle.std.proofs.lemmas.Bool.{and_from, and_parts, both_ways, false_from_ne_true, not-true}
 use Rattle.fsb_encode.specs.declared.request.Kind.{Kind}
-use Rattle.fsb_encode.specs.declared.request.Kind.TheVariants as kinds
 use Rattle.fsb_encode.specs.declared.request.Request.{Request}
 use Rattle.fsb_line.specs.declared.purpose.Purpose.{Purpose}
 use Rattle.fsb_line.specs.declared.purpose.Purpose.TheVariants as purposes
@@ -13,7 +12,7 @@ use Rattle.fsb_trace.specs.Requests.{is_write_back_kind}
 use Rattle.fsb_timely.specs.Past.{Owing, Past}
 use Rattle.fsb_timely.specs.Grants.{holds_line, is_exclusive, is_rival}
 use Rattle.fsb_timely.specs.Hits.{is_dirty, is_met}
-use Rattle.fsb_timely.specs.Scripts.{Need, is_idling, needs_from, window}
+use Rattle.fsb_timely.specs.Scripts.{Need, needs_from, window}
 use Rattle.fsb_timely.specs.Wants.{is_asked_for, is_missing, is_same_set, kind_needed, may_upgrade, owed}
 use Rattle.fsb_timely.specs.Wants.{request_of_kind, victim_of, want_for, want_of, write_back_of}
 use Rattle.fsb_timely.proofs.Interface.{find-passes, missing-parts}
@@ -31,10 +30,6 @@ pub record IsWanting (p : Past) (a c : ℕ) (request : Request) : Type 0 where
   pub drops : ((line : ℕ) → is_rival p request.line line ≡ true → is_dirty p a line c ≡ false)
       ⊎ (is_dirty p a request.line c ≡ true)
 
-and-true : (b : Bool) → (b && true) ≡ false → b ≡ false
-and-true true e = e
-and-true false e = refl
-
 not-own : (p : Past) (a c line : ℕ) → (holds_line p a line c && is_exclusive p a line c) ≡ false
     → is_exclusive p a line c ≡ false
 not-own p a c line k = false_from_ne_true _ (λ t. both_ways _ k (and_from _ _ (exclusive-held p a line c t) t))
@@ -45,12 +40,9 @@ suits-needed : (p : Past) (a c : ℕ) (need : Need) (alone up : Bool) → need.a
     → (purpose : Purpose) × (purpose_of (kind_needed p a c need) ≡ Some purpose)
     × (suits_holder p a need.line c purpose ≡ true)
 unfolding kind_needed purpose_of suits_holder is_met
-suits-needed p a c need false up e f g =
-    let g' = rw e at g in (purposes.Read, rw e refl, ap not (and-true (holds_line p a need.line c) g'))
-suits-needed p a c need true true e f g =
-    let g' = rw e at g in (purposes.Upgrade, rw (e, f) refl, ap not (not-own p a c need.line g'))
-suits-needed p a c need true false e f g =
-    let g' = rw e at g in (purposes.Own, rw (e, f) refl, ap not (not-own p a c need.line g'))
+suits-needed p a c need false up e f g = grind arith
+suits-needed p a c need true true e f g = grind (arith, not-own)
+suits-needed p a c need true false e f g = grind (arith, not-own)
 
 -- what is missing is not met
 missing-unmet : (p : Past) (a c : ℕ) (owings : List Owing) (need : Need) → is_missing p a c owings need ≡ true
@@ -88,28 +80,14 @@ want-for p a c need (Some victim) e missing =
 want-if : (p : Past) (a c : ℕ) (request : Request) (o : Option Need)
     → find (is_missing p a c (owed p a c)) (needs_from [] (window p a c)) ≡ o
     → option_map (want_for p a c (owed p a c)) o ≡ Some request → IsWanting p a c request
-want-if p a c request None e f = absurd (let h : ⊥ = cc in h)
-want-if p a c request (Some need) e f =
-    let same : want_for p a c (owed p a c) need ≡ request = cc in
-    let missing = find-passes (is_missing p a c (owed p a c)) (needs_from [] (window p a c)) need e in
-    subst (IsWanting p a c) same (want-for p a c need (victim_of p a c need.line) refl missing)
+want-if p a c request o h1 h2 = grind (arith, find-passes, want-for)
 
 -- what an agent wants suits what it has
 pub want-is : (p : Past) (a c : ℕ) (request : Request) → want_of p a c ≡ Some request → IsWanting p a c request
 unfolding want_of
-want-is p a c request e = by-wait (is_idling p a c || nat_le p.plan.ahead (length (owed p a c))) refl
-  where
-    by-wait : (b : Bool) → (is_idling p a c || nat_le p.plan.ahead (length (owed p a c))) ≡ b → IsWanting p a c request
-    by-wait true t = absurd (let h : ⊥ = (let e' = rw (t, want_of) at e in cc) in h)
-    by-wait false f =
-        want-if p a c request (find (is_missing p a c (owed p a c)) (needs_from [] (window p a c))) refl
-        (let e' = rw (f, want_of) at e in e')
+want-is p a c request e = grind (arith, want-if)
 
 -- a request that asks for a write-back is one
 pub write-back-kind : (kind : Kind) → purpose_of kind ≡ Some purposes.WriteBack → is_write_back_kind kind ≡ true
 unfolding purpose_of is_write_back_kind
-write-back-kind kinds.Reply e = absurd (let no : ⊥ = cc in no)
-write-back-kind kinds.Invalidate e = absurd (let no : ⊥ = cc in no)
-write-back-kind kinds.Read e = absurd (let no : ⊥ = cc in no)
-write-back-kind kinds.WriteBack e = refl
-write-back-kind kinds.Upgrade e = absurd (let no : ⊥ = cc in no)
+write-back-kind kind h1 = grind arith

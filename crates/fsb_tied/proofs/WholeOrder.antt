@@ -58,14 +58,7 @@ apart w i j t o l e f =
 
 -- a clock is the end of one live request at most
 pub one-ends : (w : Trace) (i j t : ℕ) → Orderly w → end_of w i ≡ Some t → end_of w j ≡ Some t → i ≡ j
-one-ends w i j t o e f =
-    elim (cases_lt i j) [
-      | inl l ↦ absurd (apart w i j t o l e f)
-      | inr l ↦ elim (cases_lt j i) [
-        | inl m ↦ absurd (apart w j i t o m f e)
-        | inr m ↦ omega arith
-      ]
-    ]
+one-ends w i j t o e f = grind (arith, apart)
 
 -- a clock is the first one of one live request at most
 pub one-begins : (w : Trace) (i j q : ℕ) → live_clock_of w i ≡ Some q → live_clock_of w j ≡ Some q → i ≡ j

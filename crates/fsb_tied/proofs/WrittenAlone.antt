@@ -1,10 +1,9 @@
 -- At the snoop end of a write-back of a timely run no other agent holds its line.
-use Rattle.std.proofs.Common.{ℕ, ◌<◌, ◌≡◌, true, false, Option, Some, None, [], ◌&&◌, not, nat_eq, length, refl, sym}
+use Rattle.std.proofs.Common.{ℕ, ◌<◌, ◌≡◌, true, false, Option, Some, None, [], ◌&&◌, not, nat_eq, length, refl}
 use Rattle.std.proofs.Common.{subst, ◌∙◌, arith}
 use Rattle.fsb_count.specs.Clocks.{any_where}
 use Rattle.fsb_count.specs.Options.{is_some_and}
 use Rattle.fsb_encode.specs.declared.request.Kind.{Kind}
-use Rattle.fsb_encode.specs.declared.request.Kind.TheVariants as kinds
 use Rattle.fsb_line.specs.declared.purpose.Purpose.{Purpose}
 use Rattle.fsb_line.specs.declared.purpose.Purpose.TheVariants as purposes
 use Rattle.fsb_line.specs.Line.{unheld}
@@ -31,11 +30,7 @@ use Rattle.fsb_tied.proofs.TiedRuns.{events-may-happen}
 write-back-asks : (kind : Kind) (purpose : Purpose) → is_write_back_kind kind ≡ true → purpose_of kind ≡ Some purpose
     → purpose ≡ purposes.WriteBack
 unfolding is_write_back_kind purpose_of
-write-back-asks kinds.WriteBack purpose h e = let same : purposes.WriteBack ≡ purpose = cc in sym same
-write-back-asks kinds.Reply purpose h e = absurd (cc)
-write-back-asks kinds.Invalidate purpose h e = absurd (cc)
-write-back-asks kinds.Read purpose h e = absurd (cc)
-write-back-asks kinds.Upgrade purpose h e = absurd (cc)
+write-back-asks kind purpose h1 h2 = grind arith
 
 -- what an agent other than a holds is the same in the past up to the clock
 held-elsewhere-to : (p : Past) (n : ℕ) → GoesOnAt p n → (a line : ℕ)

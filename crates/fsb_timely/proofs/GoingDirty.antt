@@ -1,8 +1,8 @@
 -- On which lines an agent is dirty rests on the past below the clock, and on the entries of the clock's own hits.
 use Rattle.std.proofs.Common.{ℕ, ◌≤◌, ◌<◌, ◌≡◌, Bool, true, false, not, ◌&&◌, ◌||◌, nat_eq, nat_lt, nat_le, List, []}
 use Rattle.std.proofs.Common.{◌∷◌, refl, sym, ap, subst, ◌∙◌, inl, inr, arith}
-use Rattle.std.proofs.Math.Bool.{and-false, or-false}
-use Rattle.std.proofs.lemmas.Bool.{cases_lt, cases_Bool, and_parts, or_parts, leb-true, eqb-true, ltb-true, le-ltb}
+use Rattle.std.proofs.Math.Bool.{or-false}
+use Rattle.std.proofs.lemmas.Bool.{cases_lt, and_parts, or_parts, leb-true, eqb-true, le-ltb}
 use Rattle.std.proofs.lemmas.List.Folds.{list_any-append}
 use Rattle.std.specs.List.{list_any, list_all}
 use Rattle.fsb_count.specs.Options.{is_some_and}
@@ -22,19 +22,11 @@ HitIsDone p a c entries = is_hit p a c ≡ true → list_any (is_done_at a c) en
 
 -- an entry that counts is not above the clock
 counted-below : (k c : ℕ) (h : Bool) → (nat_lt k c || (nat_eq k c && h)) ≡ true → k ≤ c
-counted-below k c h e =
-    elim (cases_Bool (nat_lt k c)) [
-      | inl t ↦ let l = ltb-true k c t in omega arith
-      | inr f ↦ let same = eqb-true k c (and_parts (nat_eq k c) h (let e' = rw f at e in e')).0 in omega arith
-    ]
+counted-below k c h e = grind arith
 
 quiet-entry : (a s l e b c h : Bool) → b ≡ false → (h ≡ true → (a && c) ≡ false)
     → ((((a && s) && l) && e) && (b || (c && h))) ≡ false
-quiet-entry false s l e b c h f g = refl
-quiet-entry true s l e true c h f g = absurd (let x : ⊥ = cc in x)
-quiet-entry true s l e false false h f g = and-false (((true && s) && l) && e)
-quiet-entry true s l e false true false f g = and-false (((true && s) && l) && e)
-quiet-entry true s l e false true true f g = absurd (let x : ⊥ = (let e' = g refl in cc) in x)
+quiet-entry a s l e b c h h1 h2 = grind arith
 
 -- no entry that comes counts as a store
 none-stored : (q : Past) (n a line c first : ℕ) (entries : List Done) → c ≤ n
@@ -69,17 +61,7 @@ stored-test : (n : ℕ) (p q : Past) (a line c first : ℕ) (done : Done) → Go
     ≡ (is_store_on a line done && is_ended q done.clock first && is_counted q a c done)
 stored-test n p q a line c first done h l =
     let counted = counted-same n p q a c done h l in
-    elim (cases_Bool (is_counted p a c done)) [
-      | inl t ↦
-          let k = below p a c done t in
-          let ended = ended-same n p q done.clock first (going-alike n p q h) (omega arith) in
-          λ i. is_store_on a line done && ended i && counted i
-      | inr f ↦
-          ap (λ b. is_store_on a line done && is_ended p done.clock first && b) f
-          ∙ and-false (is_store_on a line done && is_ended p done.clock first)
-          ∙ sym (ap (λ b. is_store_on a line done && is_ended q done.clock first && b) (sym counted ∙ f)
-          ∙ and-false (is_store_on a line done && is_ended q done.clock first))
-    ]
+    grind (arith, below, ended-same)
 
 stored-same : (n : ℕ) (p q : Past) (a line c first : ℕ) (h : GoesOn n p q) → c ≤ n → HitIsDone p a c h.entries
     → is_stored_since p a line c first ≡ is_stored_since q a line c first
@@ -114,11 +96,7 @@ unfolding is_done_at
 done_below n p a c [] l e t = refl
 done_below n p a c (done ∷ entries) l e t =
     let parts = and_parts (nat_le n done.clock) (list_all (λ d. nat_le n d.clock) entries) e in
-    let later : n ≤ done.clock = leb-true n done.clock parts.0 in
-    let other : nat_eq done.clock c ≡ false = differs done.clock c (omega arith) in
-    let here = ap (λ b. nat_eq done.agent a && b) other ∙ and-false (nat_eq done.agent a) in
-    let rest = done_below n p a c entries l parts.1 t in
-    λ i. here i || rest i
+    grind (arith, done_below n p a c entries l parts.1 t)
   where
     differs : (k c : ℕ) → c < k → nat_eq k c ≡ false
     differs k c m = by (nat_eq k c) refl

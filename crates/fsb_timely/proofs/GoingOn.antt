@@ -1,16 +1,15 @@
 -- What an agent has and does at a clock rests on the past below that clock.
-use Rattle.std.proofs.Common.{ℕ, zero, suc, ◌+◌, ◌%◌, ◌<◌, ◌≤◌, ◌≡◌, slice_get, Bool, true, false, not, ◌&&◌, ◌||◌}
-use Rattle.std.proofs.Common.{nat_eq, nat_le, [], Option, Some, None, refl, ap, ◌∙◌, arith}
-use Rattle.std.specs.List.{list_any}
-use Rattle.std.specs.Option.{option_map, option_map_or, option_and_then}
+use Rattle.std.proofs.Common.{ℕ, zero, suc, ◌<◌, ◌≤◌, ◌≡◌, slice_get, Bool, ◌&&◌, ◌||◌, nat_eq, nat_le, [], Option}
+use Rattle.std.proofs.Common.{refl, ap, ◌∙◌, arith}
+use Rattle.std.specs.Option.{option_map_or, option_and_then}
 use Rattle.fsb_count.specs.Options.{is_some_and}
-use Rattle.fsb_count.specs.Clocks.{AgreeBelow, last_where, any_where, from_clock, holds_since}
+use Rattle.fsb_count.specs.Clocks.{AgreeBelow, last_where, from_clock, holds_since}
 use Rattle.fsb_count.proofs.Interface.{any_where-same}
 use Rattle.fsb_trace.specs.Requests.{is_write_back_kind}
 use Rattle.fsb_timely.specs.Grants.{is_owning, begun_at, snooped_at, ended_requests, is_end_at, grant_at, set_of}
 use Rattle.fsb_timely.specs.Grants.{is_rival, is_claim_of, is_claim_of_other, is_snooped, is_granted, is_evicted}
 use Rattle.fsb_timely.specs.Grants.{is_written_back, is_taken_away, is_lost, holds_line, latest_grant, is_ended}
-use Rattle.fsb_timely.specs.Grants.{has_arrived, is_ready, is_named_by_other, is_sole_grant, is_exclusive}
+use Rattle.fsb_timely.specs.Grants.{has_arrived, is_ready, is_named_by_other, is_exclusive}
 use Rattle.fsb_timely.specs.Past.{Past}
 use Rattle.fsb_timely.specs.Growth.{GoesOn}
 use Rattle.fsb_timely.proofs.Since.{last_where-found}
@@ -28,23 +27,11 @@ going-alike n p q h = record { same_plan = h.same_plan; same_moments = h.same_mo
 pub last-same : (f g : ℕ → Bool) (n : ℕ) → AgreeBelow n f g → last_where f n ≡ last_where g n
 unfolding last_where
 last-same f g zero a = refl
-last-same f g (suc n) a =
-    let here = a.same n (omega arith) in
-    let rest = last-same f g n (record { same = λ c l. a.same c (omega arith) }) in
-    λ i. elim (here i) [ true ↦ Some n | false ↦ rest i ]
+last-same f g (suc n) a = grind (arith, last-same f g n)
 
 from-same : (f g : ℕ → Bool) (n d : ℕ) → AgreeBelow n f g → AgreeBelow n (from_clock d f) (from_clock d g)
 unfolding from_clock
 from-same f g n d a = record { same = λ c l. ap (λ b. nat_le d c && b) (a.same c l) }
-
-since-same : (gain gain' loss loss' : ℕ → Bool) (n : ℕ) → AgreeBelow n gain gain' → AgreeBelow n loss loss'
-    → holds_since gain loss n ≡ holds_since gain' loss' n
-unfolding holds_since
-since-same gain gain' loss loss' n a b =
-    let last = last-same gain gain' n a in
-    let any : (d : ℕ) → any_where (from_clock (d + 1) loss) n ≡ any_where (from_clock (d + 1) loss') n =
-    λ d. any_where-same (from_clock (d + 1) loss) (from_clock (d + 1) loss') n (from-same loss loss' n (d + 1) b) in
-    λ i. elim (last i) [ None ↦ false | Some d ↦ not (any d i) ]
 
 snooped-same : (n : ℕ) (p q : Past) (t : ℕ) → Alike n p q → t < n → snooped_at p t ≡ snooped_at q t
 unfolding snooped_at
@@ -52,8 +39,7 @@ snooped-same n p q t h l = ap (option_and_then (λ moment. moment.snooped)) (h.s
 
 pub begun-same : (n : ℕ) (p q : Past) (t : ℕ) → Alike n p q → t < n → begun_at p t ≡ begun_at q t
 unfolding begun_at
-begun-same n p q t h l =
-    ap (λ o. option_map (λ owing. owing.claim) (option_and_then (λ moment. moment.begun) o)) (h.same_moments t l)
+begun-same n p q t h l = grind arith
 
 pub ends-same : (n : ℕ) (p q : Past) (t : ℕ) → Alike n p q → t < n → ended_requests p t ≡ ended_requests q t
 unfolding ended_requests
@@ -66,16 +52,11 @@ grant-same n p q t h l = ap (option_and_then (λ s. s.grant)) (snooped-same n p 
 granted-same : (n : ℕ) (p q : Past) (a line c : ℕ) → Alike n p q → c ≤ n
     → AgreeBelow c (is_granted p a line) (is_granted q a line)
 unfolding is_granted
-granted-same n p q a line c h l =
-    record {
-      same = λ t m. ap (λ o. is_some_and o (λ grant. nat_eq grant.agent a && nat_eq grant.line line))
-          (grant-same n p q t h (omega arith));
-    }
+granted-same n p q a line c h l = grind (arith, grant-same)
 
 pub rival-same : (n : ℕ) (p q : Past) (line other : ℕ) → Alike n p q → is_rival p line other ≡ is_rival q line other
 unfolding is_rival set_of
-rival-same n p q line other h = let plan = h.same_plan in
-    λ i. nat_eq (line % (plan i).cache) (other % (plan i).cache) && not (nat_eq line other)
+rival-same n p q line other h = grind arith
 
 lost-same : (n : ℕ) (p q : Past) (a line c : ℕ) → Alike n p q → c ≤ n
     → AgreeBelow c (is_lost p a line) (is_lost q a line)
@@ -93,16 +74,12 @@ lost-same n p q a line c h l = record {
 
 pub holds_line-same : (n : ℕ) (p q : Past) (a line c : ℕ) → Alike n p q → c ≤ n
     → holds_line p a line c ≡ holds_line q a line c
-unfolding holds_line
-holds_line-same n p q a line c h l =
-    since-same (is_granted p a line) (is_granted q a line) (is_lost p a line) (is_lost q a line) c
-    (granted-same n p q a line c h l) (lost-same n p q a line c h l)
+unfolding holds_line holds_since
+holds_line-same n p q a line c h l = grind (arith, last-same, any_where-same, from-same, granted-same, lost-same)
 
 latest-by : (n : ℕ) (p q : Past) (a line c : ℕ) → Alike n p q → c ≤ n → (o : Option ℕ)
     → last_where (is_granted p a line) c ≡ o → option_and_then (grant_at p) o ≡ option_and_then (grant_at q) o
-latest-by n p q a line c h l None e = refl
-latest-by n p q a line c h l (Some d) e =
-    let below = (last_where-found (is_granted p a line) c d e).0 in grant-same n p q d h (omega arith)
+latest-by n p q a line c h1 h2 o h3 = grind (arith, last_where-found, grant-same)
 
 pub latest_grant-same : (n : ℕ) (p q : Past) (a line c : ℕ) → Alike n p q → c ≤ n
     → latest_grant p a line c ≡ latest_grant q a line c
@@ -114,33 +91,20 @@ latest_grant-same n p q a line c h l =
 
 pub ended-same : (n : ℕ) (p q : Past) (c first : ℕ) → Alike n p q → c ≤ n → is_ended p c first ≡ is_ended q c first
 unfolding is_ended is_end_at
-ended-same n p q c first h l =
-    any_where-same (λ t. is_end_at p t first) (λ t. is_end_at q t first) c
-    (record { same = λ t m. ap (list_any (nat_eq first)) (ends-same n p q t h (omega arith)) })
+ended-same n p q c first h l = grind (arith, any_where-same, ends-same)
 
 pub is_ready-same : (n : ℕ) (p q : Past) (a line c : ℕ) → Alike n p q → c ≤ n
     → is_ready p a line c ≡ is_ready q a line c
 unfolding has_arrived
-is_ready-same n p q a line c h l =
-    let latest = latest_grant-same n p q a line c h l in
-    let ended : (first : ℕ) → is_ended p c first ≡ is_ended q c first = λ first. ended-same n p q c first h l in
-    λ i. is_some_and (latest i) (λ grant. ended grant.first i)
+is_ready-same n p q a line c h l = grind (arith, latest_grant-same, ended-same)
 
 named-same : (n : ℕ) (p q : Past) (a line c : ℕ) → Alike n p q → c ≤ n
     → AgreeBelow c (is_named_by_other p a line) (is_named_by_other q a line)
 unfolding is_named_by_other
-named-same n p q a line c h l =
-    record {
-      same = λ t m. ap (λ o. is_some_and o (λ s. is_some_and s.claim (is_claim_of_other a line)))
-          (snooped-same n p q t h (omega arith));
-    }
+named-same n p q a line c h l = grind (arith, snooped-same)
 
 pub is_exclusive-same : (n : ℕ) (p q : Past) (a line c : ℕ) → Alike n p q → c ≤ n
     → is_exclusive p a line c ≡ is_exclusive q a line c
-unfolding is_exclusive
+unfolding is_exclusive holds_since
 is_exclusive-same n p q a line c h l =
-    let held = holds_line-same n p q a line c h l in
-    let latest = latest_grant-same n p q a line c h l in
-    let since = since-same (is_granted p a line) (is_granted q a line) (is_named_by_other p a line)
-    (is_named_by_other q a line) c (granted-same n p q a line c h l) (named-same n p q a line c h l) in
-    λ i. held i && is_some_and (latest i) is_sole_grant && since i
+    grind (arith, holds_line-same, latest_grant-same, last-same, any_where-same, from-same, granted-same, named-same)

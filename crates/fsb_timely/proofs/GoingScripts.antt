@@ -1,13 +1,11 @@
 -- Where an agent is in its script rests on the entries below the clock.
-use Rattle.std.proofs.Common.{ℕ, zero, suc, ◌+◌, ◌-◌, ◌<◌, ◌≤◌, ◌≡◌, Bool, true, false, not, ◌&&◌, ◌||◌, nat_eq, nat_lt}
-use Rattle.std.proofs.Common.{nat_le, List, [], ◌∷◌, ◌++◌, length, drop, Option, Some, None, slice_get, refl, sym, ap}
-use Rattle.std.proofs.Common.{subst, ◌∙◌, arith}
-use Rattle.std.proofs.Math.Bool.{and-false, or-false}
-use Rattle.std.proofs.lemmas.Bool.{and_parts, leb-true, le-ltb}
+use Rattle.std.proofs.Common.{ℕ, zero, suc, ◌+◌, ◌-◌, ◌<◌, ◌≤◌, ◌≡◌, Bool, true, false, not, ◌&&◌, nat_eq, nat_le}
+use Rattle.std.proofs.Common.{List, [], ◌∷◌, ◌++◌, length, Option, Some, None, slice_get, refl, sym, ap, ◌∙◌, arith}
+use Rattle.std.proofs.lemmas.Bool.{and_parts}
 use Rattle.std.proofs.lemmas.List.{length-append}
 use Rattle.std.proofs.lemmas.List.Folds.{list_any-append}
 use Rattle.std.specs.List.{list_any, list_all}
-use Rattle.std.specs.Option.{option_and_then, option_map_or}
+use Rattle.std.specs.Option.{option_and_then}
 use Rattle.fsb_count.specs.Options.{is_some_and}
 use Rattle.fsb_count.specs.Clocks.{last_where, first_where}
 use Rattle.fsb_count.proofs.Interface.{first_where-same, last_where-failed}
@@ -17,37 +15,22 @@ use Rattle.fsb_access.specs.ScriptOrder.{script_of}
 use Rattle.fsb_timely.specs.Past.{Past}
 use Rattle.fsb_timely.specs.Growth.{GoesOn}
 use Rattle.fsb_timely.specs.Scripts.{is_idle, is_done_by, items_of, is_logged, is_to_do, next_number, next_item}
-use Rattle.fsb_timely.specs.Scripts.{last_done, idle_clocks, idle_start, number_after, is_idling, window_from}
-use Rattle.fsb_timely.specs.Scripts.{window_at, window, needs_of, Need}
+use Rattle.fsb_timely.specs.Scripts.{last_done, idle_start, number_after, is_idling, window_at, window, needs_of}
+use Rattle.fsb_timely.specs.Scripts.{Need}
 use Rattle.fsb_timely.specs.Hits.{is_met, is_served, is_hit}
 use Rattle.fsb_timely.proofs.Since.{last_where-found}
 use Rattle.fsb_timely.proofs.GoingOn.{going-alike, last-same, holds_line-same, is_exclusive-same, is_ready-same}
 
--- an entry of clock n or later is no entry below c
-done-later : (n a c : ℕ) (done : Done) → c ≤ n → nat_le n done.clock ≡ true → is_done_by a c done ≡ false
-unfolding is_done_by
-done-later n a c done l e =
-    let later : n ≤ done.clock = leb-true n done.clock e in
-    ap (λ b. nat_eq done.agent a && b) (le-ltb done.clock c (omega arith)) ∙ and-false (nat_eq done.agent a)
-
 none-logged : (n a c k : ℕ) (entries : List Done) → c ≤ n
     → list_all (λ done. nat_le n done.clock) entries ≡ true
     → list_any (λ done. is_done_by a c done && nat_eq done.item k) entries ≡ false
+unfolding is_done_by
 none-logged n a c k [] l e = refl
-none-logged n a c k (done ∷ entries) l e =
-    let parts = and_parts (nat_le n done.clock) (list_all (λ d. nat_le n d.clock) entries) e in
-    let here = done-later n a c done l parts.0 in
-    let rest = none-logged n a c k entries l parts.1 in
-    λ i. (here i && nat_eq done.item k) || rest i
+none-logged n a c k (done ∷ entries) l e = grind (arith, none-logged n a c k entries l)
 
 is_logged-same : (n : ℕ) (p q : Past) (a c k : ℕ) → GoesOn n p q → c ≤ n → is_logged p a c k ≡ is_logged q a c k
 unfolding is_logged
-is_logged-same n p q a c k h l =
-    sym (ap (list_any (λ done. is_done_by a c done && nat_eq done.item k)) h.more_log
-    ∙ list_any-append (λ done. is_done_by a c done && nat_eq done.item k) p.log h.entries
-    ∙ ap (λ b. list_any (λ done. is_done_by a c done && nat_eq done.item k) p.log || b)
-    (none-logged n a c k h.entries l h.at_end)
-    ∙ or-false (list_any (λ done. is_done_by a c done && nat_eq done.item k) p.log))
+is_logged-same n p q a c k h l = grind (arith, list_any-append, none-logged)
 
 items-same : (n : ℕ) (p q : Past) (a : ℕ) → GoesOn n p q → items_of p a ≡ items_of q a
 unfolding items_of
@@ -77,11 +60,8 @@ next_item-alike n p q a c h l =
 pub window-alike : (n : ℕ) (p q : Past) (a c : ℕ) → GoesOn n p q → c ≤ n → window p a c ≡ window q a c
 unfolding window window_at items_of
 window-alike n p q a c h l =
-    let plan = h.same_plan in
     let number = next_number-alike n p q a c h l in
-    λ i. option_map_or
-    (λ k. option_map_or (λ item. window_from (plan i).ahead item
-    (drop (k + 1) (script_of (plan i).scripts a))) (slice_get (script_of (plan i).scripts a) k) []) (number i) []
+    grind arith
 
 -- a stretch at the end in which nothing passes changes nothing
 last-flat : (test : ℕ → Bool) (m d : ℕ) → ((k : ℕ) → m ≤ k → k < m + d → test k ≡ false)
@@ -94,34 +74,21 @@ last-flat test m (suc d) none =
 
 slice_get-behind : {X : Type 0} (xs ys : List X) (j : ℕ) → slice_get (xs ++ ys) (length xs + j) ≡ slice_get ys j
 slice_get-behind [] ys j = let e : 0 + j ≡ j = omega arith in ap (slice_get ys) e
-slice_get-behind (x ∷ xs) ys j =
-    let e : suc (length xs) + j ≡ suc (length xs + j) = omega arith in
-    ap (slice_get (x ∷ (xs ++ ys))) e ∙ slice_get-behind xs ys j
+slice_get-behind (x ∷ xs) ys j = grind (arith, slice_get-behind xs ys j)
 
 all-at : {X : Type 0} (test : X → Bool) (xs : List X) (j : ℕ) (x : X) → list_all test xs ≡ true
     → slice_get xs j ≡ Some x → test x ≡ true
 all-at test [] j x e f = absurd (let h : ⊥ = cc in h)
-all-at test (y ∷ ys) zero x e f =
-    let same : y ≡ x = cc in subst (λ z. test z ≡ true) same (and_parts (test y) (list_all test ys) e).0
+all-at test (y ∷ ys) zero x e f = grind arith
 all-at test (y ∷ ys) (suc j) x e f = all-at test ys j x (and_parts (test y) (list_all test ys) e).1 f
-
-later-by : (n a c : ℕ) (entries : List Done) (j : ℕ) → c ≤ n
-    → list_all (λ done. nat_le n done.clock) entries ≡ true → (o : Option Done) → slice_get entries j ≡ o
-    → is_some_and o (is_done_by a c) ≡ false
-unfolding is_some_and
-later-by n a c entries j l e None f = refl
-later-by n a c entries j l e (Some done) f = done-later n a c done l (all-at (λ d. nat_le n d.clock) entries j done e f)
 
 -- past the old log no entry lies below c
 later-quiet : (n : ℕ) (p q : Past) (a c k : ℕ) → GoesOn n p q → c ≤ n → length p.log ≤ k
     → is_some_and (slice_get q.log k) (is_done_by a c) ≡ false
+unfolding is_some_and is_done_by
 later-quiet n p q a c k h l m =
     let e : length p.log + (k - length p.log) ≡ k = omega arith in
-    let behind : slice_get q.log k ≡ slice_get h.entries (k - length p.log) =
-    ap (λ xs. slice_get xs k) h.more_log ∙ ap (slice_get (p.log ++ h.entries)) (sym e)
-    ∙ slice_get-behind p.log h.entries (k - length p.log) in
-    ap (λ o. is_some_and o (is_done_by a c)) behind
-    ∙ later-by n a c h.entries (k - length p.log) l h.at_end (slice_get h.entries (k - length p.log)) refl
+    grind (arith, slice_get-behind, all-at)
 
 entry-same : (n : ℕ) (p q : Past) (k : ℕ) → GoesOn n p q → k < length p.log → slice_get p.log k ≡ slice_get q.log k
 entry-same n p q k h l = sym (ap (λ xs. slice_get xs k) h.more_log ∙ slice_get-before p.log h.entries k l)
@@ -132,8 +99,7 @@ done_at p a c k = is_some_and (slice_get p.log k) (is_done_by a c)
 last-done-same : (n : ℕ) (p q : Past) (a c : ℕ) → GoesOn n p q → c ≤ n
     → last_where (done_at p a c) (length p.log) ≡ last_where (done_at q a c) (length q.log)
 last-done-same n p q a c h l =
-    let longer : length q.log ≡ length p.log + length h.entries = ap length h.more_log
-    ∙ length-append p.log h.entries in
+    let longer : length q.log ≡ length p.log + length h.entries = grind (arith, length-append) in
     last-same (done_at p a c) (done_at q a c) (length p.log)
     (record { same = λ k m. ap (λ o. is_some_and o (is_done_by a c)) (entry-same n p q k h m) })
     ∙ sym (ap (last_where (done_at q a c)) longer
@@ -157,17 +123,12 @@ is_idling-alike n p q a c h l =
     let number = next_number-alike n p q a c h l in
     let done = last_done-alike n p q a c h l in
     let items = items-same n p q a h in
-    λ i. is_some_and (number i)
-    (λ k. nat_lt c (option_map_or (λ d. d.clock + 1) (done i) 0 + idle_clocks (items i)
-    (option_map_or (λ d. d.item + 1) (done i) 0) k))
+    grind arith
 
 pub is_met-alike : (n : ℕ) (p q : Past) (a c : ℕ) (need : Need) → GoesOn n p q → c ≤ n
     → is_met p a c need ≡ is_met q a c need
 unfolding is_met
-is_met-alike n p q a c need h l =
-    let held = holds_line-same n p q a need.line c (going-alike n p q h) l in
-    let exclusive = is_exclusive-same n p q a need.line c (going-alike n p q h) l in
-    λ i. held i && (not need.alone || exclusive i)
+is_met-alike n p q a c need h l = grind (arith, holds_line-same, is_exclusive-same)
 
 is_served-alike : (n : ℕ) (p q : Past) (a c : ℕ) (need : Need) → GoesOn n p q → c ≤ n
     → is_served p a c need ≡ is_served q a c need

@@ -1,36 +1,25 @@
 -- What an agent wants, and whether it is held back, rests on the past below the clock, and on the entries of its
 -- own hits.
 use Rattle.std.proofs.Common.{ℕ, zero, suc, ◌+◌, ◌%◌, ◌≤◌, ◌<◌, ◌≡◌, true, false, not, ◌&&◌, ◌||◌, nat_eq, nat_le, []}
-use Rattle.std.proofs.Common.{List, length, Option, Some, None, refl, ap, ◌∙◌, arith, if◌then◌else◌}
-use Rattle.std.specs.List.{list_any, filter, filter_map, find, range_with_len, cons_option}
-use Rattle.std.specs.Option.{option_map, option_map_or, option_and_then}
-use Rattle.fsb_count.specs.Options.{is_some_and}
-use Rattle.fsb_encode.specs.declared.request.Kind.TheVariants.{Invalidate, Read, Upgrade}
+use Rattle.std.proofs.Common.{List, length, Option, None, refl, ap, ◌∙◌, arith}
+use Rattle.std.specs.List.{list_any, filter, filter_map, find, range_with_len}
+use Rattle.std.specs.Option.{option_map}
 use Rattle.fsb_encode.specs.declared.request.Request.{Request}
-use Rattle.fsb_trace.specs.Requests.{is_write_back_kind}
 use Rattle.fsb_timely.specs.Past.{Owing, Past}
 use Rattle.fsb_timely.specs.Growth.{GoesOn}
-use Rattle.fsb_timely.specs.Grants.{set_of, is_rival, is_claim_of_other, line_granted_at, lines_granted}
+use Rattle.fsb_timely.specs.Grants.{set_of, is_rival, line_granted_at, lines_granted}
 use Rattle.fsb_timely.specs.Scripts.{Need, is_idling, window, needs_from}
 use Rattle.fsb_timely.specs.Hits.{is_dirty}
 use Rattle.fsb_timely.specs.Wants.{outstanding_at, unsnooped_at, owed, is_asked_for, is_same_set, is_set_taken}
-use Rattle.fsb_timely.specs.Wants.{is_missing, least_of, victim_of, free_id, may_upgrade, kind_needed, request_of_kind}
-use Rattle.fsb_timely.specs.Wants.{write_back_of, want_for, want_of, is_open_to_other, is_held_back}
+use Rattle.fsb_timely.specs.Wants.{is_missing, least_of, victim_of, may_upgrade, kind_needed, want_for, want_of}
+use Rattle.fsb_timely.specs.Wants.{is_open_to_other, is_held_back}
 use Rattle.fsb_timely.proofs.GoingOn.{Alike, going-alike, grant-same, rival-same, holds_line-same}
 use Rattle.fsb_timely.proofs.GoingScripts.{is_idling-alike, window-alike, is_met-alike}
 use Rattle.fsb_timely.proofs.GoingDirty.{HitIsDone, is_dirty-alike}
 
 outstanding-same : (n : ℕ) (p q : Past) (c : ℕ) → Alike n p q → c ≤ n → outstanding_at p c ≡ outstanding_at q c
 unfolding outstanding_at
-outstanding-same n p q zero h l = refl
-outstanding-same n p q (suc c) h l =
-    ap (λ o. option_map_or (λ moment. moment.outstanding) o []) (h.same_moments c (omega arith))
-
-unsnooped-same : (n : ℕ) (p q : Past) (c : ℕ) → Alike n p q → c ≤ n → unsnooped_at p c ≡ unsnooped_at q c
-unfolding unsnooped_at
-unsnooped-same n p q zero h l = refl
-unsnooped-same n p q (suc c) h l = ap (λ o. option_map_or (λ moment. moment.unsnooped) o [])
-    (h.same_moments c (omega arith))
+outstanding-same n p q c h1 h2 = grind arith
 
 -- what an agent owes
 pub owed-same : (n : ℕ) (p q : Past) (a c : ℕ) → Alike n p q → c ≤ n → owed p a c ≡ owed q a c
@@ -41,19 +30,11 @@ owed-same n p q a c h l = ap (filter (λ owing. nat_eq owing.claim.agent a)) (ou
 range-same : (f g : ℕ → Option ℕ) (s len : ℕ) → ((t : ℕ) → t < s + len → f t ≡ g t)
     → filter_map f (range_with_len s len) ≡ filter_map g (range_with_len s len)
 range-same f g s zero same = refl
-range-same f g s (suc len) same =
-    let here = same s (omega arith) in
-    let rest = range-same f g (s + 1) len (λ t l. same t (omega arith)) in
-    λ i. cons_option (here i) (rest i)
+range-same f g s (suc len) same = grind (arith, range-same f g (s + 1) len)
 
 lines-same : (n : ℕ) (p q : Past) (a c : ℕ) → Alike n p q → c ≤ n → lines_granted p a c ≡ lines_granted q a c
 unfolding lines_granted line_granted_at
-lines-same n p q a c h l =
-    range-same (line_granted_at p a) (line_granted_at q a) 0 c
-    (λ t m. ap (option_and_then (λ grant. elim (nat_eq grant.agent a) [
-      | true ↦ Some grant.line
-      | false ↦ None
-    ])) (grant-same n p q t h (omega arith)))
+lines-same n p q a c h l = grind (arith, range-same, grant-same)
 
 set-same : (n : ℕ) (p q : Past) (line other : ℕ) → Alike n p q → is_same_set p line other ≡ is_same_set q line other
 unfolding is_same_set set_of
@@ -89,10 +70,7 @@ victim-same n p q a c line h l quiet =
 kind-same : (n : ℕ) (p q : Past) (a c : ℕ) (need : Need) → GoesOn n p q → c ≤ n
     → kind_needed p a c need ≡ kind_needed q a c need
 unfolding kind_needed may_upgrade
-kind-same n p q a c need h l =
-    let plan = h.same_plan in
-    let held = holds_line-same n p q a need.line c (going-alike n p q h) l in
-    λ i. if not need.alone then Read else (if nat_eq (plan i).profile 2 && held i then Upgrade else Invalidate)
+kind-same n p q a c need h l = grind (arith, holds_line-same)
 
 want_for-same : (n : ℕ) (p q : Past) (a c : ℕ) (owings : List Owing) (need : Need) (h : GoesOn n p q) → c ≤ n
     → HitIsDone p a c h.entries → want_for p a c owings need ≡ want_for q a c owings need
@@ -100,10 +78,7 @@ unfolding want_for
 want_for-same n p q a c owings need h l quiet =
     let victim = victim-same n p q a c need.line h l quiet in
     let kind = kind-same n p q a c need h l in
-    λ i. elim (victim i) [
-      | Some line ↦ write_back_of line (free_id a owings)
-      | None ↦ request_of_kind (kind i) need (free_id a owings)
-    ]
+    grind arith
 
 -- what an agent with these outstanding requests wants
 abbrev want_with : Past → ℕ → ℕ → List Owing → Option Request
@@ -136,9 +111,7 @@ want_of-alike n p q a c h l quiet =
 
 pub is_held_back-alike : (n : ℕ) (p q : Past) (a c : ℕ) (h : GoesOn n p q) → c ≤ n → HitIsDone p a c h.entries
     → is_held_back p a c ≡ is_held_back q a c
-unfolding is_held_back is_open_to_other
+unfolding is_held_back is_open_to_other unsnooped_at
 is_held_back-alike n p q a c h l quiet =
     let want = want_of-alike n p q a c h l quiet in
-    let unsnooped = unsnooped-same n p q c (going-alike n p q h) l in
-    λ i. is_some_and (want i)
-    (λ request. is_write_back_kind request.kind && list_any (is_claim_of_other a request.line) (unsnooped i))
+    grind arith

@@ -1,5 +1,5 @@
 -- A simulation that grows by a clock, and the one of no clock.
-use Rattle.std.proofs.Common.{ℕ, ◌<◌, ◌≡◌, List, [], length, IsTrue, refl, arith}
+use Rattle.std.proofs.Common.{ℕ, [], length, IsTrue, refl, arith}
 use Rattle.fsb_access.specs.Replay.{Served}
 use Rattle.fsb_access.specs.ScriptOrder.{AreOfItems, InOrder, script_of, steps_of}
 use Rattle.fsb_script.specs.Plans.{PlanView}
@@ -7,7 +7,7 @@ use Rattle.fsb_signal.specs.Samples.{is_known_trace}
 use Rattle.fsb_count.specs.Clocks.{count_where}
 use Rattle.fsb_timely.specs.Carried.{carries_data}
 use Rattle.fsb_timely.specs.Completions.{is_in_time}
-use Rattle.fsb_timely.specs.Growth.{IsWhole, GrowsTo}
+use Rattle.fsb_timely.specs.Growth.{GrowsTo}
 use Rattle.fsb_timely.specs.Runs.{Run, requests_below}
 use Rattle.fsb_timely.specs.Simulated.{Simulated}
 use Rattle.fsb_timely.specs.Timely.{Part, AtEachClock, holds_at, IsTimelyAt, Timely}
@@ -16,14 +16,7 @@ use Rattle.fsb_timely.proofs.Next.{each_clock-more, timely-more}
 pub simulated-more : (r s : Run) → Simulated r → GrowsTo r s → IsTrue (is_known_trace s.trace)
     → IsTimelyAt s (length r.trace) → IsTrue (holds_at carries_data s (length r.trace))
     → InOrder s.plan.scripts s.log → Served s.plan.mem s.log → Simulated s
-simulated-more r s old grows known new carried in_order served =
-    let before : IsWhole r = record { one_hold = grows.timely.one_hold; one_choice = grows.timely.one_choice } in
-    record {
-      timely = timely-more r s old.timely grows.next grows.whole known new;
-      carried = each_clock-more carries_data r s grows.next before old.carried carried;
-      in_order = in_order;
-      served = served;
-    }
+simulated-more r s old grows known new carried in_order served = grind (arith, timely-more, each_clock-more)
 
 -- the run of no clock
 abbrev nothing : PlanView → Run
@@ -37,20 +30,7 @@ follows_nothing plan agent = record { items = 0; same = refl }
 
 timely_nothing : (plan : PlanView) → Timely (nothing plan)
 unfolding requests_below count_where is_in_time
-timely_nothing plan = record {
-  known = refl;
-  one_hold = refl;
-  one_choice = refl;
-  in_time = refl;
-  request_starts = at_no_clock _ plan;
-  request_lines = at_no_clock _ plan;
-  hazard_lines = at_no_clock _ plan;
-  snoop_results = at_no_clock _ plan;
-  responses_and_data = at_no_clock _ plan;
-  completions = at_no_clock _ plan;
-  bus_lock = at_no_clock _ plan;
-  parity = at_no_clock _ plan;
-}
+timely_nothing plan = grind arith
 
 pub empty-simulated : (plan : PlanView)
     → Simulated (record { plan = plan; choices = []; holds = []; trace = []; log = [] })

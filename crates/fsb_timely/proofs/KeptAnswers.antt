@@ -1,12 +1,12 @@
 -- What a step keeps of the answers of hazard objects.
-use Rattle.std.proofs.Common.{◌≡◌, ◌||◌, ℕ, Bool, false, List, [], ◌∷◌, Option, refl, sym, ap, ◌∙◌}
-use Rattle.std.proofs.Math.Bool.{or-false, or_assoc}
+use Rattle.std.proofs.Common.{◌≡◌, ◌||◌, ℕ, false, List, [], ◌∷◌, Option, refl, sym, arith}
+use Rattle.std.proofs.Math.Bool.{or-false}
 use Rattle.std.specs.List.{fold, list_any}
 use Rattle.fsb_encode.specs.declared.request.Request.{Request}
 use Rattle.fsb_hazard.specs.declared.choice.Ask.TheVariants.{Begun, Clock}
 use Rattle.fsb_hazard.specs.declared.choice.Choice.{Choice}
 use Rattle.fsb_hazard.specs.Asking.{IsJoined}
-use Rattle.fsb_hazard.specs.Choice.{quiet_choice, join}
+use Rattle.fsb_hazard.specs.Choice.{join}
 use Rattle.fsb_hazard.specs.Told.{Told}
 use Rattle.fsb_timely.specs.Asked.{IsChosen, IsHold}
 
@@ -14,8 +14,7 @@ use Rattle.fsb_timely.specs.Asked.{IsChosen, IsHold}
 joined_bnr : (first : Choice) (answers : List Choice)
     → (fold join first answers).bnr ≡ (first.bnr || list_any (λ (answer : Choice). answer.bnr) answers)
 joined_bnr first [] = sym (or-false first.bnr)
-joined_bnr first (answer ∷ answers) =
-    joined_bnr (join first answer) answers ∙ or_assoc first.bnr answer.bnr (list_any (λ (a : Choice). a.bnr) answers)
+joined_bnr first (answer ∷ answers) = grind (arith, joined_bnr (join first answer) answers)
 
 pub choice_kept : (objects : List (Option Told)) (k : ℕ) (request : Request) (choice : Choice)
     → IsJoined objects (Begun k request) choice → IsChosen objects k (record choice { bnr = false })
@@ -23,8 +22,4 @@ choice_kept objects k request choice h = record { request = request; together = 
 
 pub hold_kept : (objects : List (Option Told)) (c : ℕ) (choice : Choice) → IsJoined objects (Clock c) choice
     → IsHold objects c choice.bnr
-hold_kept objects c choice h = record {
-  answers = h.answers;
-  answered = h.answered;
-  asks = ap (λ (answer : Choice). answer.bnr) h.joined ∙ joined_bnr quiet_choice h.answers;
-}
+hold_kept objects c choice h = grind (arith, joined_bnr)

@@ -1,30 +1,18 @@
 -- The bus lock, one clock further, and whether a request is locked as a run goes on.
-use Rattle.std.proofs.Common.{ℕ, ◌+◌, ◌-◌, ◌<◌, ◌≤◌, ◌≡◌, true, false, not, ◌&&◌, ◌||◌, nat_le, nat_eq, length, sym, ap}
-use Rattle.std.proofs.Common.{refl, ◌∙◌, arith}
-use Rattle.std.proofs.lemmas.Bool.{le-leb}
+use Rattle.std.proofs.Common.{ℕ, ◌+◌, ◌<◌, ◌≡◌, not, ◌&&◌, ◌||◌, nat_eq, length, sym, ap, arith}
 use Rattle.fsb_count.specs.Options.{is_some_and}
 use Rattle.fsb_count.proofs.Interface.{holds_since-more}
-use Rattle.fsb_timely.specs.BusLock.{is_begun_by, wants_lock, is_locked_request, is_release, is_released_before}
-use Rattle.fsb_timely.specs.BusLock.{keeps_lock}
-use Rattle.fsb_timely.specs.Grants.{begun_at}
+use Rattle.fsb_timely.specs.BusLock.{is_begun_by, is_locked_request, is_release, is_released_before, keeps_lock}
 use Rattle.fsb_timely.specs.Growth.{IsNext, IsWhole}
 use Rattle.fsb_timely.specs.Past.{Past}
-use Rattle.fsb_timely.specs.Runs.{Run, past_of, past_to}
+use Rattle.fsb_timely.specs.Runs.{Run, past_of}
 use Rattle.fsb_timely.proofs.GoingOn.{going-alike, begun-same}
 use Rattle.fsb_timely.proofs.Next.{past-same, past-goes_on}
 
-released-next : (p : Past) (a c : ℕ) → is_released_before p a (c + 1) ≡ is_release p a c
-unfolding is_released_before
-released-next p a c =
-    let back : c + 1 - 1 ≡ c = omega arith in
-    rw (le-leb 1 (c + 1) (omega arith)) (ap (is_release p a) back)
-
 pub keeps_lock-more : (p : Past) (a c : ℕ)
     → keeps_lock p (c + 1) a ≡ (is_locked_request p a (c + 1) || (keeps_lock p c a && not (is_release p a c)))
-unfolding keeps_lock
-keeps_lock-more p a c =
-    holds_since-more (is_locked_request p a) (is_released_before p a) (c + 1)
-    ∙ ap (λ b. is_locked_request p a (c + 1) || (keeps_lock p c a && not b)) (released-next p a c)
+unfolding keeps_lock is_released_before
+keeps_lock-more p a c = grind (arith, holds_since-more)
 
 begun_by-same : (r s : Run) (a t : ℕ) → IsNext r s → IsWhole r → t < length r.trace
     → is_begun_by (past_of s) a t ≡ is_begun_by (past_of r) a t
@@ -37,7 +25,4 @@ begun_by-same r s a t next whole l =
 pub is_locked_request-same : (r s : Run) (a t : ℕ) → IsNext r s → IsWhole r → t < length r.trace
     → is_locked_request (past_of s) a t ≡ is_locked_request (past_of r) a t
 unfolding is_locked_request
-is_locked_request-same r s a t next whole l =
-    let begun = begun_by-same r s a t next whole l in
-    let past = past-same r s t next whole l in
-    λ i. elim (begun i) [ true ↦ wants_lock (past i) a t | false ↦ false ]
+is_locked_request-same r s a t next whole l = grind (arith, begun_by-same, past-same)

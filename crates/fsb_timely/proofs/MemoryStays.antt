@@ -1,8 +1,7 @@
 -- What memory has below a clock stays as a run goes on from there.
-use Rattle.std.proofs.Common.{ℕ, ◌<◌, ◌≤◌, ◌≡◌, Bool, true, false, nat_eq, nat_lt, List, [], ◌∷◌, ◌++◌, length, refl}
-use Rattle.std.proofs.Common.{sym, ap, ◌∙◌, arith, append-nil}
+use Rattle.std.proofs.Common.{ℕ, ◌≤◌, ◌≡◌, Bool, true, nat_eq, nat_lt, List, [], ◌∷◌, ◌++◌, length, refl, ap, ◌∙◌}
+use Rattle.std.proofs.Common.{arith, append-nil}
 use Rattle.std.specs.List.{filter, list_all}
-use Rattle.std.proofs.lemmas.Bool.{and_parts, eqb-true, le-ltb}
 use Rattle.std.proofs.lemmas.List.Elements.{filter-append}
 use Rattle.fsb_access.specs.declared.log.Done.{Done}
 use Rattle.fsb_access.specs.Replay.{replay, start_of}
@@ -13,10 +12,7 @@ use Rattle.fsb_timely.specs.Runs.{Run}
 none-below : (n t : ℕ) (entries : List Done) → t ≤ n → list_all (λ done. nat_eq done.clock n) entries ≡ true
     → filter (λ done. nat_lt done.clock t) entries ≡ []
 none-below n t [] l e = refl
-none-below n t (done ∷ entries) l e =
-    let parts = and_parts (nat_eq done.clock n) (list_all (λ d. nat_eq d.clock n) entries) e in
-    let at : done.clock ≡ n = eqb-true done.clock n parts.0 in
-    rw (le-ltb done.clock t (omega (arith, at, l))) (none-below n t entries l parts.1)
+none-below n t (done ∷ entries) l e = grind (arith, none-below n t entries l)
 
 pub memory_below-same : (r s : Run) (t : ℕ) → IsNext r s → t ≤ length r.trace → memory_below s t ≡ memory_below r t
 unfolding memory_below

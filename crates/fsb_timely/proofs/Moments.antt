@@ -1,7 +1,6 @@
 -- The moments of a run, and what the whole trace says.
-use Rattle.std.proofs.Common.{ℕ, zero, suc, ◌+◌, ◌<◌, ◌≤◌, ◌≡◌, Bool, true, false, [], ◌∷◌, ◌++◌, Option, Some, None}
-use Rattle.std.proofs.Common.{length, take, drop, slice_get, refl, sym, ap, subst, ◌∙◌, inl, inr, arith}
-use Rattle.std.proofs.lemmas.Bool.{cases_lt}
+use Rattle.std.proofs.Common.{ℕ, zero, suc, ◌+◌, ◌<◌, ◌≤◌, ◌≡◌, Bool, false, Option, Some, None, length, take, drop}
+use Rattle.std.proofs.Common.{slice_get, refl, sym, ap, ◌∙◌, arith}
 use Rattle.std.proofs.lemmas.List.{length-take-le, take-append-drop}
 use Rattle.std.specs.Option.{option_and_then}
 use Rattle.fsb_count.specs.Options.{is_at}
@@ -29,15 +28,7 @@ moment_of r t = next_moment r (moments_below r t) t
 pub moment-at : (r : Run) (n t : ℕ) → t < n → slice_get (moments_below r n) t ≡ Some (moment_of r t)
 unfolding moments_below
 moment-at r zero t l = absurd (omega arith)
-moment-at r (suc n) t l =
-    elim (cases_lt t n) [
-      | inl m ↦ slice_get-before (moments_below r n) _ t (let e = length-moments r n in omega arith) ∙ moment-at r n t m
-      | inr m ↦
-          let same : n ≡ t = omega arith in
-          subst (λ k. slice_get (moments_below r n ++ moment_of r n ∷ []) k ≡ Some (moment_of r k)) same
-          (subst (λ k. slice_get (moments_below r n ++ moment_of r n ∷ []) k ≡ Some (moment_of r n))
-          (length-moments r n) (slice_get-end (moments_below r n) (moment_of r n)))
-    ]
+moment-at r (suc n) t l = grind (arith, slice_get-before, length-moments, slice_get-end, moment-at r n t)
 
 -- a trace that is cut agrees up to the cut
 pub cut-agrees : (w : Trace) (n : ℕ) → n ≤ length w → AgreeTo n w (take n w)
@@ -57,16 +48,12 @@ number-found w i t e =
     (is_at-from (snoop_end_of w i) t e) (λ k l. not_before k l (is_at (snoop_end_of w k) t) refl)
   where
     not_before : (k : ℕ) → k < i → (b : Bool) → is_at (snoop_end_of w k) t ≡ b → is_at (snoop_end_of w k) t ≡ false
-    not_before k l false f = f
-    not_before k l true f = absurd (let same : k ≡ i = one_end w t k i (is_at-some (snoop_end_of w k) t f) e in
-        omega arith)
+    not_before k h1 b h2 = grind (arith, one_end, is_at-some)
 
 -- and what is found as such is it
 pub number-says : (w : Trace) (i t : ℕ) → number_snooped_at w t ≡ Some i → snoop_end_of w i ≡ Some t
 unfolding number_snooped_at
-number-says w i t e =
-    let h = first_where-found (λ j. is_at (snoop_end_of w j) t) (live_count w) i e in
-    is_at-some (snoop_end_of w i) t h.1
+number-says w i t e = grind (arith, first_where-found, is_at-some)
 
 -- the snoop end that the moment of t has
 pub snooped-there : (r : Run) (t : ℕ) → t < length r.trace → snooped_at (past_of r) t ≡ (moment_of r t).snooped
@@ -115,5 +102,4 @@ no_number r t l (Some i) e none =
 pub moment-quiet : (r : Run) (t : ℕ) → t < length r.trace → number_snooped_at r.trace t ≡ None
     → (moment_of r t).snooped ≡ None
 unfolding snoop_at moment_at
-moment-quiet r t l none =
-    let e = no_number r t l (number_snooped_at (run_to r t).trace t) refl none in rw (e, snoop_at) refl
+moment-quiet r t l none = grind (arith, no_number)

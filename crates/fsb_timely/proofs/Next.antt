@@ -1,7 +1,6 @@
 -- A clock that a run has passed stays as it is.
 use Rattle.std.proofs.Common.{ℕ, suc, ◌+◌, ◌<◌, ◌≤◌, ◌≡◌, true, nat_le, nat_lt, nat_eq, ◌&&◌, List, [], ◌∷◌, ◌++◌}
-use Rattle.std.proofs.Common.{length, IsTrue, slice_get, sym, ap, refl, ◌∙◌, arith, add-one}
-use Rattle.std.proofs.Common.{below_more}
+use Rattle.std.proofs.Common.{length, IsTrue, slice_get, sym, refl, ◌∙◌, arith, below_more}
 use Rattle.std.specs.List.{list_all}
 use Rattle.std.proofs.lemmas.Bool.{and_parts, eqb-true, le-leb, lt-ltb, ltb-true}
 use Rattle.std.proofs.lemmas.List.{length-append}
@@ -13,15 +12,10 @@ use Rattle.fsb_trace.specs.At.{Trace}
 use Rattle.fsb_trace.specs.Agree.{AgreeTo}
 use Rattle.fsb_timely.specs.Runs.{Run, requests_below, run_to, moments_below, past_of, past_to}
 use Rattle.fsb_timely.specs.Growth.{IsNext, IsWhole, GoesOn}
-use Rattle.fsb_timely.specs.Starts.{starts_requests, drives_request_lines}
-use Rattle.fsb_timely.specs.Snoops.{drives_hazards, has_snoop_result}
-use Rattle.fsb_timely.specs.Transfers.{drives_responses}
-use Rattle.fsb_timely.specs.Completions.{logs_completions, is_in_time}
-use Rattle.fsb_timely.specs.BusLock.{drives_lock}
-use Rattle.fsb_timely.specs.ParityLines.{drives_parity}
+use Rattle.fsb_timely.specs.Completions.{is_in_time}
 use Rattle.fsb_timely.specs.Timely.{Part, holds_at, AtEachClock, IsTimelyAt, Timely}
-use Rattle.fsb_timely.proofs.Beginnings.{agree-more, entries-later, holds_at-kept, length-moments, moments-kept, next-begins}
-use Rattle.fsb_timely.proofs.Beginnings.{past-kept, requests-kept, run_to-kept}
+use Rattle.fsb_timely.proofs.Beginnings.{agree-more, entries-later, holds_at-kept, length-moments, moments-kept}
+use Rattle.fsb_timely.proofs.Beginnings.{next-begins, past-kept, requests-kept, run_to-kept}
 
 -- a sample more at the end
 pub agree_next : (w : Trace) (s : Sample) → AgreeTo (length w) (w ++ s ∷ []) w
@@ -56,8 +50,7 @@ pub each_clock-more : (part : Part) (r s : Run) → IsNext r s → IsWhole r →
     → IsTrue (holds_at part s (length r.trace)) → AtEachClock part s
 each_clock-more part r s next whole old new = record {
   at = λ c l.
-      let longer : length s.trace ≡ suc (length r.trace) = ap length next.more_trace
-      ∙ length-append r.trace (next.sample ∷ []) ∙ add-one (length r.trace) in
+      let longer : length s.trace ≡ suc (length r.trace) = grind (arith, length-append) in
       below_more (λ k. holds_at part s k ≡ true) (length r.trace) (λ k m. holds_at-same part r s k next whole m
       ∙ old.at k m) new c (let m : c < suc (length r.trace) = rw (sym longer) l in omega arith);
 }
@@ -86,51 +79,19 @@ in_time-more first n (done ∷ log) entries l e f =
 
 pub in_time-next : (r s : Run) → IsNext r s → is_in_time 0 (length r.trace) r.log ≡ true
     → is_in_time 0 (length s.trace) s.log ≡ true
-in_time-next r s next e =
-    let longer : length s.trace ≡ length r.trace + 1 = ap length next.more_trace
-    ∙ length-append r.trace (next.sample ∷ []) in
-    (λ i. is_in_time 0 (longer i) (next.more_log i))
-    ∙ in_time-more 0 (length r.trace) r.log next.entries (omega arith) e next.at_end
+in_time-next r s next e = grind (arith, length-append, in_time-more)
 
 -- a timely run with one more clock at which the parts hold
 pub timely-more : (r s : Run) → Timely r → IsNext r s → IsWhole s → IsTrue (is_known_trace s.trace)
     → IsTimelyAt s (length r.trace) → Timely s
-timely-more r s old next whole known new =
-    let before : IsWhole r = record { one_hold = old.one_hold; one_choice = old.one_choice } in
-    record {
-      known = known;
-      one_hold = whole.one_hold;
-      one_choice = whole.one_choice;
-      in_time = in_time-next r s next old.in_time;
-      request_starts = each_clock-more starts_requests r s next before old.request_starts new.request_starts;
-      request_lines = each_clock-more drives_request_lines r s next before old.request_lines new.request_lines;
-      hazard_lines = each_clock-more drives_hazards r s next before old.hazard_lines new.hazard_lines;
-      snoop_results = each_clock-more has_snoop_result r s next before old.snoop_results new.snoop_results;
-      responses_and_data = each_clock-more drives_responses r s next before old.responses_and_data
-          new.responses_and_data;
-      completions = each_clock-more logs_completions r s next before old.completions new.completions;
-      bus_lock = each_clock-more drives_lock r s next before old.bus_lock new.bus_lock;
-      parity = each_clock-more drives_parity r s next before old.parity new.parity;
-    }
+timely-more r s old next whole known new = grind (arith, in_time-next, each_clock-more)
 
 moments-there : (r s : Run) → IsNext r s → IsWhole r → (t : ℕ) → t < length r.trace
     → slice_get (past_of r).moments t ≡ slice_get (past_of s).moments t
 unfolding past_of moments_below
-moments-there r s next whole t l =
-    let n = length r.trace in
-    let longer : length s.trace ≡ suc n = ap length next.more_trace ∙ length-append r.trace (next.sample ∷ [])
-    ∙ add-one n in
-    sym (ap (λ k. slice_get (moments_below s k) t) longer
-    ∙ slice_get-before (moments_below s n) _ t (let e = length-moments s n in omega arith)
-    ∙ ap (λ xs. slice_get xs t) (moments-same r s n next whole (omega arith)))
+moments-there r s next whole t l = grind (arith, length-append, slice_get-before, length-moments, moments-same)
 
 -- the past of a run with one more clock goes on from the past of the run
 pub past-goes_on : (r s : Run) → IsNext r s → IsWhole r → GoesOn (length r.trace) (past_of r) (past_of s)
 unfolding past_of
-past-goes_on r s next whole = record {
-  same_plan = sym next.same_plan;
-  same_moments = moments-there r s next whole;
-  entries = next.entries;
-  more_log = next.more_log;
-  at_end = entries-later (length r.trace) next.entries next.at_end;
-}
+past-goes_on r s next whole = grind (arith, moments-there, entries-later)

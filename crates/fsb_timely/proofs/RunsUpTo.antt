@@ -1,10 +1,8 @@
 -- A timely run up to one of its clocks is a beginning of the whole run.
-use Rattle.std.proofs.Common.{ℕ, ◌+◌, ◌<◌, ◌≤◌, ◌≡◌, nat_le, length, take, drop, refl, sym, ap, ◌∙◌, arith}
+use Rattle.std.proofs.Common.{ℕ, ◌+◌, ◌<◌, ◌≡◌, nat_le, length, take, drop, refl, sym, ap, ◌∙◌, arith}
 use Rattle.std.specs.List.{list_all}
 use Rattle.std.proofs.lemmas.List.{length-take-le, take-append-drop}
 use Rattle.fsb_count.proofs.Interface.{count_where-mono}
-use Rattle.fsb_signal.specs.declared.lines.TheConstants.Lines.{ADS}
-use Rattle.fsb_signal.specs.Samples.{line_at}
 use Rattle.fsb_trace.specs.At.{Trace}
 use Rattle.fsb_timely.specs.Growth.{IsWhole}
 use Rattle.fsb_timely.specs.Runs.{Run, requests_below, run_to}
@@ -42,18 +40,6 @@ requests-to w c l =
     ∙ sym (requests-kept (take (c + 1) w) (drop (c + 1) w) (c + 1) (omega (arith, size)))
     ∙ ap (λ v. requests_below v (c + 1)) (take-append-drop (c + 1) w)
 
-requests-fit : (r : Run) (c : ℕ) → Timely r → c < length r.trace → requests_below r.trace (c + 1) ≤ length r.choices
-unfolding requests_below
-requests-fit r c h l =
-    let more = count_where-mono (line_at ADS r.trace) (c + 1) (length r.trace) (omega arith) in
-    let e = h.one_choice in omega (arith, more, e)
-
 pub run_to-whole : (r : Run) (c : ℕ) → Timely r → c < length r.trace → IsWhole (run_to r c)
-unfolding run_to
-run_to-whole r c h l =
-    let enough : c + 1 ≤ length r.holds = (let e = h.one_hold in omega (arith, e)) in
-    record {
-      one_hold = length-take-le (c + 1) r.holds enough ∙ sym (size-to r.trace c l);
-      one_choice = length-take-le (requests_below r.trace (c + 1)) r.choices (requests-fit r c h l)
-          ∙ sym (requests-to r.trace c l);
-    }
+unfolding run_to requests_below
+run_to-whole r c h l = grind (arith, length-take-le, count_where-mono, requests-to)

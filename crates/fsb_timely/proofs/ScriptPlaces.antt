@@ -1,16 +1,16 @@
 -- Below each clock an agent's entries are the accesses of its script up to its next item there.
-use Rattle.std.proofs.Common.{ℕ, zero, suc, ◌+◌, ◌-◌, ◌<◌, ◌≤◌, ◌≡◌, Bool, true, false, not, ◌&&◌, ◌||◌, nat_eq, nat_lt}
-use Rattle.std.proofs.Common.{List, [], ◌∷◌, ◌++◌, map, length, take, slice_get, get_or, Option, Some, None, refl, sym}
-use Rattle.std.proofs.Common.{ap, subst, ◌∙◌, inl, inr, arith, add-one, add-zero, zero-add, append-nil, append_assoc}
-use Rattle.std.proofs.lemmas.Bool.{cases_Bool, cases_order, or_parts, le-ltb}
+use Rattle.std.proofs.Common.{ℕ, zero, suc, ◌+◌, ◌-◌, ◌<◌, ◌≤◌, ◌≡◌, Bool, true, false, not, ◌&&◌, nat_eq, nat_lt}
+use Rattle.std.proofs.Common.{List, [], ◌∷◌, ◌++◌, length, take, slice_get, get_or, Option, Some, refl, sym, ap}
+use Rattle.std.proofs.Common.{subst, ◌∙◌, inl, inr, arith, add-one, add-zero, zero-add, append-nil, append_assoc}
+use Rattle.std.proofs.lemmas.Bool.{cases_Bool, or_parts, le-ltb}
 use Rattle.std.proofs.lemmas.List.{map-append}
 use Rattle.std.proofs.lemmas.List.Elements.{filter-append}
 use Rattle.std.proofs.lemmas.Option.{slice_get-get_or}
 use Rattle.std.specs.List.{filter, list_any}
 use Rattle.fsb_access.specs.declared.item.Item.{Item}
-use Rattle.fsb_access.specs.declared.item.Item.TheVariants.{One, Locked, Idle}
+use Rattle.fsb_access.specs.declared.item.Item.TheVariants.{Idle}
 use Rattle.fsb_access.specs.declared.log.Done.{Done}
-use Rattle.fsb_access.specs.ScriptOrder.{accesses_from, accesses_of, steps_of, steps_of_item, step_of}
+use Rattle.fsb_access.specs.ScriptOrder.{accesses_from, accesses_of, steps_of, steps_of_item}
 use Rattle.fsb_count.specs.Options.{is_some_and}
 use Rattle.fsb_count.proofs.Interface.{first_where-found}
 use Rattle.fsb_timely.specs.Past.{Past}
@@ -34,31 +34,17 @@ accesses-more items n item at = rw zero-add at (from 0 items n at)
         ++ steps_of_item (number + n) item
     from number [] n at = cc
     from number (first ∷ items) zero at = let same : first ≡ item = cc in rw same (simp (add-zero, append-nil) refl)
-    from number (first ∷ items) (suc n) at =
-        let more : number + 1 + n ≡ number + suc n = omega arith in
-        let ahead = rw more at (from (number + 1) items n at) in
-        let one : suc n + 1 ≡ suc (n + 1) = omega arith in
-        rw (one, ahead) (sym (append_assoc (steps_of_item number first) _ _))
+    from number (first ∷ items) (suc n) at = grind (arith, append_assoc, from (number + 1) items n at)
 
 -- an idle item has none
 idle-steps : (n : ℕ) (item : Item) → is_idle item ≡ true → steps_of_item n item ≡ []
 unfolding is_idle
-idle-steps n (One access) e = absurd (let no : ⊥ = cc in no)
-idle-steps n (Locked group) e = absurd (let no : ⊥ = cc in no)
-idle-steps n (Idle clocks) e = refl
+idle-steps n item h1 = grind arith
 
 idle-by : (o : Option Item) (item : Item) (logged : Bool) → o ≡ Some item → logged ≡ false
     → (is_some_and o (λ x. not (is_idle x)) && not logged) ≡ false → is_idle item ≡ true
 unfolding is_some_and
-idle-by None item logged s l e = absurd (let no : ⊥ = cc in no)
-idle-by (Some x) item true s l e = absurd (let no : ⊥ = cc in no)
-idle-by (Some x) item false s l e =
-    let same : x ≡ item = cc in
-    subst (λ y. is_idle y ≡ true) same (by (is_idle x) e)
-  where
-    by : (b : Bool) → (not b && true) ≡ false → b ≡ true
-    by true f = refl
-    by false f = absurd (let no : ⊥ = cc in no)
+idle-by o item logged h1 h2 h3 = grind arith
 
 idle-there : (p : Past) (a c j : ℕ) (item : Item) → slice_get (items_of p a) j ≡ Some item
     → is_logged p a c j ≡ false → is_to_do p a c j ≡ false → is_idle item ≡ true
@@ -85,8 +71,7 @@ gap p a c k (suc d) l logged todo =
     ∙ gap p a c k d (omega arith) (λ j m u. logged j m (omega arith)) (λ j m u. todo j m (omega arith))
 
 steps-append : (a : ℕ) (xs ys : List Done) → steps_of a (xs ++ ys) ≡ steps_of a xs ++ steps_of a ys
-steps-append a xs ys = ap (map step_of) (filter-append (λ (done : Done). nat_eq done.agent a) xs ys)
-    ∙ map-append step_of _ _
+steps-append a xs ys = grind (arith, filter-append, map-append)
 
 -- an agent without an entry at a clock has no steps there
 quiet-steps : (a c : ℕ) (log : List Done) → list_any (is_done_at a c) log ≡ false → steps_of a (at c log) ≡ []
@@ -94,10 +79,7 @@ unfolding is_done_at
 quiet-steps a c [] e = refl
 quiet-steps a c (done ∷ log) e =
     let parts = or_parts (nat_eq done.agent a && nat_eq done.clock c) (list_any (is_done_at a c) log) e in
-    elim (cases_Bool (nat_eq done.clock c)) [
-      | inl t ↦ rw (t, by (nat_eq done.agent a) (nat_eq done.clock c) t parts.0) (quiet-steps a c log parts.1)
-      | inr f ↦ rw f (quiet-steps a c log parts.1)
-    ]
+    grind (arith, quiet-steps a c log parts.1)
   where
     by : (x y : Bool) → y ≡ true → (x && y) ≡ false → x ≡ false
     by true true t f = absurd (let no : ⊥ = cc in no)
@@ -122,42 +104,15 @@ place-first r a n e =
     ∙ sym (ap (λ k. accesses_of (take k (items_of p a))) (sym (zero-add n))
     ∙ gap p a 0 0 n (let l = found.0 in omega arith) (λ j m u. none-first a j p.log) (λ j m u. found.2 j (omega arith)))
 
-no-other : (r : Run) (a c m j : ℕ) → Timely r → c < length r.trace → next_number (past_of r) a c ≡ Some m
-    → m < j → is_logged_at (past_of r) a c j ≡ false
-no-other r a c m j h l e k =
-    elim (cases_Bool (is_logged_at (past_of r) a c j)) [
-      | inl t ↦ absurd (let other = (logged-next r a c j h l t).0 in
-          let same : m ≡ j = (let g = sym e ∙ other in cc) in omega arith)
-      | inr f ↦ f
-    ]
-
 not-logged-yet : (r : Run) (a c m j : ℕ) → Timely r → c < length r.trace → next_number (past_of r) a c ≡ Some m
     → m < j → is_logged (past_of r) a (c + 1) j ≡ false
-not-logged-yet r a c m j h l e k =
-    is_logged-more (past_of r) a c j
-    ∙ both (is_logged (past_of r) a c j) (is_logged_at (past_of r) a c j)
-    (not-behind r a c m j h (omega arith) e k) (no-other r a c m j h l e k)
-  where
-    both : (x y : Bool) → x ≡ false → y ≡ false → (x || y) ≡ false
-    both true y s t = absurd (let no : ⊥ = cc in no)
-    both false y s t = t
+not-logged-yet r a c m j h l e k = grind (arith, is_logged-more, not-behind, logged-next)
 
 -- the next item after a completion lies behind
 behind : (p : Past) (a c m n : ℕ) → next_number p a c ≡ Some m → is_logged_at p a c m ≡ true
     → next_number p a (c + 1) ≡ Some n → m < n
 unfolding next_number
-behind p a c m n e t f =
-    let old = first_where-found (is_to_do p a c) (length (items_of p a)) m e in
-    let new = first_where-found (is_to_do p a (c + 1)) (length (items_of p a)) n f in
-    elim (cases_order n m) [
-      | inl same ↦
-          absurd (let no : false ≡ true =
-          sym (subst (λ k. is_to_do p a (c + 1) k ≡ false) (sym same) (done-now p a c m t)) ∙ new.1 in cc)
-      | inr other ↦ elim other [
-        | inl l ↦ absurd (let no : false ≡ true = sym (done-before p a c n (old.2 n l)) ∙ new.1 in cc)
-        | inr l ↦ l
-      ]
-    ]
+behind p a c m n e t f = grind (arith, first_where-found, done-now, done-before)
 
 rest-idle : (r : Run) (a c m n : ℕ) → Timely r → c < length r.trace → next_number (past_of r) a c ≡ Some m
     → is_logged_at (past_of r) a c m ≡ true → next_number (past_of r) a (c + 1) ≡ Some n

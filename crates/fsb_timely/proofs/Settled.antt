@@ -1,7 +1,5 @@
 -- What is settled, and who claims what, rests on the samples so far.
-use Rattle.std.proofs.Common.{ℕ, ◌<◌, ◌≤◌, ◌≡◌, ◌/◌, Some, None, refl, ap, arith}
-use Rattle.std.specs.Option.{option_map, option_and_then}
-use Rattle.fsb_trace.specs.declared.who.Who.TheVariants.{Symmetric, Priority}
+use Rattle.std.proofs.Common.{ℕ, ◌<◌, ◌≤◌, ◌≡◌, Some, refl, arith}
 use Rattle.fsb_trace.specs.At.{Trace}
 use Rattle.fsb_trace.specs.Agree.{AgreeTo}
 use Rattle.fsb_trace.specs.Requests.{line_of}
@@ -22,24 +20,12 @@ settled_by-agree n w v turn i t a l e =
 
 pub agent_at-agree : (n : ℕ) (w v : Trace) (q : ℕ) → AgreeTo n w v → q ≤ n → agent_at w q ≡ agent_at v q
 unfolding agent_at
-agent_at-agree n w v q a l =
-    ap (λ o. elim o [ Some who ↦ elim who [ Symmetric a ↦ Some a | Priority ↦ None ] | None ↦ None ])
-    (winner_at-agree n w v q a l)
+agent_at-agree n w v q a l = grind (arith, winner_at-agree)
 
 pub line_of-agree : (n : ℕ) (w v : Trace) (q : ℕ) → AgreeTo n w v → q < n → line_of w q ≡ line_of v q
 unfolding line_of
-line_of-agree n w v q a l =
-    let winner = winner_at-agree n w v q a (omega arith) in
-    let sample = a.same q l in
-    λ i. elim (winner i) [
-      | Some who ↦
-          elim who [ Symmetric a ↦ option_map (λ s. s.addr.bits / 4) (sample i) | Priority ↦ None ]
-      | None ↦ None
-    ]
+line_of-agree n w v q a l = grind (arith, winner_at-agree)
 
 pub claim_at-agree : (n : ℕ) (w v : Trace) (q : ℕ) → AgreeTo n w v → q < n → claim_at w q ≡ claim_at v q
 unfolding claim_at
-claim_at-agree n w v q a l =
-    let agent = agent_at-agree n w v q a (omega arith) in
-    let line = line_of-agree n w v q a l in
-    λ i. option_and_then (λ x. option_map (λ y. record { first = q; agent = x; line = y }) (line i)) (agent i)
+claim_at-agree n w v q a l = grind (arith, agent_at-agree, line_of-agree)

@@ -1,8 +1,8 @@
 -- What it says that something has held since a gain.
-use Rattle.std.proofs.Common.{ℕ, zero, suc, ◌+◌, ◌<◌, ◌≤◌, ◌≡◌, Bool, true, false, not, ◌&&◌, Option, Some, None, refl}
-use Rattle.std.proofs.Common.{ap, sym, subst, ◌∙◌, inl, inr, arith}
-use Rattle.std.proofs.lemmas.Bool.{cases_Bool, cases_lt, le-leb, lt-leb, not-true, both_ways}
-use Rattle.fsb_count.specs.Clocks.{last_where, any_where, from_clock, holds_since}
+use Rattle.std.proofs.Common.{ℕ, zero, suc, ◌+◌, ◌<◌, ◌≤◌, ◌≡◌, Bool, true, false, ◌&&◌, Option, Some, None, refl, ap}
+use Rattle.std.proofs.Common.{sym, subst, ◌∙◌, inl, inr, arith}
+use Rattle.std.proofs.lemmas.Bool.{cases_Bool, cases_lt, le-leb, not-true, both_ways}
+use Rattle.fsb_count.specs.Clocks.{last_where, from_clock, holds_since}
 use Rattle.fsb_count.proofs.Interface.{any_where-none, any_where-off}
 use Rattle.fsb_timely.specs.Past.{Past}
 use Rattle.fsb_timely.specs.Grants.{is_granted, is_lost, holds_line, IsHeldSince}
@@ -11,13 +11,7 @@ use Rattle.fsb_timely.specs.Grants.{is_granted, is_lost, holds_line, IsHeldSince
 pub last_where-found : (test : ℕ → Bool) (n c : ℕ) → last_where test n ≡ Some c → (c < n) × (test c ≡ true)
 unfolding last_where
 last_where-found test zero c e = absurd (let h : ⊥ = cc in h)
-last_where-found test (suc n) c e =
-    elim (cases_Bool (test n)) [
-      | inl t ↦ let same : n ≡ c = (let e' = rw (t, last_where) at e in cc) in
-          subst (λ k. (k < suc n) × (test k ≡ true)) same (omega arith, t)
-      | inr f ↦ let h = last_where-found test n c (let e' = rw (f, last_where) at e in e') in
-          (let l = h.0 in omega arith, h.1)
-    ]
+last_where-found test (suc n) c e = grind (arith, last_where-found test n c)
 
 -- where a clock passes, the last one that passes is that clock or a later one
 pub last_where-from : (test : ℕ → Bool) (n c : ℕ) → c < n → test c ≡ true
@@ -47,37 +41,18 @@ pub since-says : (gain loss : ℕ → Bool) (n : ℕ) → holds_since gain loss 
     → (c : ℕ) × (c < n) × (gain c ≡ true) × ((t : ℕ) → c < t → t < n → loss t ≡ false)
 since-says gain loss n h = since-by gain loss n (last_where gain n) refl h
 
-none-from : (loss : ℕ → Bool) (d t : ℕ) → (d < t → loss t ≡ false) → from_clock (d + 1) loss t ≡ false
-unfolding from_clock
-none-from loss d t kept =
-    elim (cases_lt d t) [
-      | inl l ↦ rw (le-leb (d + 1) t (omega arith), kept l) refl
-      | inr l ↦ rw (lt-leb (d + 1) t (omega arith)) refl
-    ]
-
-since-last : (gain loss : ℕ → Bool) (n d : ℕ) → last_where gain n ≡ Some d
-    → ((t : ℕ) → d < t → t < n → loss t ≡ false) → holds_since gain loss n ≡ true
-unfolding holds_since
-since-last gain loss n d e kept =
-    let off : any_where (from_clock (d + 1) loss) n ≡ false =
-    any_where-off (from_clock (d + 1) loss) n (λ t m. none-from loss d t (λ l. kept t l m)) in
-    rw (e, holds_since) (ap not off)
-
 -- and where there is a gain with no loss after it, it has held
 pub since-from : (gain loss : ℕ → Bool) (n c : ℕ) → c < n → gain c ≡ true
     → ((t : ℕ) → c < t → t < n → loss t ≡ false) → holds_since gain loss n ≡ true
+unfolding holds_since from_clock
 since-from gain loss n c l g kept =
     let last = last_where-from gain n c l g in
-    let d : ℕ = last.0 in
-    let later : c ≤ d = last.2 in
-    since-last gain loss n d last.1 (λ t m k. kept t (omega arith) k)
+    grind (arith, any_where-off)
 
 -- an agent holds a line
 pub holds_line-says : (p : Past) (a line c : ℕ) → holds_line p a line c ≡ true → IsHeldSince p a line c
 unfolding holds_line
-holds_line-says p a line c e =
-    let h = since-says (is_granted p a line) (is_lost p a line) c e in
-    record { at = h.0; before = h.1; granted = h.2; kept = h.3 }
+holds_line-says p a line c e = grind (arith, since-says)
 
 pub holds_line-from : (p : Past) (a line c : ℕ) → IsHeldSince p a line c → holds_line p a line c ≡ true
 unfolding holds_line

@@ -1,7 +1,6 @@
 -- What hazard objects were asked, step by step and as whole lists.
-use Rattle.std.proofs.Common.{◌≡◌, ◌<◌, ◌≤◌, ◌+◌, ℕ, zero, suc, Bool, true, false, cond, List, [], ◌∷◌, ◌++◌, Option}
-use Rattle.std.proofs.Common.{Some, length, slice_get, refl, sym, ap, ◌∙◌, subst, arith, add-one, ◌⊎◌, inl, inr}
-use Rattle.std.proofs.lemmas.Bool.{cases_Bool, cases_order}
+use Rattle.std.proofs.Common.{◌≡◌, ◌<◌, ◌≤◌, ◌+◌, ℕ, Bool, true, List, [], ◌∷◌, ◌++◌, Option, Some, length, slice_get}
+use Rattle.std.proofs.Common.{refl, sym, ap, ◌∙◌, subst, arith}
 use Rattle.std.proofs.lemmas.List.{length-append}
 use Rattle.std.proofs.lemmas.Option.{slice_get_within}
 use Rattle.fsb_count.proofs.Interface.{count_where-above, count_where-more, nth_where-there, nth_where-found}
@@ -9,7 +8,6 @@ use Rattle.fsb_count.proofs.Interface.{slice_get-end}
 use Rattle.fsb_signal.proofs.Interface.{slice_get-before}
 use Rattle.fsb_signal.specs.declared.lines.TheConstants.Lines.{ADS}
 use Rattle.fsb_signal.specs.Samples.{line_at}
-use Rattle.fsb_hazard.specs.declared.choice.Choice.{Choice}
 use Rattle.fsb_hazard.specs.Told.{Told}
 use Rattle.fsb_trace.proofs.Interface.{line_at-agree}
 use Rattle.fsb_timely.specs.Asked.{Asked, IsChosen, IsHold}
@@ -30,32 +28,19 @@ longer r s next = ap length next.more_trace ∙ length-append r.trace (next.samp
 -- and the
 -- choice
 line_there : (r s : Run) (c : ℕ) → IsNext r s → c < length r.trace → line_at ADS s.trace c ≡ line_at ADS r.trace c
-line_there r s c next l =
-    ap (λ w. line_at ADS w c) next.more_trace
-    ∙ line_at-agree ADS (length r.trace) _ r.trace c (agree_next r.trace next.sample) l
+line_there r s c next l = grind (arith, line_at-agree, agree_next)
 
 count_there : (r s : Run) (c : ℕ) → IsNext r s → c ≤ length r.trace
     → requests_below s.trace c ≡ requests_below r.trace c
 count_there r s c next l = ap (λ w. requests_below w c) next.more_trace ∙ requests-same r.trace next.sample c l
 
 hold_there : (r s : Run) (c : ℕ) → IsNext r s → c < length r.holds → slice_get s.holds c ≡ slice_get r.holds c
-hold_there r s c next l =
-    ap (λ xs. slice_get xs c) next.more_holds ∙ slice_get-before r.holds (next.hold ∷ []) c l
-
--- there is a choice for a request that began
-choice_within : (r : Run) (c : ℕ) → IsWhole r → c < length r.trace → line_at ADS r.trace c ≡ true
-    → requests_below r.trace c < length r.choices
-unfolding requests_below
-choice_within r c whole l t =
-    let above = count_where-above (line_at ADS r.trace) c (length r.trace) l t in let e = whole.one_choice in
-    omega arith
+hold_there r s c next l = grind (arith, slice_get-before)
 
 choice_there : (r s : Run) (c : ℕ) → IsNext r s → IsWhole r → c < length r.trace → line_at ADS r.trace c ≡ true
     → slice_get s.choices (requests_below s.trace c) ≡ slice_get r.choices (requests_below r.trace c)
-choice_there r s c next whole l t =
-    ap (slice_get s.choices) (count_there r s c next (omega arith))
-    ∙ ap (λ xs. slice_get xs (requests_below r.trace c)) next.more_choices
-    ∙ slice_get-before r.choices next.choices (requests_below r.trace c) (choice_within r c whole l t)
+unfolding requests_below
+choice_there r s c next whole l t = grind (arith, count_there, slice_get-before, count_where-above)
 
 asked_on : (objects : List (Option Told)) (r s : Run) (c : ℕ) → IsNext r s → IsWhole r → c < length r.trace
     → IsAskedAt objects r c → IsAskedAt objects s c
@@ -87,45 +72,17 @@ asked-empty standing r e = record { at = λ c l. absurd (omega (arith, e, l)) }
 -- a step less, and a step more
 pub asked-before : (standing : ℕ → List (Option Told)) (r s : Run) → IsNext r s → IsWhole r → AskedInSteps standing s
     → AskedInSteps standing r × IsAskedAt (standing (length r.trace)) s (length r.trace)
-asked-before standing r s next whole a =
-    let e : length s.trace ≡ length r.trace + 1 = longer r s next in (
-      record { at = λ c l. asked_back (standing c) r s c next whole l (a.at c (omega (arith, e, l))) },
-      a.at (length r.trace) (omega (arith, e)),
-    )
+asked-before standing r s next whole a = grind (arith, longer, asked_back)
 
 pub asked-more : (standing : ℕ → List (Option Told)) (r s : Run) → IsNext r s → IsWhole r
     → AskedInSteps standing r × IsAskedAt (standing (length r.trace)) s (length r.trace) → AskedInSteps standing s
-asked-more standing r s next whole h =
-    let e : length s.trace ≡ length r.trace + 1 = longer r s next in
-    record {
-      at = λ c l. elim (cases_order c (length r.trace)) [
-        | inl same ↦ subst (λ k. IsAskedAt (standing k) s k) (sym same) h.1
-        | inr other ↦ elim other [
-          | inl less ↦ asked_on (standing c) r s c next whole less (h.0.at c less)
-          | inr more ↦ absurd (omega (arith, e, l, more))
-        ]
-      ];
-    }
+asked-more standing r s next whole h = grind (arith, longer, asked_on)
 
 -- a step that adds a choice has a request that begins
 begins_there : (r s : Run) (next : IsNext r s) → IsWhole r → IsWhole s → 0 < length next.choices
     → line_at ADS s.trace (length r.trace) ≡ true
 unfolding requests_below
-begins_there r s next old new l = elim (cases_Bool (line_at ADS s.trace (length r.trace))) [
-  | inl t ↦ t
-  | inr f ↦ absurd (
-      let n = length r.trace in
-      let more = count_where-more (line_at ADS s.trace) n ∙ ap (λ b. requests_below s.trace n + cond b 1 0) f in
-      let before : requests_below s.trace n ≡ requests_below r.trace n = count_there r s n next (omega arith) in
-      let choices : length s.choices ≡ length r.choices + length next.choices = ap length next.more_choices
-      ∙ length-append r.choices next.choices in
-      let all : requests_below s.trace (length s.trace) ≡ requests_below s.trace (n + 1) =
-      ap (requests_below s.trace) (longer r s next) in
-      let e = old.one_choice in
-      let e' = new.one_choice in
-      omega (arith, more, before, choices, all, e, e', l)
-      )
-]
+begins_there r s next old new l = grind (arith, count_where-more, count_there, length-append)
 
 -- how many requests began before the step is how many choices there were
 began_before_step : (r s : Run) → IsNext r s → IsWhole r → requests_below s.trace (length r.trace) ≡ length r.choices
@@ -133,16 +90,10 @@ began_before_step r s next whole = count_there r s (length r.trace) next (omega 
 
 choice_of_step : (r s : Run) (next : IsNext r s) → IsWhole r
     → slice_get s.choices (requests_below s.trace (length r.trace)) ≡ slice_get next.choices 0
-choice_of_step r s next whole =
-    ap (slice_get s.choices) (began_before_step r s next whole)
-    ∙ ap (λ xs. slice_get xs (length r.choices)) next.more_choices
-    ∙ first_behind r.choices next.choices
+choice_of_step r s next whole = grind (arith, began_before_step, first_behind)
 
 hold_of_step : (r s : Run) (next : IsNext r s) → IsWhole r → slice_get s.holds (length r.trace) ≡ Some next.hold
-hold_of_step r s next whole =
-    ap (slice_get s.holds) (sym whole.one_hold)
-    ∙ ap (λ xs. slice_get xs (length r.holds)) next.more_holds
-    ∙ slice_get-end r.holds next.hold
+hold_of_step r s next whole = grind (arith, slice_get-end)
 
 pub step_asked : (objects : List (Option Told)) (r s : Run) (next : IsNext r s) → IsWhole r → IsWhole s
     → IsAskedStep objects r s next → IsAskedAt objects s (length r.trace)
@@ -185,9 +136,4 @@ stays-asked objects r whole a = record {
 
 pub asked-stays : (objects : List (Option Told)) (r : Run) → IsWhole r → Asked objects r.choices r.holds
     → AskedInSteps (λ c. objects) r
-asked-stays objects r whole a = record {
-  at = λ c l. record {
-    chosen = λ choice t e. a.chosen (requests_below r.trace c) choice e;
-    held = λ hold e. a.held c hold e;
-  };
-}
+asked-stays objects r whole a = grind arith

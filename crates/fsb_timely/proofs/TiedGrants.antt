@@ -1,36 +1,32 @@
 -- The grant that a moment has is the one that the whole trace gives.
-use Rattle.std.proofs.Common.{ℕ, ◌+◌, ◌<◌, ◌≤◌, ◌≡◌, Bool, true, false, ◌&&◌, ◌||◌, List, Option, Some, None, length}
+use Rattle.std.proofs.Common.{ℕ, ◌+◌, ◌<◌, ◌≤◌, ◌≡◌, Bool, true, false, ◌&&◌, List, Option, Some, None, length}
 use Rattle.std.proofs.Common.{slice_index, refl, sym, ap, subst, ◌∙◌, inl, inr, arith}
-use Rattle.std.proofs.lemmas.Bool.{cases_lt, and_parts}
+use Rattle.std.proofs.lemmas.Bool.{cases_lt}
 use Rattle.std.specs.Option.{option_map, option_and_then}
 use Rattle.fsb_count.specs.Options.{is_some_and, is_at, is_before}
 use Rattle.fsb_count.proofs.Interface.{is_at-some, is_at-from, is_before-parts, is_before-from, first_where-carried}
 use Rattle.fsb_count.proofs.Interface.{first_where-found, first_where-same, count_where-same, nth_where-at}
-use Rattle.fsb_count.specs.Clocks.{nth_where}
-use Rattle.fsb_signal.specs.declared.lines.TheConstants.Lines.{ADS, HIT, HITM}
+use Rattle.fsb_signal.specs.declared.lines.TheConstants.Lines.{ADS}
 use Rattle.fsb_trace.specs.declared.outcome.Outcome.{Outcome}
 use Rattle.fsb_trace.specs.At.{Trace}
 use Rattle.fsb_trace.specs.Agree.{AgreeTo}
-use Rattle.fsb_trace.specs.Requests.{is_live, live_clock_of, live_number_of, live_request_of, is_reply, have_same_id}
+use Rattle.fsb_trace.specs.Requests.{live_clock_of, live_number_of, live_request_of, is_reply, have_same_id}
 use Rattle.fsb_trace.specs.Snoop.{snoop_end_of}
 use Rattle.fsb_trace.specs.Outcome.{response_clock_of, settled_by, is_settled_deferred, is_deferral}
 use Rattle.fsb_trace.specs.Flight.{is_reply_to, is_live_reply_to, reply_clock_of, reply_number_of}
-use Rattle.fsb_trace.proofs.Interface.{AgreeTo-sym, line_at-agree, request_at-agree, is_live-agree, snoop_end_of-clock}
-use Rattle.fsb_trace.proofs.Interface.{snoop_end_of-stays, live_clock_of-stays, response_clock_of-stays}
-use Rattle.fsb_trace.proofs.Interface.{live_request_of-stays, snoop_end_of-rises, settled_outcome_of-ended}
+use Rattle.fsb_trace.proofs.Interface.{AgreeTo-sym, line_at-agree, request_at-agree, is_live-agree}
+use Rattle.fsb_trace.proofs.Interface.{snoop_end_of-clock, snoop_end_of-stays, live_clock_of-stays}
+use Rattle.fsb_trace.proofs.Interface.{response_clock_of-stays, live_request_of-stays, snoop_end_of-rises}
+use Rattle.fsb_trace.proofs.Interface.{settled_outcome_of-ended}
 use Rattle.fsb_timely.specs.Moments.{is_answered_by, served_number, live_claim_of, is_owner_request, is_shared_at}
-use Rattle.fsb_timely.specs.Moments.{grant_to, grant_for, grant_of, makes_grant, is_upgraded, wins_race, gives_line}
-use Rattle.fsb_timely.specs.Moments.{turns_in, claim_at}
+use Rattle.fsb_timely.specs.Moments.{grant_to, grant_for, grant_of, wins_race, gives_line, turns_in, claim_at}
 use Rattle.fsb_timely.specs.Past.{Past}
-use Rattle.fsb_timely.specs.Grants.{holds_line}
 use Rattle.fsb_timely.proofs.GoingOn.{Alike, holds_line-same}
 use Rattle.fsb_timely.proofs.Settled.{settled_by-agree, claim_at-agree}
 
 -- two tests of which each gives the other are the same
 same-both : (x y : Bool) → (x ≡ true → y ≡ true) → (y ≡ true → x ≡ true) → x ≡ y
-same-both true y f g = sym (f refl)
-same-both false true f g = g refl
-same-both false false f g = refl
+same-both x y h1 h2 = grind arith
 
 -- whether a response lies below a clock shows in the samples below it
 response-kept : (n : ℕ) (w v : Trace) (j c : ℕ) → AgreeTo n w v → c ≤ n
@@ -43,9 +39,7 @@ response-kept n w v j c a l e =
 
 response-same : (n : ℕ) (w v : Trace) (j c : ℕ) → AgreeTo n w v → c ≤ n
     → is_before (response_clock_of w j) c ≡ is_before (response_clock_of v j) c
-response-same n w v j c a l =
-    same-both (is_before (response_clock_of w j) c) (is_before (response_clock_of v j) c)
-    (response-kept n w v j c a l) (response-kept n v w j c (AgreeTo-sym n w v a) l)
+response-same n w v j c a l = grind (arith, response-kept)
 
 -- a live request whose snoop end lies below n, in both traces
 pub record Reached (n : ℕ) (w v : Trace) (j s : ℕ) : Type 0 where
@@ -74,21 +68,12 @@ reply-same n w v j s c h l =
 
 number-same : (n : ℕ) (w v : Trace) (c : ℕ) → AgreeTo n w v → c + 2 < n → live_number_of w c ≡ live_number_of v c
 unfolding live_number_of
-number-same n w v c a l = count_where-same (is_live w) (is_live v) c
-    (record { same = λ k m. is_live-agree n w v k a (omega arith) })
+number-same n w v c a l = grind (arith, count_where-same, is_live-agree)
 
 clock-by : (w : Trace) (j i q : ℕ) → live_clock_of w i ≡ Some q → reply_number_of w j ≡ Some i → (o : Option ℕ)
     → reply_clock_of w j ≡ o → reply_clock_of w j ≡ Some q
 unfolding reply_number_of live_number_of live_clock_of reply_clock_of is_live_reply_to
-clock-by w j i q f e None g = absurd (let h : ⊥ = (let e' = sym (ap (option_map (live_number_of w)) g) ∙ e in cc) in h)
-clock-by w j i q f e (Some p) g =
-    let number : live_number_of w p ≡ i = (let e' = sym (ap (option_map (live_number_of w)) g) ∙ e in cc) in
-    let found = first_where-found (is_live_reply_to w j) (length w) p g in
-    let parts = and_parts (is_live w p) (is_reply_to w j p) found.1 in
-    let there : live_clock_of w i ≡ Some p = ap (λ k. nth_where (is_live w) k (length w)) (sym number)
-    ∙ nth_where-at (is_live w) (length w) p found.0 parts.0 in
-    let same : p ≡ q = (let e' = sym there ∙ f in cc) in
-    g ∙ ap Some same
+clock-by w j i q h1 h2 o h3 = grind (arith, first_where-found, nth_where-at)
 
 -- the first clock of a reply that is known by its number
 reply-clock : (w : Trace) (j i q : ℕ) → live_clock_of w i ≡ Some q → reply_number_of w j ≡ Some i
@@ -171,15 +156,11 @@ served-same n w v us ts i t q h f g l turns =
 served-by : (w : Trace) (us : List ℕ) (i j : ℕ) (b : Bool) → is_reply (live_request_of w i) ≡ b
     → served_number w us i ≡ Some j → j ≤ i
 unfolding served_number
-served-by w us i j true e f =
-    let found = first_where-found (is_answered_by w us i) i j (let f' = rw (e, served_number) at f in f') in
-    let less = found.0 in omega arith
-served-by w us i j false e f = let same : i ≡ j = (let f' = rw (e, served_number) at f in cc) in omega arith
+served-by w us i j b h1 h2 = grind (arith, first_where-found)
 
 shared-same : (n : ℕ) (w v : Trace) (t : ℕ) → AgreeTo n w v → t < n → is_shared_at w t ≡ is_shared_at v t
 unfolding is_shared_at
-shared-same n w v t a l =
-    let hit = line_at-agree HIT n w v t a l in let hitm = line_at-agree HITM n w v t a l in λ k. hit k || hitm k
+shared-same n w v t a l = grind (arith, line_at-agree)
 
 live_claim-same : (n : ℕ) (w v : Trace) (j s : ℕ) → Reached n w v j s → live_claim_of w j ≡ live_claim_of v j
 unfolding live_claim_of
@@ -219,13 +200,7 @@ grant_by-same n w v us i t q h (Some j) e =
 gives_line-same : (n : ℕ) (p p' : Past) (w v : Trace) (t q : ℕ) (outcome : Outcome) → Alike t p p'
     → AgreeTo n w v → q + 3 < n → gives_line p w q t outcome ≡ gives_line p' v q t outcome
 unfolding gives_line wins_race
-gives_line-same n p p' w v t q outcome h a l =
-    let request = request_at-agree n w v q a (omega arith) in
-    let claim = claim_at-agree n w v q a (omega arith) in
-    let held : (b line : ℕ) → holds_line p b line t ≡ holds_line p' b line t =
-    λ b line. holds_line-same t p p' b line t h (omega arith) in
-    λ k. is_some_and (request k) (λ r. makes_grant r.kind outcome)
-    || is_some_and (claim k) (λ x. is_upgraded outcome && held x.agent x.line k)
+gives_line-same n p p' w v t q outcome h a l = grind (arith, request_at-agree, claim_at-agree, holds_line-same)
 
 -- a grant rests on the samples up to its snoop end, on the moments before it, and on the turns of the live requests
 -- before

@@ -1,10 +1,10 @@
 -- What the moments of a run say of a snoop end is what the whole trace says.
-use Rattle.std.proofs.Common.{ℕ, zero, suc, ◌+◌, ◌<◌, ◌≤◌, ◌≡◌, [], ◌∷◌, ◌++◌, Option, Some, None, length, slice_index}
-use Rattle.std.proofs.Common.{is_some, refl, sym, ap, subst, ◌∙◌, inl, inr, arith, add-one}
+use Rattle.std.proofs.Common.{ℕ, zero, suc, ◌+◌, ◌<◌, ◌≤◌, ◌≡◌, [], ◌∷◌, ◌++◌, Option, Some, None, length}
+use Rattle.std.proofs.Common.{slice_index, is_some, refl, sym, ap, subst, ◌∙◌, inl, inr, arith}
 use Rattle.std.proofs.lemmas.Bool.{cases_lt}
 use Rattle.std.proofs.lemmas.List.{length-append, get_or_append_left}
 use Rattle.std.proofs.Math.Seq.{get_or-append_seam}
-use Rattle.std.specs.Option.{option_map, option_and_then}
+use Rattle.std.specs.Option.{option_map}
 use Rattle.fsb_count.specs.Clocks.{count_where}
 use Rattle.fsb_count.proofs.Interface.{count_where-passed, count_where-failed, count_where-mono}
 use Rattle.fsb_trace.specs.Requests.{live_clock_of}
@@ -32,9 +32,7 @@ length-turns-more : (r : Run) (n : ℕ) → n < length r.trace → (o : Option �
     → length (turns_in (moments_below r n)) ≡ count_where (is_end_of_snoop r.trace) n
     → length (turns_in (moments_below r n ++ moment_of r n ∷ [])) ≡ count_where (is_end_of_snoop r.trace) (n + 1)
 unfolding is_end_of_snoop
-length-turns-more r n l None e h =
-    ap length (turns-quiet (moments_below r n) (moment_of r n) (moment-quiet r n l e)) ∙ h
-    ∙ sym (count_where-failed (is_end_of_snoop r.trace) n (ap is_some e))
+length-turns-more r n l None e h = grind (arith, turns-quiet, moment-quiet, count_where-failed)
 length-turns-more r n l (Some i) e h =
     let end = number-says r.trace i n e in
     let c = snoop_end_of-clock r.trace i n end in
@@ -47,9 +45,7 @@ length-turns : (r : Run) (n : ℕ) → n ≤ length r.trace
     → length (turns_in (moments_below r n)) ≡ count_where (is_end_of_snoop r.trace) n
 unfolding moments_below turns_in count_where
 length-turns r zero l = refl
-length-turns r (suc n) l =
-    length-turns-more r n (omega arith) (number_snooped_at r.trace n) refl (length-turns r n (omega arith))
-    ∙ ap (count_where (is_end_of_snoop r.trace)) (add-one n)
+length-turns r (suc n) l = grind (arith, length-turns-more, length-turns r n (omega arith))
 
 -- the turn of a live request comes after those of the live requests before it
 turn-new : (r : Run) (i t q : ℕ) → snoop_end_of r.trace i ≡ Some t → live_clock_of r.trace i ≡ Some q
@@ -70,10 +66,7 @@ turn-old r n i t e l m =
     let count = length-turns r n m in
     let passed = count_where-passed (is_end_of_snoop r.trace) t (is_end r.trace i t e) in
     let at = ends-below r.trace i t e in
-    let more = count_where-mono (is_end_of_snoop r.trace) (t + 1) n (omega arith) in
-    let within : i < length (turns_in (moments_below r n)) = omega arith in
-    ap (λ ts. slice_index ts i) (turns_in-append (moments_below r n) (moment_of r n ∷ []))
-    ∙ get_or_append_left (turns_in (moments_below r n)) (turns_in (moment_of r n ∷ [])) 0 i within
+    grind (arith, count_where-mono, turns_in-append, get_or_append_left)
 
 -- the turn of a live request is at its number
 turn-there : (r : Run) (n i t q : ℕ) → snoop_end_of r.trace i ≡ Some t → live_clock_of r.trace i ≡ Some q
@@ -81,14 +74,7 @@ turn-there : (r : Run) (n i t q : ℕ) → snoop_end_of r.trace i ≡ Some t →
     → slice_index (turns_in (moments_below r n)) i ≡ number_of_turn (snoop_of r t i q).turn
 unfolding moments_below
 turn-there r zero i t q e f l m = absurd (omega arith)
-turn-there r (suc n) i t q e f l m =
-    elim (cases_lt t n) [
-      | inl k ↦ turn-old r n i t e k (omega arith) ∙ turn-there r n i t q e f k (omega arith)
-      | inr k ↦
-          let same : t ≡ n = omega arith in
-          subst (λ u. slice_index (turns_in (moments_below r u ++ moment_of r u ∷ [])) i
-          ≡ number_of_turn (snoop_of r t i q).turn) same (turn-new r i t q e f)
-    ]
+turn-there r (suc n) i t q e f l m = grind (arith, turn-old, turn-new, turn-there r n i t q e f)
 
 -- the turn of an earlier live request is the same in the list so far and in the whole list
 turns-alike : (r : Run) (i t : ℕ) → snoop_end_of r.trace i ≡ Some t → (j : ℕ) → j < i
@@ -105,10 +91,7 @@ turns-alike r i t e j l =
 -- the past below a clock is like that of the whole run up to there
 past-alike : (r : Run) (t : ℕ) → t ≤ length r.trace → Alike t (past_with r (moments_below r t) t) (past_of r)
 unfolding past_of
-past-alike r t l = record {
-  same_plan = refl;
-  same_moments = λ u m. moment-at r t u m ∙ sym (moment-at r (length r.trace) u (omega arith));
-}
+past-alike r t l = grind (arith, moment-at)
 
 -- the snoop end of a live request of the whole trace is in the moment of its clock
 pub snoop-tied : (r : Run) (i t : ℕ) → snoop_end_of r.trace i ≡ Some t → (s : SnoopEnd) × IsSnoopOf r i t s
@@ -148,8 +131,7 @@ snoop-tied r i t e =
 
 told-by : (r : Run) (t : ℕ) (s : SnoopEnd) → t < length r.trace → (o : Option ℕ)
     → number_snooped_at r.trace t ≡ o → snooped_at (past_of r) t ≡ Some s → (i : ℕ) × IsSnoopOf r i t s
-told-by r t s l None e h =
-    absurd (let x : ⊥ = (let e' = sym h ∙ snooped-there r t l ∙ moment-quiet r t l e in cc) in x)
+told-by r t s l None e h = grind (arith, snooped-there, moment-quiet)
 told-by r t s l (Some i) e h =
     let tied = snoop-tied r i t (number-says r.trace i t e) in
     let same : tied.0 ≡ s = (let e' = sym tied.1.there ∙ h in cc) in
@@ -157,9 +139,7 @@ told-by r t s l (Some i) e h =
 
 none-past : (r : Run) (t : ℕ) → length r.trace ≤ t → snooped_at (past_of r) t ≡ None
 unfolding snooped_at past_of
-none-past r t l =
-    ap (option_and_then (λ moment. moment.snooped))
-    (slice_get_past (moments_below r (length r.trace)) t (let e = length-moments r (length r.trace) in omega arith))
+none-past r t l = grind (arith, slice_get_past, length-moments)
 
 -- and each snoop end of a moment is that of a live request of the whole trace
 pub tied-snoop : (r : Run) (t : ℕ) (s : SnoopEnd) → snooped_at (past_of r) t ≡ Some s → (i : ℕ) × IsSnoopOf r i t s

@@ -1,6 +1,6 @@
 -- The turns of the snoop ends come in the order of the live requests.
-use Rattle.std.proofs.Common.{ℕ, zero, suc, ◌+◌, ◌<◌, ◌≤◌, ◌≡◌, List, [], ◌∷◌, ◌++◌, Option, Some, None, refl, sym, ap}
-use Rattle.std.proofs.Common.{◌∙◌, inl, inr, arith, append-nil}
+use Rattle.std.proofs.Common.{ℕ, zero, suc, ◌+◌, ◌<◌, ◌≤◌, ◌≡◌, List, [], ◌∷◌, ◌++◌, Some, None, refl, sym, ap, ◌∙◌}
+use Rattle.std.proofs.Common.{inl, inr, arith, append-nil}
 use Rattle.std.proofs.lemmas.Bool.{cases_lt}
 use Rattle.fsb_trace.proofs.Interface.{snoop_end_of-rises}
 use Rattle.fsb_trace.specs.At.{Trace}
@@ -8,32 +8,21 @@ use Rattle.fsb_trace.specs.Snoop.{snoop_end_of}
 use Rattle.fsb_timely.specs.Moments.{number_of_turn, turns_in}
 use Rattle.fsb_timely.specs.Past.{SnoopEnd, Moment}
 
-turns-more : (o : Option SnoopEnd) (rest more ys : List ℕ) → more ≡ rest ++ ys →
-    (elim o [ None ↦ more | Some s ↦ number_of_turn s.turn ∷ more ])
-    ≡ ((elim o [ None ↦ rest | Some s ↦ number_of_turn s.turn ∷ rest ]) ++ ys)
-turns-more None rest more ys e = e
-turns-more (Some s) rest more ys e = ap (λ ts. number_of_turn s.turn ∷ ts) e
-
 pub turns_in-append : (xs ys : List Moment) → turns_in (xs ++ ys) ≡ turns_in xs ++ turns_in ys
 unfolding turns_in
 turns_in-append [] ys = refl
-turns_in-append (x ∷ xs) ys = turns-more x.snooped (turns_in xs) (turns_in (xs ++ ys)) (turns_in ys)
-    (turns_in-append xs ys)
+turns_in-append (x ∷ xs) ys = grind (arith, turns_in-append xs ys)
 
 -- a moment with a snoop end adds its turn
 pub turns-snooped : (xs : List Moment) (x : Moment) (s : SnoopEnd) → x.snooped ≡ Some s
     → turns_in (xs ++ x ∷ []) ≡ turns_in xs ++ number_of_turn s.turn ∷ []
 unfolding turns_in
-turns-snooped xs x s e = turns_in-append xs (x ∷ [])
-    ∙ ap (λ o. turns_in xs ++ (elim o [ None ↦ [] | Some s ↦ number_of_turn s.turn ∷ [] ])) e
+turns-snooped xs x s e = grind (arith, turns_in-append)
 
 -- and one without adds nothing
 pub turns-quiet : (xs : List Moment) (x : Moment) → x.snooped ≡ None → turns_in (xs ++ x ∷ []) ≡ turns_in xs
 unfolding turns_in
-turns-quiet xs x e =
-    turns_in-append xs (x ∷ [])
-    ∙ ap (λ (o : Option SnoopEnd). turns_in xs
-    ++ (elim o [ None ↦ [] | Some s ↦ number_of_turn s.turn ∷ [] ])) e ∙ append-nil (turns_in xs)
+turns-quiet xs x e = grind (arith, turns_in-append, append-nil)
 
 -- how many snoop ends lie below a snoop end: the number of its live request
 pub none_before_first : (w : Trace) (t u : ℕ) → snoop_end_of w 0 ≡ Some t → u < t → (j : ℕ)
@@ -41,10 +30,7 @@ pub none_before_first : (w : Trace) (t u : ℕ) → snoop_end_of w 0 ≡ Some t 
 none_before_first w t u e l zero f = let same : t ≡ u = (let e' = sym e ∙ f in cc) in omega arith
 none_before_first w t u e l (suc j) f =
     let h = snoop_end_of-rises w 0 (suc j) u (omega arith) f in
-    let s : ℕ = h.0 in
-    let gap : s + 3 ≤ u = h.2 in
-    let same : t ≡ s = (let e' = sym e ∙ h.1 in cc) in
-    omega arith
+    grind arith
 
 pub none_between : (w : Trace) (i s t u : ℕ) → snoop_end_of w i ≡ Some s → snoop_end_of w (suc i) ≡ Some t
     → s < u → u < t → (j : ℕ) → snoop_end_of w j ≡ Some u → ⊥

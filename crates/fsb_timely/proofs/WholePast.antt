@@ -1,7 +1,7 @@
 -- The past of a timely run goes on from its past up to each clock, so what is said of a clock is said of the whole
 -- past.
-use Rattle.std.proofs.Common.{ℕ, ◌+◌, ◌<◌, ◌≤◌, ◌≡◌, true, not, ◌&&◌, ◌||◌, nat_le, nat_lt, nat_eq}
-use Rattle.std.proofs.Common.{List, [], ◌∷◌, ◌++◌, length, take, drop, slice_get, refl, sym, ap, ◌∙◌, inl, inr, arith}
+use Rattle.std.proofs.Common.{ℕ, ◌+◌, ◌<◌, ◌≤◌, ◌≡◌, true, not, ◌&&◌, ◌||◌, nat_le, nat_lt, nat_eq, List, [], ◌∷◌}
+use Rattle.std.proofs.Common.{◌++◌, length, take, drop, slice_get, refl, sym, ap, ◌∙◌, inl, inr, arith}
 use Rattle.std.specs.List.{list_all, list_any}
 use Rattle.std.proofs.lemmas.Bool.{cases_lt, and_parts, le-leb, lt-leb, leb-true}
 use Rattle.std.proofs.lemmas.List.{length-take-le, take-append-drop}
@@ -10,14 +10,14 @@ use Rattle.fsb_count.proofs.Interface.{any_where-same}
 use Rattle.fsb_signal.proofs.Interface.{slice_get-before}
 use Rattle.fsb_access.specs.declared.log.Done.{Done}
 use Rattle.fsb_timely.specs.Completions.{is_in_time, brings_at, is_brought, is_there, completes_by, is_arrival}
-use Rattle.fsb_timely.specs.Grants.{is_granted, is_end_at, is_ended, has_arrived}
+use Rattle.fsb_timely.specs.Grants.{is_granted, is_end_at, has_arrived}
 use Rattle.fsb_timely.specs.Growth.{GoesOn}
 use Rattle.fsb_timely.specs.Past.{Past}
 use Rattle.fsb_timely.specs.Runs.{Run, entries_to, moments_below, past_of, past_to}
 use Rattle.fsb_timely.specs.Scripts.{Need, needs_of}
 use Rattle.fsb_timely.specs.Timely.{Timely}
 use Rattle.fsb_timely.proofs.Beginnings.{length-moments}
-use Rattle.fsb_timely.proofs.GoingOn.{going-alike, grant-same, ends-same, ended-same, latest_grant-same}
+use Rattle.fsb_timely.proofs.GoingOn.{grant-same, ends-same, ended-same, latest_grant-same}
 use Rattle.fsb_timely.proofs.GoingScripts.{next_item-alike, is_idling-alike, is_met-alike, is_hit-alike}
 
 -- entries behind a clock
@@ -74,12 +74,7 @@ past-begins r c h l =
 brings-alike : (n : ℕ) (p q : Past) (a c : ℕ) (need : Need) (t : ℕ) → GoesOn n p q → c < n → t < n
     → brings_at p a c need t ≡ brings_at q a c need t
 unfolding brings_at is_granted is_end_at
-brings-alike n p q a c need t h l m =
-    let grant = grant-same n p q t (going-alike n p q h) m in
-    let ends = ends-same n p q c (going-alike n p q h) l in
-    λ i.
-    is_some_and (grant i) (λ g. nat_eq g.agent a && nat_eq g.line need.line)
-    && is_some_and (grant i) (λ g. list_any (nat_eq g.first) (ends i) && (g.owns || not need.alone))
+brings-alike n p q a c need t h l m = grind (arith, grant-same, ends-same)
 
 pub is_brought-alike : (n : ℕ) (p q : Past) (a c : ℕ) (need : Need) → GoesOn n p q → c < n
     → is_brought p a c need ≡ is_brought q a c need
@@ -93,10 +88,7 @@ is_there-alike : (n : ℕ) (p q : Past) (a c : ℕ) (need : Need) → GoesOn n p
 unfolding is_there has_arrived
 is_there-alike n p q a c need h l =
     let met = is_met-alike n p q a (c + 1) need h (omega arith) in
-    let latest = latest_grant-same n p q a need.line (c + 1) (going-alike n p q h) (omega arith) in
-    let ended : (first : ℕ) → is_ended p c first ≡ is_ended q c first =
-    λ first. ended-same n p q c first (going-alike n p q h) (omega arith) in
-    λ i. met i && is_some_and (latest i) (λ grant. ended grant.first i)
+    grind (arith, latest_grant-same, ended-same)
 
 pub is_arrival-alike : (n : ℕ) (p q : Past) (a c : ℕ) → GoesOn n p q → c < n → is_arrival p a c ≡ is_arrival q a c
 unfolding is_arrival completes_by

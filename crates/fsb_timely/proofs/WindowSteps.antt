@@ -1,14 +1,10 @@
 -- A want stays where its agent completes its next item: the rest of the window is the first part of the next one.
-use Rattle.std.proofs.Common.{ℕ, zero, suc, ◌+◌, ◌-◌, ◌<◌, ◌≤◌, ◌≡◌, Bool, true, false, not, ◌&&◌, ◌||◌, nat_eq, nat_le}
-use Rattle.std.proofs.Common.{nat_lt, List, [], ◌∷◌, ◌++◌, map, drop, length, slice_get, Option, Some, None}
-use Rattle.std.proofs.Common.{if◌then◌else◌, refl, sym, ap, subst, ◌∙◌, inl, inr, arith, add-zero}
-use Rattle.std.proofs.Math.Bool.{and-false}
-use Rattle.std.proofs.lemmas.Bool.{cases_Bool, cases_lt, and_parts, or_parts, le-leb, lt-ltb, lt-leb, le-ltb, not-true}
+use Rattle.std.proofs.Common.{ℕ, zero, suc, ◌+◌, ◌-◌, ◌<◌, ◌≤◌, ◌≡◌, Bool, true, false, ◌||◌, List, [], ◌∷◌, ◌++◌}
+use Rattle.std.proofs.Common.{map, drop, length, slice_get, Some, if◌then◌else◌, refl, ap, ◌∙◌, inl, inr, arith}
+use Rattle.std.proofs.lemmas.Bool.{cases_Bool, lt-leb}
 use Rattle.std.proofs.lemmas.List.Folds.{list_any-append}
 use Rattle.std.proofs.lemmas.Option.{slice_get_within}
 use Rattle.std.specs.List.{find, list_any}
-use Rattle.std.specs.Option.{option_map_or, option_and_then}
-use Rattle.fsb_count.specs.Clocks.{first_where}
 use Rattle.fsb_count.specs.Options.{is_some_and}
 use Rattle.fsb_count.proofs.Interface.{first_where-at, first_where-found}
 use Rattle.fsb_access.specs.declared.access.Access.{Access}
@@ -16,9 +12,10 @@ use Rattle.fsb_access.specs.declared.item.Item.{Item}
 use Rattle.fsb_access.specs.declared.item.Item.TheVariants.{One, Locked, Idle}
 use Rattle.fsb_encode.specs.declared.request.Request.{Request}
 use Rattle.fsb_timely.specs.Past.{Past}
-use Rattle.fsb_timely.specs.Scripts.{Need, is_idle, is_locked, items_of, is_logged, is_logged_at, is_to_do, next_number}
-use Rattle.fsb_timely.specs.Scripts.{idle_clocks, idle_start, number_after, is_idling, plain_items, window_from}
-use Rattle.fsb_timely.specs.Scripts.{window_at, window, plain_need, locked_need, needs_after, needs_of, needs_from}
+use Rattle.fsb_timely.specs.Scripts.{Need, is_idle, is_locked, items_of, is_logged, is_logged_at, is_to_do}
+use Rattle.fsb_timely.specs.Scripts.{next_number, idle_clocks, idle_start, number_after, is_idling, plain_items}
+use Rattle.fsb_timely.specs.Scripts.{window_from, window_at, window, plain_need, locked_need, needs_after, needs_of}
+use Rattle.fsb_timely.specs.Scripts.{needs_from}
 use Rattle.fsb_timely.specs.Staying.{OwesNoMore, CompletesNext}
 use Rattle.fsb_timely.specs.Wants.{owed, is_missing, want_of}
 use Rattle.fsb_timely.proofs.Items.{is_logged-more}
@@ -27,11 +24,7 @@ use Rattle.fsb_timely.proofs.StayingWants.{AreAmong, missing-over, want-parts, w
 -- what is found, and whether one passes
 any-found : {X : Type 0} (test : X → Bool) (xs : List X) (x : X) → find test xs ≡ Some x → list_any test xs ≡ true
 any-found test [] x e = absurd (let h : ⊥ = cc in h)
-any-found test (y ∷ ys) x e =
-    elim (cases_Bool (test y)) [
-      | inl t ↦ rw t refl
-      | inr f ↦ rw f (any-found test ys x (let e' = rw f at e in e'))
-    ]
+any-found test (y ∷ ys) x e = grind (arith, any-found test ys x)
 
 found-any : {X : Type 0} (test : X → Bool) (xs : List X) → list_any test xs ≡ true → (x : X) × (find test xs ≡ Some x)
 found-any test [] e = absurd (let h : ⊥ = cc in h)
@@ -41,26 +34,15 @@ found-any test (y ∷ ys) e =
       | inr f ↦ let rest = found-any test ys (let e' = rw f at e in e') in (rest.0, rw f rest.1)
     ]
 
-or_first : (x y : Bool) → x ≡ true → (x || y) ≡ true
-or_first true y e = refl
-or_first false y e = absurd (let h : ⊥ = cc in h)
-
 or_second : (x y : Bool) → y ≡ true → (x || y) ≡ true
-or_second true y e = refl
-or_second false y e = e
+or_second x y h1 = grind arith
 
 or_cases : (x y x' y' : Bool) → (x ≡ true → x' ≡ true) → (y ≡ true → y' ≡ true) → (x || y) ≡ true → (x' || y') ≡ true
-or_cases true y x' y' f g e = or_first x' y' (f refl)
-or_cases false y x' y' f g e = or_second x' y' (g e)
+or_cases x y x' y' h1 h2 h3 = grind arith
 
 -- lines with one more stretch behind each
 among-more : (some all more : List ℕ) → AreAmong some all → AreAmong (some ++ more) (all ++ more)
-among-more some all more h = record {
-  passed = λ test e.
-      list_any-append test all more
-      ∙ or_cases (list_any test some) (list_any test more) (list_any test all) (list_any test more)
-      (h.passed test) (λ t. t) (sym (list_any-append test some more) ∙ e);
-}
+among-more some all more h = grind (arith, list_any-append)
 
 -- no line is among any
 none-is-among : (all : List ℕ) → AreAmong [] all
@@ -106,12 +88,7 @@ unfolding needs_from
 items-over p a c some all [] more h fewer e = absurd (let no : ⊥ = cc in no)
 items-over p a c some all (item ∷ items) more h fewer e =
     let lines : List ℕ = map (λ need. need.line) (needs_of item) in
-    list_any-append (next p a c) (needs_after some item) (needs_from (some ++ lines) (items ++ more))
-    ∙ or_cases (list_any (now p a c) (needs_after all item)) (list_any (now p a c) (needs_from (all ++ lines) items))
-    (list_any (next p a c) (needs_after some item)) (list_any (next p a c) (needs_from (some ++ lines) (items ++ more)))
-    (λ t. item-over p a c some all item h fewer t)
-    (λ t. items-over p a c (some ++ lines) (all ++ lines) items more h (among-more some all lines fewer) t)
-    (sym (list_any-append (now p a c) (needs_after all item) (needs_from (all ++ lines) items)) ∙ e)
+    grind (arith, list_any-append, item-over, items-over p a c (some ++ lines) (all ++ lines) items more h (among-more some all lines fewer))
 
 -- one plain item more
 plain-more : (k : ℕ) (items : List Item)
@@ -128,11 +105,7 @@ plain-first : (test : Need → Bool) (earlier : List ℕ) (m : ℕ) (items : Lis
     → list_any test (needs_from earlier (plain_items m items)) ≡ true
     → (access : Access) × (rest : List Item) × (k : ℕ) × (items ≡ One access ∷ rest) × (m ≡ suc k)
 unfolding plain_items needs_from
-plain-first test earlier zero items e = absurd (let no : ⊥ = cc in no)
-plain-first test earlier (suc m) [] e = absurd (let no : ⊥ = cc in no)
-plain-first test earlier (suc m) (One access ∷ rest) e = (access, rest, m, refl, refl)
-plain-first test earlier (suc m) (Locked group ∷ rest) e = absurd (let no : ⊥ = cc in no)
-plain-first test earlier (suc m) (Idle clocks ∷ rest) e = absurd (let no : ⊥ = cc in no)
+plain-first test earlier m items h1 = grind arith
 
 -- the first of what is left of a list, and what is left behind it
 drop-first : {X : Type 0} (k : ℕ) (xs ys : List X) (x : X) → drop k xs ≡ x ∷ ys
@@ -140,40 +113,20 @@ drop-first : {X : Type 0} (k : ℕ) (xs ys : List X) (x : X) → drop k xs ≡ x
 drop-first zero [] ys x e = absurd (let no : ⊥ = cc in no)
 drop-first zero (z ∷ xs) ys x e = (cc, cc)
 drop-first (suc k) [] ys x e = absurd (let no : ⊥ = cc in no)
-drop-first (suc k) (z ∷ xs) ys x e =
-    let rest = drop-first k xs ys x e in
-    let more : suc k + 1 ≡ suc (k + 1) = omega arith in
-    (rest.0, ap (λ n. drop n (z ∷ xs)) more ∙ rest.1)
+drop-first (suc k) (z ∷ xs) ys x e = grind (arith, drop-first k xs ys x e)
 
 -- an item that is done, or idle, stays so; the next item is done now; and the one behind it is to do
 pub done-before : (p : Past) (a c m : ℕ) → is_to_do p a c m ≡ false → is_to_do p a (c + 1) m ≡ false
 unfolding is_to_do
-done-before p a c m e =
-    rw is_logged-more (by (is_some_and (slice_get (items_of p a) m) (λ item. not (is_idle item)))
-    (is_logged p a c m) (is_logged_at p a c m) e)
-  where
-    by : (x y z : Bool) → (x && not y) ≡ false → (x && not (y || z)) ≡ false
-    by false y z e = refl
-    by true true z e = refl
-    by true false z e = absurd (let no : ⊥ = cc in no)
+done-before p a c m e = grind (arith, is_logged-more)
 
 pub done-now : (p : Past) (a c m : ℕ) → is_logged_at p a c m ≡ true → is_to_do p a (c + 1) m ≡ false
 unfolding is_to_do
-done-now p a c m t = rw (is_logged-more, t)
-    (by (is_some_and (slice_get (items_of p a) m) (λ item. not (is_idle item))) (is_logged p a c m))
-  where
-    by : (x y : Bool) → (x && not (y || true)) ≡ false
-    by false y = refl
-    by true true = refl
-    by true false = refl
+done-now p a c m t = grind (arith, is_logged-more)
 
 not_logged_now : (p : Past) (a c m n : ℕ) → ((other : ℕ) → is_logged_at p a c other ≡ true → other ≡ n) → n < m
     → is_logged_at p a c m ≡ false
-not_logged_now p a c m n only l =
-    elim (cases_Bool (is_logged_at p a c m)) [
-      | inl t ↦ absurd (let same = only m t in omega arith)
-      | inr f ↦ f
-    ]
+not_logged_now p a c m n only l = grind arith
 
 to-do-now : (p : Past) (a c m : ℕ) (access : Access) → slice_get (items_of p a) m ≡ Some (One access)
     → is_logged p a c m ≡ false → is_logged_at p a c m ≡ false → is_to_do p a (c + 1) m ≡ true
@@ -193,13 +146,7 @@ number-behind p a c access h s =
     (λ m l. by m l)
   where
     by : (m : ℕ) → m < h.number + 1 → is_to_do p a (c + 1) m ≡ false
-    by m l =
-        let found = first_where-found (is_to_do p a c) (length (items_of p a)) h.number h.next in
-        elim (cases_lt m h.number) [
-          | inl k ↦ done-before p a c m (found.2 m k)
-          | inr k ↦ let same : h.number ≡ m = omega arith in
-              subst (λ n. is_to_do p a (c + 1) n ≡ false) same (done-now p a c h.number h.logged)
-        ]
+    by m l = grind (arith, first_where-found, done-before, done-now)
 
 -- no clocks are idled below an item
 no_idle : (items : List Item) (from n : ℕ) → n ≤ from → idle_clocks items from n ≡ 0
@@ -211,13 +158,7 @@ no_idle items from (suc n) l = rw (lt-leb from n (omega arith), no_idle items fr
 not_idling : (p : Past) (a c : ℕ) (h : CompletesNext p a c) → next_number p a (c + 1) ≡ Some (h.number + 1)
     → is_idling p a (c + 1) ≡ false
 unfolding is_idling idle_start number_after is_some_and
-not_idling p a c h e =
-    let none : idle_clocks (items_of p a) (h.last.item + 1) (h.number + 1) ≡ 0 =
-    no_idle (items_of p a) (h.last.item + 1) (h.number + 1) (let i = h.last_item in omega arith) in
-    let k = h.last_clock in
-    rw (e, h.is_last)
-    (le-ltb (c + 1) (h.last.clock + 1 + idle_clocks (items_of p a) (h.last.item + 1) (h.number + 1))
-    (omega (arith, k, none)))
+not_idling p a c h e = grind (arith, no_idle)
 
 -- the window of the next item, and that of the item behind it
 window-is : (p : Past) (a c n : ℕ) (item : Item) → next_number p a c ≡ Some n → slice_get (items_of p a) n ≡ Some item
@@ -235,9 +176,7 @@ rest-needs : (p : Past) (a c : ℕ) (h : CompletesNext p a c) (need : Need)
 unfolding needs_from needs_of
 rest-needs p a c h need e =
     let some = any-found (now p a c) (needs_from [] (window p a c)) need e in
-    let there = ap (λ items. list_any (now p a c) (needs_from [] items))
-    (sym (window-is p a c h.number h.item h.next h.stands)) ∙ some in
-    by (is_locked h.item) refl there
+    grind (arith, window-is, by)
   where
     lines : List ℕ
     lines = map (λ n. n.line) (needs_of h.item)
@@ -260,8 +199,7 @@ rest-is : (p : Past) (a c : ℕ) (lines : List ℕ) (g : CompletesNext p a c) (a
     (needs_from lines (plain_items (p.plan.ahead - 1) (drop (g.number + 1) (items_of p a)))) ≡ true
     → list_any (now p a c) (needs_from lines (One access ∷ plain_items k rest)) ≡ true
 unfolding plain_items
-rest-is p a c lines g access rest k d m e =
-    (λ i. list_any (now p a c) (needs_from lines (plain_items (sym m i) (sym d i)))) ∙ e
+rest-is p a c lines g access rest k d m e = grind arith
 
 shift : (p : Past) (a c : ℕ) (lines : List ℕ) (access : Access) (rest : List Item) (k : ℕ) (more : List Item)
     → OwesNoMore p a c
