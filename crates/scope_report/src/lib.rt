@@ -24,6 +24,7 @@ mod lines;
 mod near;
 mod notices;
 mod parts;
+mod reasons;
 mod refusal;
 mod rules;
 mod scale;

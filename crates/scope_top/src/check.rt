@@ -8,10 +8,12 @@ ghost use Rattle.scope_top.specs.Performing.{EndsCheck, EndsJudged, EndsPlanned,
 
 use crate::answer::{Answer, Stream};
 use crate::listed::{Listed, listed_choice};
+use crate::reasons::{reasons_of, sampling_again};
 use crate::settled::{Settled, plan_of, settled_part};
 use crate::stop::Stop;
 use crate::stopped::{PIECE, stop_answer};
 use fsb_io::Source;
+use reason_texts::Sentence;
 use scope_parts::Plan;
 use scope_report::{Ending, check_text, ending_of, refusal_text, verdict_over};
 use scope_tries::{broken_found, hints_of, hints_text, tries_of};
@@ -105,28 +107,43 @@ fn judged_answer<S: Source>(
     ensures dump_fault { result ≡ Err Stop.Dump → Rose (S.faults dump.old) (S.faults dump.new) }
     ensures not_out { result ≢ Err Stop.Out }
 {
-    let tries = tries_of(is_again, &sampling);
+    let again = Again {
+        tries: tries_of(is_again, &sampling),
+        sampling: sampling_again(is_again, &sampling),
+    };
     let mut room = vec![in alloc; 0; PIECE]?;
     match check_dump(alloc, name, dump, &mut room, choice, plan, sampling) {
         Err(stop) => stop_answer(alloc, name, stop),
-        Ok(checked) => Ok(tried_answer(alloc, name, choice, plan, tries, &checked, dump)?),
+        Ok(checked) => Ok(tried_answer(alloc, name, choice, plan, again, &checked, dump)?),
     }
 }
 
-// Tells what was found, and of a rejected dump in which other ways it gets further, where these are tried.
+// How a rejected dump is read again, where it is.
+#[derive(Drop)]
+struct Again {
+    // The edge at which other ways to sample it are tried.
+    tries: Option<Edge>,
+    // How it is sampled once more for the reasons.
+    sampling: Option<Sampling>,
+}
+
+// Tells what was found, and of a rejected dump the reasons, and in which other ways it gets further, where it is read again.
 fn tried_answer<S: Source>(
     alloc: Global,
     name: &str,
     choice: &Choice,
     plan: Plan,
-    tries: Option<Edge>,
+    again: Again,
     checked: &Checked,
     dump: &mut S,
 ) -> Result<Answer, AllocError>
     requires { length name.now ≤ 4096 }
     ensures { IfOk result (λ answer. answer.ending ≡ ending_found checked.now.finding) }
 {
-    let mut answer = found_answer(alloc, name, choice, checked)?;
+    let tries = again.tries;
+    let found = &checked.finding;
+    let reasons = reasons_of(alloc, name, choice, plan.first, again.sampling, found, dump);
+    let mut answer = found_answer(alloc, name, choice, checked, &reasons)?;
     match (tries, broken_found(&checked.finding)) {
         (Some(edge), Some(broken)) => {
             let hints = hints_of(alloc, name, choice, plan, edge, broken, dump)?;
@@ -144,11 +161,12 @@ fn found_answer(
     name: &str,
     choice: &Choice,
     checked: &Checked,
+    reasons: &[Sentence],
 ) -> Result<Answer, AllocError>
     ensures { IfOk result (λ answer. answer.ending ≡ ending_found checked.now.finding) }
 {
     let ending = ending_found(&checked.finding);
-    let (stream, text) = found_text(alloc, name, choice, checked)?;
+    let (stream, text) = found_text(alloc, name, choice, checked, reasons)?;
     Ok(Answer {
         ending,
         stream,
@@ -162,6 +180,7 @@ fn found_text(
     name: &str,
     choice: &Choice,
     checked: &Checked,
+    reasons: &[Sentence],
 ) -> Result<(Stream, Vec<u8>), AllocError> {
     let header = &checked.header;
     match &checked.finding {
@@ -180,6 +199,7 @@ fn found_text(
                 &told.judged,
                 told.early_end,
                 &told.last,
+                reasons,
             )?;
             Ok((Stream::Out, text))
         }

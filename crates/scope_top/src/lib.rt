@@ -4,7 +4,8 @@
 //! it ends is one relation, `Ends` in `specs/Performing.antt`, with a row for each form of an order: a check ends clean
 //! exactly where at least one clock was judged and no rule is broken. `ending_at` is the end of the program.
 //!
-//! Next: scope_watch, which reads and judges, scope_tries, which reads a rejected dump in other ways, scope_copy, which writes what was picked, and scope_report, whose texts these
+//! Next: scope_watch, which reads and judges, scope_tries, which reads a rejected dump in other ways, scope_explain,
+//! which finds its reasons, scope_copy, which writes what was picked, and scope_report, whose texts these
 //! are.
 #![tactic(auto)]
 
@@ -21,6 +22,7 @@ mod listed;
 mod named;
 mod orders;
 mod pick;
+mod reasons;
 mod settled;
 mod stop;
 mod stopped;

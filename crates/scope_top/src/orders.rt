@@ -17,8 +17,9 @@ use std::alloc::{AllocError, Global};
 
 /// Does what the order asks for. The answer goes to `out`; a refusal, and why a file says nothing, to `err`. `named` is the
 /// file of `--lines`, `dump` the dump. Where an order names a time, the dump is begun twice. `is_again` says that the dump
-/// can be begun again at any time and then gives the same: a check that rejects it then reads it once more for each other
-/// way to sample it, and tells those in which it gets further, which `hints_of` answers. That changes no ending.
+/// can be begun again at any time and then gives the same: a check that rejects it then reads it once more for the reasons,
+/// which `explained_of` answers, and for each other way to sample it, and tells those in which it gets further, which
+/// `hints_of` answers. That changes no ending.
 ///
 /// How it ends is one relation, `Ends`, with a row for each form of an order. Where it comes to no end, the source or the
 /// sink that it names has failed in this call, or memory lacked.
