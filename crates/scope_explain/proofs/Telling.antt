@@ -10,8 +10,8 @@ use Rattle.fsb_trace.specs.Rules.{breaks}
 use Rattle.fsb_reasons.specs.declared.reason.Reason.{Reason}
 use Rattle.fsb_reasons.specs.RuleOf.{rule_of}
 use Rattle.fsb_reasons.specs.Holds.{Holds}
-use Rattle.fsb_why.specs.Explains.{IsReason, Tells, is_explained as is_explained_alone}
-use Rattle.fsb_why_queue.specs.Queue.{is_explained as is_explained_queued}
+use Rattle.fsb_why.specs.Explains.{IsReason, Tells, is_line_rule}
+use Rattle.fsb_why_queue.specs.Queue.{is_queue_rule}
 use Rattle.scope_explain.specs.Reasons.{AreReasonsOf, SaysWhy, is_answered, is_told}
 
 -- each reason that holds names a broken rule
@@ -30,15 +30,15 @@ module _ (law : NameBroken) (m : Marks) (v : Trace) (c j : ℕ) where
   answered e None t = rw e t
   answered e (Some reason) t = (rw e (broken reason t), t)
 
-  pub said_alone : (o : Option Reason) → is_explained_alone j ≡ true
-      → Tells m v c j (is_explained_alone j && breaks m v c j) o → SaysWhy m v c j o
+  pub said_alone : (o : Option Reason) → is_line_rule j ≡ true
+      → Tells m v c j (is_line_rule j && breaks m v c j) o → SaysWhy m v c j o
   said_alone o e t = answered (rw e refl) o (rw e at t)
 
-  pub said_queued : (o : Option Reason) → is_explained_queued j ≡ true
-      → Tells m v c j (is_explained_queued j && breaks m v c j) o → SaysWhy m v c j o
+  pub said_queued : (o : Option Reason) → is_queue_rule j ≡ true
+      → Tells m v c j (is_queue_rule j && breaks m v c j) o → SaysWhy m v c j o
   said_queued o e t = answered (let either : (b : Bool) → (b || true) ≡ true = λ b. elim b as (λ v. (v || true) ≡ true) [ true ↦ refl | false ↦ refl ] in rw (e, either) refl) o (rw e at t)
 
-pub said_none : (m : Marks) (v : Trace) (c j : ℕ) → is_explained_alone j ≡ false → is_explained_queued j ≡ false
+pub said_none : (m : Marks) (v : Trace) (c j : ℕ) → is_line_rule j ≡ false → is_queue_rule j ≡ false
     → SaysWhy m v c j None
 said_none m v c j e f = rw (e, f) refl
 

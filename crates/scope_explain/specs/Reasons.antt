@@ -6,8 +6,8 @@ use Rattle.fsb_trace.specs.Rules.{breaks}
 use Rattle.fsb_reasons.specs.declared.reason.Reason.{Reason}
 use Rattle.fsb_reasons.specs.RuleOf.{rule_of}
 use Rattle.fsb_reasons.specs.Holds.{Holds}
-use Rattle.fsb_why.specs.Explains.{IsReason, is_explained as is_explained_alone}
-use Rattle.fsb_why_queue.specs.Queue.{is_explained as is_explained_queued}
+use Rattle.fsb_why.specs.Explains.{IsReason, is_line_rule}
+use Rattle.fsb_why_queue.specs.Queue.{is_queue_rule}
 
 -- the numbers of the phase rules
 abbrev pub phase_numbers : List ℕ
@@ -15,7 +15,7 @@ phase_numbers = 1 ∷ 2 ∷ 3 ∷ 4 ∷ 5 ∷ 6 ∷ 7 ∷ 8 ∷ 9 ∷ 10 ∷ 11 
 
 -- reasons are found for the rule of this number
 abbrev pub is_answered : ℕ → Bool
-is_answered j = is_explained_alone j || is_explained_queued j
+is_answered j = is_line_rule j || is_queue_rule j
 
 -- rule j is answered, and broken at the last clock c of v
 abbrev pub is_told : Marks → Trace → ℕ → ℕ → Bool

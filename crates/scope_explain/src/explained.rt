@@ -30,7 +30,7 @@ pub struct Explained {
 pub fn is_answered(rule: u8) -> bool
     ensures { result ≡ is_answered rule }
 {
-    fsb_why::is_explained(rule) || fsb_why_queue::is_explained(rule)
+    fsb_why::is_line_rule(rule) || fsb_why_queue::is_queue_rule(rule)
 }
 
 /// Why the rule is broken with this sample, which one machine took already, and the other one did not yet.
@@ -41,9 +41,9 @@ fn reason_for(why: &Why, queue: &Queue, sample: &Sample, rule: u8) -> Option<Rea
         SaysWhy m (h ++ sample.now ∷ []) (length h) rule result }
 {
     reasons_name_broken_rules();
-    if fsb_why::is_explained(rule) {
+    if fsb_why::is_line_rule(rule) {
         why.why(rule)
-    } else if fsb_why_queue::is_explained(rule) {
+    } else if fsb_why_queue::is_queue_rule(rule) {
         queue.why(rule, sample)
     } else {
         None
