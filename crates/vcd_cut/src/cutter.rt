@@ -3,7 +3,7 @@ ghost use Rattle.std.specs.List.{list_all};
 ghost use Rattle.vcd_grammar.specs.Tokens.{is_white, tokens_so_far, tokens_of};
 ghost use Rattle.vcd_way.specs.Pieces.{line_number};
 ghost use Rattle.vcd_cut.specs.Cutting.{is_dark, cutting, after_cut, tokens_cut, counted_cut, taken_by, word_of, tokens_in, FitsIn, Sound, Begins};
-ghost use Rattle.vcd_cut.specs.Standing.{Stands};
+ghost use Rattle.vcd_cut.specs.Standing.{Stands, IsIdle, BeginsWithWord};
 
 use crate::cut::{Cut, CutToken, Source};
 use crate::run::{LONGEST, Run};
@@ -65,6 +65,42 @@ impl Cutter {
         } else {
             let token = self.grown(bytes);
             Cut { used: len, token }
+        }
+    }
+
+    /// Whether no run stands open.
+    #[inline(always)]
+    pub fn is_idle(&self) -> bool
+        ensures { result ≡ true → IsIdle self.now }
+    {
+        self.run.len() == 0
+    }
+
+    /// Reads the word with which the bytes begin, and the white space behind it. The token is what
+    /// `next` would cut off them.
+    #[inline(always)]
+    pub fn skip(&mut self, bytes: &[u8], len: usize) -> CutToken
+        requires idle { IsIdle self.old }
+        requires word { BeginsWithWord bytes.now len }
+        requires room { (fed : List ℕ) × Stands self.old fed ×
+            (length fed + length bytes.now < 2 ^ 64) }
+        ensures idle { IsIdle self.new }
+        ensures stands { (fed : List ℕ) → Stands self.old fed →
+            Stands self.new (fed ++ take (len + 1) bytes.now) }
+        ensures tokens { (fed : List ℕ) → Stands self.old fed →
+            tokens_so_far (fed ++ take (len + 1) bytes.now)
+            ≡ tokens_so_far fed ++ record { place = result.place; word = take len bytes.now } ∷ [] }
+        ensures line { (fed : List ℕ) → Stands self.old fed →
+            result.line ≡ line_number (fed ++ take (len + 1) bytes.now) result.place }
+    {
+        let place = self.at;
+        let line = self.line();
+        self.at = place + len as u64 + 1;
+        self.breaks += breaks_in(bytes[len]);
+        CutToken {
+            place,
+            line,
+            source: Source::Given(len),
         }
     }
 
@@ -200,6 +236,7 @@ impl Cutter {
     }
 
     /// The number of the text line that stands open.
+    #[inline(always)]
     fn line(&self) -> u64
         requires { self.now.breaks + 1 < 2 ^ 64 }
         ensures { result ≡ 1 + self.now.breaks }

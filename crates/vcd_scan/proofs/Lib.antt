@@ -10,3 +10,4 @@ mod Steps
 mod NumberLemmas
 mod PlaceLemmas
 mod WireLemmas
+mod AtOnce

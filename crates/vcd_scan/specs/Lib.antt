@@ -8,3 +8,4 @@ pub mod Ending
 pub mod CodeNumbers
 pub mod CodePlaces
 pub mod Placed
+pub mod Direct

@@ -76,7 +76,7 @@ pub(crate) fn read_digits(is_wide: bool, bytes: &[u8], to: &mut Vec<u8>) -> Resu
 }
 
 /// Whether each byte is 0 or 1. It looks at all of them, and so at many at once.
-fn are_known(bytes: &[u8]) -> bool
+pub(crate) fn are_known(bytes: &[u8]) -> bool
     ensures { result ≡ list_all is_known_digit bytes.now }
 {
     let mut all = true;

@@ -1,5 +1,5 @@
 ghost use Rattle.std.specs.Prelude.{◌≡◌, ◌<◌, ◌≤◌, ◌+◌, ◌^◌, ◌++◌, ℕ, List, [], length, take, None, Some, Err, map, option_map, IfOk, OnOk};
-ghost use Rattle.vcd_cut.specs.Standing.{Stands as CutterStands};
+ghost use Rattle.vcd_cut.specs.Standing.{Stands as CutterStands, IsIdle, BeginsWithWord};
 ghost use Rattle.vcd_course.specs.Told.{event_told, open_told};
 ghost use Rattle.vcd_course.specs.Opening.{first_open};
 ghost use Rattle.vcd_scan.specs.Wired.{wires_told};
@@ -13,7 +13,7 @@ use crate::stop::ScanStop;
 use crate::table::Wires;
 use std::alloc::{AllocError, Global};
 use vcd_course::{Course, CourseEvent};
-use vcd_cut::Cutter;
+use vcd_cut::{Cutter, short_word, whole_word};
 
 /// Reads the values of a dump in pieces of any size.
 #[derive(Drop)]
@@ -109,10 +109,99 @@ impl ValueReader {
         Ok(())
     }
 
-    /// The bytes up to the first white space and that byte too, or all bytes where there is none.
-    /// Tells how many.
+    /// The bytes up to the first white space and that byte too, or all bytes where there is none; of a
+    /// vector that stands whole those of its code too. Tells how many.
     #[inline(always)]
     fn step(&mut self, bytes: &[u8]) -> Result<usize, AllocError>
+        requires some { 0 < length bytes.now }
+        requires room { (head fed : List ℕ) × Works self.old head fed × (length (head ++ fed) +
+            length bytes.now + 1 < 2 ^ 64) }
+        ensures some { IfOk result (λ len. 0 < len) }
+        ensures within { IfOk result (λ len. len ≤ length bytes.now) }
+        ensures reads { (head fed : List ℕ) → Works self.old head fed →
+            IfOk result (λ len. Reads self.new head (fed ++ take len bytes.now)) }
+        ensures told { (head fed : List ℕ) → Works self.old head fed →
+            IfOk result (λ len. Appends
+            (told_after (rules_of self.old) (wiring_of self.old) (tokens_after head fed))
+            (told_after (rules_of self.old) (wiring_of self.old) (tokens_after head (fed ++ take len bytes.now)))
+            (events_of self.old) (events_of self.new)) }
+        ensures refusal { refusal_of self.new ≡ refusal_of self.old }
+        ensures keeps { Keeps self.old self.new }
+    {
+        if self.cutter.is_idle() {
+            if bytes[0] == b'b' {
+                if let Some(len) = whole_word(bytes) {
+                    return self.vector(bytes, len);
+                }
+            } else {
+                if let Some(len) = short_word(bytes) {
+                    return self.word(bytes, len);
+                }
+            }
+        }
+        self.cut(bytes)
+    }
+
+    /// The word with which the bytes begin, and its code too where it is a vector that can be taken at
+    /// once.
+    #[inline(always)]
+    fn vector(&mut self, bytes: &[u8], len: usize) -> Result<usize, AllocError>
+        requires idle { IsIdle self.old.cutter }
+        requires word { BeginsWithWord bytes.now len }
+        requires some { 0 < length bytes.now }
+        requires room { (head fed : List ℕ) × Works self.old head fed × (length (head ++ fed) +
+            length bytes.now + 1 < 2 ^ 64) }
+        ensures some { IfOk result (λ len. 0 < len) }
+        ensures within { IfOk result (λ len. len ≤ length bytes.now) }
+        ensures reads { (head fed : List ℕ) → Works self.old head fed →
+            IfOk result (λ len. Reads self.new head (fed ++ take len bytes.now)) }
+        ensures told { (head fed : List ℕ) → Works self.old head fed →
+            IfOk result (λ len. Appends
+            (told_after (rules_of self.old) (wiring_of self.old) (tokens_after head fed))
+            (told_after (rules_of self.old) (wiring_of self.old) (tokens_after head (fed ++ take len bytes.now)))
+            (events_of self.old) (events_of self.new)) }
+        ensures refusal { refusal_of self.new ≡ refusal_of self.old }
+        ensures keeps { Keeps self.old self.new }
+    {
+        let behind = &bytes[len + 1..];
+        if let Some(more) = short_word(behind) {
+            let is_taken = self.machine.vector_at_once(&bytes[..len], &behind[..more]);
+            if is_taken {
+                let _vector = self.cutter.skip(bytes, len);
+                let _code = self.cutter.skip(behind, more);
+                return Ok(len + 1 + (more + 1));
+            }
+        }
+        self.word(bytes, len)
+    }
+
+    /// The word with which the bytes begin.
+    #[inline(always)]
+    fn word(&mut self, bytes: &[u8], len: usize) -> Result<usize, AllocError>
+        requires idle { IsIdle self.old.cutter }
+        requires word { BeginsWithWord bytes.now len }
+        requires some { 0 < length bytes.now }
+        requires room { (head fed : List ℕ) × Works self.old head fed × (length (head ++ fed) +
+            length bytes.now + 1 < 2 ^ 64) }
+        ensures some { IfOk result (λ len. 0 < len) }
+        ensures within { IfOk result (λ len. len ≤ length bytes.now) }
+        ensures reads { (head fed : List ℕ) → Works self.old head fed →
+            IfOk result (λ len. Reads self.new head (fed ++ take len bytes.now)) }
+        ensures told { (head fed : List ℕ) → Works self.old head fed →
+            IfOk result (λ len. Appends
+            (told_after (rules_of self.old) (wiring_of self.old) (tokens_after head fed))
+            (told_after (rules_of self.old) (wiring_of self.old) (tokens_after head (fed ++ take len bytes.now)))
+            (events_of self.old) (events_of self.new)) }
+        ensures refusal { refusal_of self.new ≡ refusal_of self.old }
+        ensures keeps { Keeps self.old self.new }
+    {
+        let token = self.cutter.skip(bytes, len);
+        self.machine.take(token.place, token.line, &bytes[..len])?;
+        Ok(len + 1)
+    }
+
+    /// What the cutter cuts off the bytes.
+    fn cut(&mut self, bytes: &[u8]) -> Result<usize, AllocError>
         requires some { 0 < length bytes.now }
         requires room { (head fed : List ℕ) × Works self.old head fed × (length (head ++ fed) +
             length bytes.now + 1 < 2 ^ 64) }

@@ -11,7 +11,7 @@ use Rattle.vcd_scan.specs.declared.reader.ValueReader.{ValueReader}
 use Rattle.vcd_scan.proofs.Reading.{more_tokens}
 use Rattle.vcd_scan.proofs.Told.{told-erased}
 use Rattle.vcd_scan.proofs.Readers.{took_more, told_more}
-use Rattle.vcd_scan.proofs.reader.ValueReader.step.Goals as goal
+use Rattle.vcd_scan.proofs.reader.ValueReader.cut.Goals as goal
 
 pub returns-in_ok-take-in-Some-clause-reads : goal.returns-in_ok-take-in-Some-clause-reads
 returns-in_ok-take-in-Some-clause-reads c = λ head fed w.
