@@ -1,16 +1,16 @@
 -- A vector of digits 0 and 1 and the code behind it, as two tokens.
 use Rattle.std.proofs.Common.{◌≡◌, ℕ, Bool, true, false, not, ◌&&◌, ◌||◌, if◌then◌else◌, nat_le, List, [], ◌∷◌, ◌++◌, length, is_some, refl, sym, ap}
-use Rattle.std.proofs.Common.{◌∙◌, Option, Some, None, arith, append_assoc}
+use Rattle.std.proofs.Common.{◌∙◌, Some, None, arith, append_assoc}
 use Rattle.std.specs.List.{list_all}
 use Rattle.std.proofs.lemmas.Bool.{and_parts, le-ltb, leb-false}
 use Rattle.vcd_grammar.specs.Tokens.{Token, longest, is_long, tokens_so_far}
-use Rattle.vcd_grammar.specs.Words.{ValueWord, Vector, Wrong, scalar_word}
+use Rattle.vcd_grammar.specs.Words.{Vector, Wrong, scalar_word}
 use Rattle.vcd_way.specs.declared.tap.Tap.{Tap}
 use Rattle.vcd_way.specs.Ways.{ValueRules}
 use Rattle.vcd_way.specs.Wide.{wide_digit}
 use Rattle.vcd_way.specs.Pieces.{Gets}
 use Rattle.vcd_way.specs.Events.{is_known_digit}
-use Rattle.vcd_way.specs.Steps.{Step, DumpState, AtValues, AtCode, step, step_at, moves_to, given, word_step, value_step, vector_by, value_word_by, vector_digits, is_unreadable, is_digit_by, digits_by, is_too_wide_for, state_after, happenings_in}
+use Rattle.vcd_way.specs.Steps.{Step, DumpState, AtValues, AtCode, step, moves_to, word_step, vector_by, value_word_by, vector_digits, is_unreadable, is_digit_by, digits_by, is_too_wide_for, state_after, happenings_in}
 use Rattle.vcd_scan.specs.Digits.{digit_by}
 use Rattle.vcd_scan.specs.Wired.{Wiring, wired, taps_in}
 use Rattle.vcd_scan.proofs.KnownDigits.{known_means, known_mean}

@@ -4,6 +4,7 @@ mod Endings
 mod Quiet
 mod Erasing
 mod Told
+mod Marks
 mod Reading
 mod Readers
 mod Steps

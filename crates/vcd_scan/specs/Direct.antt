@@ -1,5 +1,5 @@
 -- What is taken at once: a vector of digits 0 and 1, and the code behind it.
-use Rattle.std.specs.Prelude.{◌≡◌, ℕ, Bool, true, false, List, [], ◌∷◌, Some}
+use Rattle.std.specs.Prelude.{◌≡◌, ℕ, true, false, List, [], ◌∷◌, Some}
 use Rattle.std.specs.List.{list_all}
 use Rattle.vcd_grammar.specs.Tokens.{Token}
 use Rattle.vcd_way.specs.declared.tap.Tap.{Tap}

@@ -1,4 +1,4 @@
-use Rattle.std.proofs.Common.{◌≡◌, ℕ, ◌++◌, ◌∷◌, [], refl, sym, ap, ◌∙◌, append-nil}
+use Rattle.std.proofs.Common.{◌≡◌, ◌++◌, ◌∷◌, refl, sym, ap, ◌∙◌, append-nil}
 use Rattle.vcd_way.specs.Steps.{DumpState, AtValues}
 use Rattle.vcd_course.specs.Opening.{after_happenings, told_in}
 use Rattle.vcd_scan.specs.Wired.{Wiring}

@@ -1,10 +1,12 @@
 use Rattle.std.proofs.Common.{◌≡◌, [], ◌∷◌, ◌++◌, ◌+◌, ◌-◌, take, drop, length, sym, ap, subst, ◌∙◌, append_assoc, arith, length-append}
 use Rattle.std.proofs.lemmas.List.{length-take, length-drop}
-use Rattle.vcd_grammar.specs.Tokens.{Token, tokens_so_far}
+use Rattle.vcd_grammar.specs.Tokens.{Token}
 use Rattle.vcd_cut.specs.Standing.{Stands}
 use Rattle.vcd_scan.specs.Standing.{tokens_after, Keeps}
 use Rattle.vcd_scan.specs.declared.reader.ValueReader.{ValueReader}
 use Rattle.vcd_scan.proofs.Reading.{more_tokens, two_parts}
+use Rattle.vcd_scan.specs.Lined.{stamps_in, AreLined}
+use Rattle.vcd_scan.proofs.Marks.{lines-read}
 use Rattle.vcd_scan.proofs.Readers.{took_more, told_more}
 use Rattle.vcd_scan.proofs.AtOnce.{pair_tokens}
 use Rattle.vcd_scan.proofs.reader.ValueReader.vector.Goals as goal
@@ -19,8 +21,7 @@ skip-code-requires-clause-room c =
     let few = length-take n bytes in
     let left = length-drop n bytes in
     let rest = length-take (length bytes - n) (drop n bytes) in
-    let both = length-append (head ++ fed) (take n bytes) in
-    (
+    let both = length-append (head ++ fed) (take n bytes) in (
       (head ++ fed) ++ take n bytes,
       c.skip-vector.ensures.stands (head ++ fed) works.reads.cutter,
       omega (arith, few, left, rest, both, c.requires.word.within, c.requires.room.3),
@@ -55,6 +56,8 @@ returns-then-is_taken-clause-reads c = λ head fed w.
           (c.skip-code.ensures.stands ((head ++ fed) ++ xs) first);
       took = took_more old new head fed zs (t ∷ u ∷ []) keeps w.reads.took more (machine.state yes t.place u.place)
           (machine.opened yes t.place u.place);
+      lines = lines-read head fed zs (stamps_in new.machine)
+          (subst (λ s. AreLined (head ++ fed) s) (sym machine.stamps) w.reads.lines);
     }
 
 pub returns-then-is_taken-clause-told : goal.returns-then-is_taken-clause-told

@@ -8,6 +8,8 @@ use Rattle.vcd_scan.specs.Told.{state_told, open_in}
 use Rattle.vcd_scan.specs.Standing.{rules_of, events_of, tokens_after, Keeps}
 use Rattle.vcd_scan.specs.declared.reader.ValueReader.{ValueReader}
 use Rattle.vcd_scan.proofs.Reading.{more_tokens}
+use Rattle.vcd_scan.specs.Lined.{stamps_in}
+use Rattle.vcd_scan.proofs.Marks.{lines-read}
 use Rattle.vcd_scan.proofs.Readers.{took_more, told_more}
 use Rattle.vcd_scan.proofs.reader.ValueReader.word.Goals as goal
 
@@ -28,6 +30,8 @@ returns-clause-reads c = λ head fed w.
           (c.in_ok-take.ensures.opened
           ∙ ap (after_happenings (open_in old.machine))
           (sym (append-nil (step (wired (rules_of old)) (state_told old.machine) t).happenings)));
+      lines = lines-read head fed xs (stamps_in c.take.new.self)
+          (c.in_ok-take.ensures.lines (head ++ fed) (c.skip-token.ensures.line (head ++ fed) w.reads.cutter) w.reads.lines);
     }
 
 pub returns-clause-told : goal.returns-clause-told
