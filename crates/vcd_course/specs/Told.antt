@@ -27,6 +27,10 @@ stamp_told s = record { time = s.time; place = s.place }
 abbrev pub last_told : Option Stamp → Option TimeStamp
 last_told stamp = option_map stamp_told stamp
 
+-- the last stamp of a course, with its line
+abbrev pub stamp_of : Course → Option Stamp
+stamp_of c = c.stamp
+
 -- the begin of a hole, or its end
 abbrev pub switch_told : Bool → DumpSwitch
 switch_told true = Off

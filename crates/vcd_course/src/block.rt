@@ -81,8 +81,7 @@ impl Block {
         ensures inside { self.new.inside ≡ self.old.inside }
         ensures before { rows_told self.new.before ≡ rows_told self.old.inside }
     {
-        let lines = self.changed;
-        self.before.follow(&self.inside, &lines, self.count);
+        self.before.follow(&self.inside, &self.changed, self.count);
         self.count = 0;
     }
 }

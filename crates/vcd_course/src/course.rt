@@ -1,4 +1,4 @@
-ghost use Rattle.std.specs.Prelude.{◌≡◌, ◌++◌, [], ◌∷◌, true, false};
+ghost use Rattle.std.specs.Prelude.{◌≡◌, ◌++◌, [], ◌∷◌, true, false, Some, None, IfSome};
 ghost use Rattle.std.specs.List.{list_all};
 ghost use Rattle.vcd_way.specs.Ways.{ValueRules};
 ghost use Rattle.vcd_way.specs.Pieces.{Happening, Comes, Gets, Switches};
@@ -6,7 +6,7 @@ ghost use Rattle.vcd_way.specs.Lawful.{is_line, is_lawful_tap};
 ghost use Rattle.vcd_way.specs.Steps.{is_too_wide_for, unknown_from_here};
 ghost use Rattle.vcd_way.specs.Events.{Sampled, sampled, at_first_edge, is_edge, digit_after, is_known_digit};
 ghost use Rattle.vcd_grammar.specs.Values.{sample_of};
-ghost use Rattle.vcd_course.specs.Told.{event_list, event_told, stamp_told, last_told, switch_told, rows_told, open_told, rules_of, late_of, FitsCourse};
+ghost use Rattle.vcd_course.specs.Told.{event_list, event_told, stamp_told, last_told, switch_told, rows_told, open_told, rules_of, late_of, stamp_of, FitsCourse};
 ghost use Rattle.vcd_course.specs.Opening.{first_open, next_open, after_happening, after_happenings, ended_in, told_at, sample_by};
 
 use crate::event::{CourseEvent, Stamp, Told};
@@ -40,6 +40,7 @@ impl Course {
         ensures open { open_told result ≡ first_open }
         ensures rules { rules_of result ≡ rules }
         ensures late { late_of result ≡ late.items }
+        ensures stamp { stamp_of result ≡ None }
     {
         Course {
             rules,
@@ -59,6 +60,7 @@ impl Course {
             (Gets (record { taps = taps.now; digits = digits.now })) }
         ensures rules { rules_of self.new ≡ rules_of self.old }
         ensures late { late_of self.new ≡ late_of self.old }
+        ensures stamp { stamp_of self.new ≡ stamp_of self.old }
     {
         self.block.set_taps(taps, digits);
     }
@@ -70,6 +72,7 @@ impl Course {
             ≡ after_happenings (open_told self.old) (unknown_from_here unset.now) }
         ensures rules { rules_of self.new ≡ rules_of self.old }
         ensures late { late_of self.new ≡ late_of self.old }
+        ensures stamp { stamp_of self.new ≡ stamp_of self.old }
     {
         self.block.forget(unset);
     }
@@ -82,6 +85,8 @@ impl Course {
             event_list result ≡ told_at m (open_told self.old) (Comes (stamp_told stamp)) }
         ensures rules { rules_of self.new ≡ rules_of self.old }
         ensures late { late_of self.new ≡ late_of self.old }
+        ensures stamp { stamp_of self.new ≡ Some stamp }
+        ensures last { IfSome result (λ e. e.stamp ≡ stamp_of self.old) }
     {
         let event = self.ended();
         self.close();
@@ -100,6 +105,9 @@ impl Course {
             ≡ told_at m (open_told self.old) (Switches (switch_told is_off) lines.now) }
         ensures rules { rules_of self.new ≡ rules_of self.old }
         ensures late { late_of self.new ≡ late_of self.old }
+        ensures stamp { stamp_of self.new ≡ stamp_of self.old }
+        ensures last { IfSome result.0 (λ e. e.stamp ≡ stamp_of self.old) }
+        ensures switch { result.1.stamp ≡ stamp_of self.old }
     {
         let event = self.ended();
         self.close();
@@ -117,16 +125,18 @@ impl Course {
 
     /// The sample of the block that stands open, if it ended here.
     pub fn ends(&self) -> Option<CourseEvent>
-        ensures { (m : ValueRules) → FitsCourse m self.now →
+        ensures told { (m : ValueRules) → FitsCourse m self.now →
             event_list result ≡ ended_in m (open_told self.now) }
+        ensures last { IfSome result (λ e. e.stamp ≡ stamp_of self.now) }
     {
         self.ended()
     }
 
     /// The same, by the rules of the course.
     fn ended(&self) -> Option<CourseEvent>
-        ensures { event_list result ≡ sample_by self.now.rules.edge self.now.rules.takes_first
-            self.now.late.items (open_told self.now) }
+        ensures told { event_list result ≡ sample_by self.now.rules.edge
+            self.now.rules.takes_first self.now.late.items (open_told self.now) }
+        ensures last { IfSome result (λ e. e.stamp ≡ self.now.stamp) }
     {
         let clock = self.block.inside.clock();
         if self.is_seen && is_edge(self.rules.edge, self.block.before.clock(), clock) {
@@ -139,10 +149,12 @@ impl Course {
     }
 
     /// The sample of a first edge: before the first stamp nothing comes before the values of the block.
+    #[inline(never)]
     fn first_sample(&self) -> Option<CourseEvent>
-        ensures { event_list result ≡ Sampled (sample_of (sampled self.now.late.items
+        ensures told { event_list result ≡ Sampled (sample_of (sampled self.now.late.items
             (at_first_edge (last_told self.now.stamp) (rows_told self.now.block.before) (rows_told self.now.block.inside))
             (rows_told self.now.block.inside))) (last_told self.now.stamp) ∷ [] }
+        ensures last { IfSome result (λ e. e.stamp ≡ self.now.stamp) }
     {
         match self.stamp {
             None => self.sample(&self.block.inside),
@@ -152,9 +164,10 @@ impl Course {
 
     /// The sample of these digits before the block.
     fn sample(&self, before: &Rows) -> Option<CourseEvent>
-        ensures { event_list result ≡ Sampled (sample_of
+        ensures told { event_list result ≡ Sampled (sample_of
             (sampled self.now.late.items (rows_told before.now) (rows_told self.now.block.inside)))
             (last_told self.now.stamp) ∷ [] }
+        ensures last { IfSome result (λ e. e.stamp ≡ self.now.stamp) }
     {
         let sample = before.sample(self.late.as_slice(), &self.block.inside);
         Some(CourseEvent {
@@ -169,6 +182,7 @@ impl Course {
         ensures open { open_told self.new ≡ next_open (open_told self.old) }
         ensures rules { self.new.rules ≡ self.old.rules }
         ensures late { self.new.late ≡ self.old.late }
+        ensures stamp { self.new.stamp ≡ self.old.stamp }
     {
         self.is_seen = self.is_seen || is_known_digit(self.block.inside.clock());
         self.block.close();

@@ -14,7 +14,7 @@ use Rattle.vcd_way.specs.Pieces.{line_number}
 use Rattle.vcd_cut.specs.declared.cut.CutToken.{CutToken}
 use Rattle.vcd_cut.specs.declared.cutter.Cutter.{Cutter}
 use Rattle.vcd_cut.specs.Cutting.{is_dark, is_break, Cutting, cutting, after_cut, tokens_cut, counted_cut, Sound, Begins}
-use Rattle.vcd_cut.specs.Standing.{Stands}
+use Rattle.vcd_cut.specs.Standing.{Stands, IsOnLine}
 use Rattle.vcd_cut.proofs.Cutting.{dark_breaks, breaks-append}
 
 -- ---- the run that stands open is the end of the text
@@ -117,8 +117,8 @@ line_stands k fed xs t s b =
     ∙ count_before fed e.0 (open_run fed) e.1 tail.dark in
     b.line ∙ omega (arith, same, s.breaks)
 
-pub line_stands_if : (k : Cutter) (fed xs : List ℕ) (token : Option CutToken) → Stands k fed
+pub line_stands_if : (k : Cutter) (fed : List ℕ) (token : Option CutToken) → Stands k fed
     → IfSome token (λ t. Begins (cutting k) t)
-    → IfSome token (λ t. t.line ≡ line_number (fed ++ xs) t.place)
-line_stands_if k fed xs None s h = tt
-line_stands_if k fed xs (Some t) s h = line_stands k fed xs t s h
+    → IfSome token (λ t. IsOnLine fed t.place t.line)
+line_stands_if k fed None s h = tt
+line_stands_if k fed (Some t) s h = λ more. line_stands k fed more t s h

@@ -1,9 +1,8 @@
 ghost use Rattle.std.specs.Prelude.{◌≡◌, ◌==◌, if◌then◌else◌, ℕ, ◌<◌, ◌≤◌, ◌+◌, ◌^◌, ◌++◌, List, [], ◌∷◌, take, length, true, Some, IfOk, IfSome};
 ghost use Rattle.std.specs.List.{list_all};
 ghost use Rattle.vcd_grammar.specs.Tokens.{is_white, tokens_so_far, tokens_of};
-ghost use Rattle.vcd_way.specs.Pieces.{line_number};
 ghost use Rattle.vcd_cut.specs.Cutting.{is_dark, cutting, after_cut, tokens_cut, counted_cut, taken_by, word_of, tokens_in, FitsIn, Sound, Begins};
-ghost use Rattle.vcd_cut.specs.Standing.{Stands};
+ghost use Rattle.vcd_cut.specs.Standing.{Stands, IsOnLine, IsIdle, BeginsWithWord};
 
 use crate::cut::{Cut, CutToken, Source};
 use crate::run::{LONGEST, Run};
@@ -52,8 +51,8 @@ impl Cutter {
         ensures tokens { (fed : List ℕ) → Stands self.old fed →
             tokens_so_far (fed ++ take result.used bytes.now)
             ≡ tokens_so_far fed ++ tokens_in self.new result.token bytes.now }
-        ensures line { (fed : List ℕ) → Stands self.old fed → IfSome result.token (λ t.
-            t.line ≡ line_number (fed ++ take result.used bytes.now) t.place) }
+        ensures line { (fed : List ℕ) → Stands self.old fed →
+            IfSome result.token (λ t. IsOnLine fed t.place t.line) }
     {
         let len = span_len(bytes);
         if len < bytes.len() {
@@ -68,13 +67,49 @@ impl Cutter {
         }
     }
 
+    /// Whether no run stands open.
+    #[inline(always)]
+    pub fn is_idle(&self) -> bool
+        ensures { result ≡ true → IsIdle self.now }
+    {
+        self.run.len() == 0
+    }
+
+    /// Reads the word with which the bytes begin, and the white space behind it. The token is what
+    /// `next` would cut off them.
+    #[inline(always)]
+    pub fn skip(&mut self, bytes: &[u8], len: usize) -> CutToken
+        requires idle { IsIdle self.old }
+        requires word { BeginsWithWord bytes.now len }
+        requires room { (fed : List ℕ) × Stands self.old fed ×
+            (length fed + length bytes.now < 2 ^ 64) }
+        ensures idle { IsIdle self.new }
+        ensures stands { (fed : List ℕ) → Stands self.old fed →
+            Stands self.new (fed ++ take (len + 1) bytes.now) }
+        ensures tokens { (fed : List ℕ) → Stands self.old fed →
+            tokens_so_far (fed ++ take (len + 1) bytes.now)
+            ≡ tokens_so_far fed ++ record { place = result.place; word = take len bytes.now } ∷ [] }
+        ensures line { (fed : List ℕ) → Stands self.old fed →
+            IsOnLine fed result.place result.line }
+    {
+        let place = self.at;
+        let line = self.line();
+        self.at = place + len as u64 + 1;
+        self.breaks += breaks_in(bytes[len]);
+        CutToken {
+            place,
+            line,
+            source: Source::Given(len),
+        }
+    }
+
     /// The end of the text: its last token, where one stands open.
     pub fn finish(&mut self) -> Option<CutToken>
         requires { (fed : List ℕ) × Stands self.old fed × (length fed + 1 < 2 ^ 64) }
         ensures tokens { (fed : List ℕ) → Stands self.old fed →
             tokens_of fed ≡ tokens_so_far fed ++ tokens_in self.new result [] }
-        ensures line { (fed : List ℕ) → Stands self.old fed → IfSome result (λ t.
-            t.line ≡ line_number fed t.place) }
+        ensures line { (fed : List ℕ) → Stands self.old fed →
+            IfSome result (λ t. IsOnLine fed t.place t.line) }
     {
         if self.run.len() == 0 {
             return None;
@@ -200,6 +235,7 @@ impl Cutter {
     }
 
     /// The number of the text line that stands open.
+    #[inline(always)]
     fn line(&self) -> u64
         requires { self.now.breaks + 1 < 2 ^ 64 }
         ensures { result ≡ 1 + self.now.breaks }

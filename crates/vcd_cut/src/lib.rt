@@ -7,6 +7,7 @@
 
 pub use cut::{Cut, CutToken, Source};
 pub use cutter::Cutter;
+pub use white::{short_word, whole_word};
 
 mod cut;
 mod cutter;

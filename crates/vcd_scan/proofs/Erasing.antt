@@ -1,29 +1,83 @@
--- No step behind a header asks for the sections that were read past, nor for the words of the open one.
+-- No step behind a header asks for the sections that were read past, nor for the words of the open one,
+-- and what is kept of them is as much as a step needs to keep as much.
 use Rattle.std.proofs.Common.{◌≡◌, ℕ, Bool, true, false, not, ◌&&◌, ◌||◌, if◌then◌else◌, nat_lt, is_some, List, [], ◌∷◌, ◌++◌, codes}
 use Rattle.std.proofs.Common.{Option, Some, None, refl, sym, ap, ap₂, ◌∙◌}
 use Rattle.std.specs.List.{list_any}
 use Rattle.std.proofs.lemmas.List.Folds.{list_any-append}
+use Rattle.std.proofs.Math.Bool.{or-false}
 use Rattle.vcd_grammar.specs.declared.fault.VcdFault.{VcdFault}
 use Rattle.vcd_grammar.specs.declared.fault.VcdCause.{VcdCause}
 use Rattle.vcd_grammar.specs.declared.fault.VcdCause.TheVariants as causes
 use Rattle.vcd_grammar.specs.Tokens.{Token, is_long}
 use Rattle.vcd_grammar.specs.Words.{ValueWord, Stamp, Scalar, Vector, Foreign, Mark, Section, Wrong, same, is_end}
 use Rattle.vcd_way.specs.declared.tap.Tap.{Tap}
-use Rattle.vcd_way.specs.Ways.{ValueRules, Way}
-use Rattle.vcd_way.specs.Pieces.{Happening}
+use Rattle.vcd_way.specs.Ways.{Way}
 use Rattle.vcd_way.specs.Declarations.{DumpSection, with_word}
 use Rattle.vcd_way.specs.Steps.{Spot, AtPreface, AtHeader, InSection, AtValues, AtCode, AtOtherCode, InRemark, DumpState, Step}
 use Rattle.vcd_way.specs.Steps.{breaks, reads_past, moves_to, stamp_step, comes, given, scalar_step, vector_step, other_step}
-use Rattle.vcd_way.specs.Steps.{mark_step, stops, resumes, value_step, remark_step, value_word_by, if_short, word_step}
+use Rattle.vcd_way.specs.Steps.{mark_step, stops, resumes, value_step, remark_step, value_word_by}
 use Rattle.vcd_way.specs.Steps.{step, step_at, is_past_header_at, is_too_wide_for, vector_digits, digits_by, may_be_long}
 use Rattle.vcd_way.specs.Steps.{state_after, happenings_in, is_like_stamp, hides_stamp, open_from}
 use Rattle.vcd_way.specs.Answers.{fault_at_end}
 use Rattle.vcd_way.proofs.Interface.{past-behind}
-use Rattle.vcd_scan.specs.Erased.{stamp_if, section_from, spot_erased, erased}
+use Rattle.vcd_scan.specs.declared.heard.Heard.{Heard}
+use Rattle.vcd_scan.specs.Limits.{is_limit, is_exceeded, tells_limit, first_limit}
+use Rattle.vcd_scan.specs.Erased.{heard_in, words_heard, heard_with, section_from, section_erased, remarks_from, spot_erased, erased}
 
-pub stamp-held : (b : Bool) → list_any is_like_stamp (stamp_if b) ≡ b
-stamp-held true = refl
-stamp-held false = refl
+-- ---- what is kept of sections
+
+heard-by : (a b c : Bool) → heard_in (words_heard (record { stamp = a; limit = b; exceeded = c }))
+    ≡ record { stamp = a; limit = b; exceeded = c }
+heard-by true true true = refl
+heard-by true true false = refl
+heard-by true false true = refl
+heard-by true false false = refl
+heard-by false true true = refl
+heard-by false true false = refl
+heard-by false false true = refl
+heard-by false false false = refl
+
+pub heard-again : (h : Heard) → heard_in (words_heard h) ≡ h
+heard-again h = heard-by h.stamp h.limit h.exceeded
+
+pub heard-more : (words : List (List ℕ)) (word : List ℕ) → heard_in (words ++ word ∷ []) ≡ heard_with (heard_in words) word
+heard-more words word = λ i. record {
+  stamp = one is_like_stamp i;
+  limit = one is_limit i;
+  exceeded = one is_exceeded i;
+}
+  where
+    one : (test : List ℕ → Bool) → list_any test (words ++ word ∷ []) ≡ (list_any test words || test word)
+    one test = list_any-append test words (word ∷ []) ∙ ap (λ b. list_any test words || b) (or-false (test word))
+
+pub limit-again : (limit : Option ℕ) → first_limit (remarks_from limit) ≡ limit
+limit-again None = refl
+limit-again (Some place) = refl
+
+limit-push : (sections : List DumpSection) (section : DumpSection)
+    → first_limit (sections ++ section ∷ [])
+    ≡ first_limit (remarks_from (first_limit sections) ++ section_erased section ∷ [])
+limit-push [] section =
+    ap (λ h. if h.limit && h.exceeded then Some section.place else None) (sym (heard-again (heard_in section.words)))
+limit-push (first ∷ sections) section = by (tells_limit first) (limit-push sections section)
+  where
+    by : (b : Bool) → first_limit (sections ++ section ∷ [])
+        ≡ first_limit (remarks_from (first_limit sections) ++ section_erased section ∷ [])
+        → (if b then Some first.place else first_limit (sections ++ section ∷ []))
+        ≡ first_limit (remarks_from (if b then Some first.place else first_limit sections) ++ section_erased section ∷ [])
+    by true rest = refl
+    by false rest = rest
+
+remarks-twice : (sections : List DumpSection)
+    → remarks_from (first_limit (remarks_from (first_limit sections))) ≡ remarks_from (first_limit sections)
+remarks-twice sections = ap remarks_from (limit-again (first_limit sections))
+
+remarks-push : (sections : List DumpSection) (section : DumpSection)
+    → remarks_from (first_limit (remarks_from (first_limit sections) ++ section_erased section ∷ []))
+    ≡ remarks_from (first_limit (sections ++ section ∷ []))
+remarks-push sections section = ap remarks_from (sym (limit-push sections section))
+
+-- ---- where the next token stands
 
 spot-twice : (spot : Spot) → spot_erased (spot_erased spot) ≡ spot_erased spot
 spot-twice AtPreface = refl
@@ -33,7 +87,7 @@ spot-twice AtValues = refl
 spot-twice (AtCode from digits) = refl
 spot-twice (AtOtherCode from) = refl
 spot-twice (InRemark section) =
-    ap (λ b. InRemark (section_from section.place b)) (stamp-held (list_any is_like_stamp section.words))
+    ap (λ h. InRemark (section_from section.place h)) (heard-again (heard_in section.words))
 
 pub hides-alike : (spot : Spot) → hides_stamp (spot_erased spot) ≡ hides_stamp spot
 hides-alike AtPreface = refl
@@ -42,7 +96,7 @@ hides-alike (InSection section) = refl
 hides-alike AtValues = refl
 hides-alike (AtCode from digits) = refl
 hides-alike (AtOtherCode from) = refl
-hides-alike (InRemark section) = stamp-held (list_any is_like_stamp section.words)
+hides-alike (InRemark section) = ap (λ (h : Heard). h.stamp) (heard-again (heard_in section.words))
 
 pub open-alike : (spot : Spot) → open_from (spot_erased spot) ≡ open_from spot
 open-alike AtPreface = refl
@@ -86,19 +140,23 @@ module _ {W : Type 0} (s : DumpState W) where
     state = λ i. record (erased s) {
       fault = Some (record { place = place; cause = cause });
       spot = spot-twice s.spot i;
+      remarks = remarks-twice s.remarks i;
     };
     happenings = refl;
   }
 
   alike-past : Alike (reads_past (erased s)) (reads_past s)
-  alike-past = record { state = λ i. record (erased s) { spot = spot-twice s.spot i }; happenings = refl }
+  alike-past = record { state = λ i. record (erased s) { spot = spot-twice s.spot i; remarks = remarks-twice s.remarks i }; happenings = refl }
 
   alike-moves : (spot : Spot) → Alike (moves_to (erased s) spot) (moves_to s spot)
-  alike-moves spot = record { state = refl; happenings = refl }
+  alike-moves spot = record {
+    state = λ i. record (erased s) { spot = spot_erased spot; remarks = remarks-twice s.remarks i };
+    happenings = refl;
+  }
 
   alike-comes : (place time : ℕ) → Alike (comes (erased s) place time) (comes s place time)
   alike-comes place time = record {
-    state = λ i. record (erased s) { time = Some time; spot = spot-twice s.spot i };
+    state = λ i. record (erased s) { time = Some time; spot = spot-twice s.spot i; remarks = remarks-twice s.remarks i };
     happenings = refl;
   }
 
@@ -116,7 +174,10 @@ alike-stamp s place time (Some last) =
 
 alike-given : {W : Type 0} (s : DumpState W) (place : ℕ) (taps : List Tap) (digits : Option (List ℕ))
     → Alike (given (erased s) place taps digits) (given s place taps digits)
-alike-given s place taps (Some digits) = record { state = refl; happenings = refl }
+alike-given s place taps (Some digits) = record {
+  state = λ i. record (erased s) { spot = AtValues; remarks = remarks-twice s.remarks i };
+  happenings = refl;
+}
 alike-given s place [] None = alike-moves s AtValues
 alike-given s place (tap ∷ taps) None = alike-breaks s place causes.Token
 
@@ -139,13 +200,13 @@ alike-other s place (Some taps) = alike-moves s AtValues
 
 alike-stops : {W : Type 0} (way : Way W) (s : DumpState W) → Alike (stops way (erased s)) (stops way s)
 alike-stops way s = record {
-  state = λ i. record (erased s) { is_off = true; spot = spot-twice s.spot i };
+  state = λ i. record (erased s) { is_off = true; spot = spot-twice s.spot i; remarks = remarks-twice s.remarks i };
   happenings = refl;
 }
 
 alike-resumes : {W : Type 0} (way : Way W) (s : DumpState W) → Alike (resumes way (erased s)) (resumes way s)
 alike-resumes way s = record {
-  state = λ i. record (erased s) { is_off = false; spot = spot-twice s.spot i };
+  state = λ i. record (erased s) { is_off = false; spot = spot-twice s.spot i; remarks = remarks-twice s.remarks i };
   happenings = refl;
 }
 
@@ -167,23 +228,28 @@ alike-value way s t Section = alike-moves s (InRemark (record { place = t.place;
 alike-value way s t Wrong = alike-breaks s t.place causes.Token
 
 -- a further word of a section
-pub word-alike : (section : DumpSection) (word : List ℕ)
-    → spot_erased (InRemark (with_word (section_from section.place (list_any is_like_stamp section.words)) word))
-    ≡ spot_erased (InRemark (with_word section word))
+word-alike : (section : DumpSection) (word : List ℕ)
+    → spot_erased (InRemark (with_word (section_erased section) word)) ≡ spot_erased (InRemark (with_word section word))
 word-alike section word =
-    let held = list_any is_like_stamp section.words in
-    ap (λ b. InRemark (section_from section.place b))
-    (list_any-append is_like_stamp (stamp_if held) (word ∷ [])
-    ∙ ap (λ b. b || list_any is_like_stamp (word ∷ [])) (stamp-held held)
-    ∙ sym (list_any-append is_like_stamp section.words (word ∷ [])))
+    let heard = heard_in section.words in
+    ap (λ h. InRemark (section_from section.place h))
+    (heard-more (words_heard heard) word
+    ∙ ap (λ h. heard_with h word) (heard-again heard)
+    ∙ sym (heard-more section.words word))
 
 alike-remark : {W : Type 0} (s : DumpState W) (section : DumpSection) (t : Token)
-    → Alike (remark_step (erased s) (section_from section.place (list_any is_like_stamp section.words)) t)
-    (remark_step s section t)
+    → Alike (remark_step (erased s) (section_erased section) t) (remark_step s section t)
 alike-remark s section t =
-    alike-if (is_end t.word) _ _ _ _ (record { state = refl; happenings = refl })
+    alike-if (is_end t.word) _ _ _ _
     (record {
-      state = λ i. record (erased s) { spot = word-alike section t.word i };
+      state = λ i. record (erased s) { spot = AtValues; remarks = remarks-push s.remarks section i };
+      happenings = refl;
+    })
+    (record {
+      state = λ i. record (erased s) {
+        spot = word-alike section t.word i;
+        remarks = remarks-twice s.remarks i;
+      };
       happenings = refl;
     })
 
@@ -214,7 +280,7 @@ alike-step way s t p = alike-if (is_some s.fault) _ _ _ _ (alike-past s) (alike-
 
 pub state-alike : {W : Type 0} (way : Way W) (s : DumpState W) (ts : List Token) → is_past_header_at s.spot ≡ true
     → erased (state_after way (erased s) ts) ≡ erased (state_after way s ts)
-state-alike way s [] p = λ i. record (erased s) { spot = spot-twice s.spot i }
+state-alike way s [] p = λ i. record (erased s) { spot = spot-twice s.spot i; remarks = remarks-twice s.remarks i }
 state-alike way s (t ∷ ts) p =
     let x = (step way (erased s) t).state in
     let y = (step way s t).state in

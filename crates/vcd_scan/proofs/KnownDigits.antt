@@ -9,7 +9,7 @@ use Rattle.vcd_way.specs.Steps.{one_more}
 use Rattle.vcd_way.specs.Events.{is_known_digit}
 use Rattle.vcd_scan.specs.Digits.{digit_by, all_digits}
 
-known_means : (is_wide : Bool) (b : ℕ) → is_known_digit b ≡ true → digit_by is_wide b ≡ Some b
+pub known_means : (is_wide : Bool) (b : ℕ) → is_known_digit b ≡ true → digit_by is_wide b ≡ Some b
 unfolding wide_digit
 known_means true b h = ap (λ u. if u || (is_unknown b || is_open b) then Some b
     else (if is_among (codes "uUwW-") b then Some 120

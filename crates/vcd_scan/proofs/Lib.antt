@@ -4,9 +4,11 @@ mod Endings
 mod Quiet
 mod Erasing
 mod Told
+mod Marks
 mod Reading
 mod Readers
 mod Steps
 mod NumberLemmas
 mod PlaceLemmas
 mod WireLemmas
+mod AtOnce

@@ -88,10 +88,16 @@ told-faulty m w ts us h =
 
 -- ---- bytes of a piece
 
-take_add : (m n : ℕ) (xs : List ℕ) → take (m + n) xs ≡ take m xs ++ take n (drop m xs)
+pub take_add : (m n : ℕ) (xs : List ℕ) → take (m + n) xs ≡ take m xs ++ take n (drop m xs)
 take_add m n xs =
     sym (take-append-drop m (take (m + n) xs))
     ∙ (λ i. take-take m (m + n) xs (omega arith) i ++ drop-take m n xs i)
+
+-- so many first bytes, and so many of the rest
+pub two_parts : (piece : List ℕ) (used len : ℕ)
+    → take (used + len) piece ≡ take used piece ++ take len (take (length piece - used) (drop used piece))
+two_parts piece used len =
+    take_add used len piece ∙ ap (λ x. take used piece ++ take len x) (sym (take_rest piece used))
 
 pub more_of : (fed piece : List ℕ) (used len : ℕ)
     → (fed ++ take used piece) ++ take len (take (length piece - used) (drop used piece))

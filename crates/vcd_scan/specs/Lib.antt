@@ -1,5 +1,6 @@
 pub mod Wired
 pub mod Digits
+pub mod Limits
 pub mod Erased
 pub mod Told
 pub mod Standing
@@ -8,3 +9,5 @@ pub mod Ending
 pub mod CodeNumbers
 pub mod CodePlaces
 pub mod Placed
+pub mod Direct
+pub mod Lined

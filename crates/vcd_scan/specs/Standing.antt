@@ -14,6 +14,8 @@ use Rattle.vcd_scan.specs.declared.reader.ValueReader.{ValueReader}
 use Rattle.vcd_scan.specs.Wired.{Wiring, wired, wires_told}
 use Rattle.vcd_scan.specs.Begun.{begun}
 use Rattle.vcd_scan.specs.Erased.{erased}
+use Rattle.vcd_scan.specs.Limits.{first_limit}
+use Rattle.vcd_scan.specs.Lined.{stamps_in, AreLined}
 use Rattle.vcd_scan.specs.Told.{rules_in, state_told, open_in, events_told}
 
 -- ---- what the bytes after a header tell
@@ -51,6 +53,10 @@ fault_behind m w ts place =
 abbrev pub all_told_after : ValueRules → Wiring → List Token → List DumpEvent
 all_told_after m w ts = told_after m w ts ++ ended_in m (open_after m w ts)
 
+-- where the first section begins that was read past in tokens and says that a limit is exceeded
+abbrev pub limit_after : ValueRules → Wiring → List Token → Option ℕ
+limit_after m w ts = first_limit (known_after m w ts).remarks
+
 -- ---- the reader
 
 -- what the reader has refused with, if it has
@@ -69,6 +75,15 @@ wiring_of r = wires_told r.machine.wires
 abbrev pub events_of : ValueReader → List DumpEvent
 events_of r = events_told r.machine.told.items
 
+-- where it says that such a section begins
+abbrev pub limit_of : ValueReader → Option ℕ
+limit_of r = r.machine.limit
+
+-- the events that it has told and nobody took, and the last stamp, have the lines on which the stamps lie
+-- in a text that begins so
+abbrev pub HasLines : ValueReader → List ℕ → Type 0
+HasLines r text = AreLined text (stamps_in r.machine)
+
 -- the machine has taken these tokens; of sections it keeps no more than `erased` does
 pub record Took (r : ValueReader) (ts : List Token) : Type 0 where
   pub state : state_told r.machine ≡ erased (known_after (rules_of r) (wiring_of r) ts)
@@ -78,6 +93,7 @@ pub record Took (r : ValueReader) (ts : List Token) : Type 0 where
 pub record Reads (r : ValueReader) (head fed : List ℕ) : Type 0 where
   pub cutter : CutterStands r.cutter (head ++ fed)
   pub took : Took r (tokens_after head fed)
+  pub lines : HasLines r (head ++ fed)
 
 -- the same, where they show no fault
 pub record Works (r : ValueReader) (head fed : List ℕ) : Type 0 where
@@ -114,3 +130,13 @@ pub record Appends (before after old new : List DumpEvent) : Type 0 where
 abbrev pub AppendsBy : Result Unit ScanStop → List DumpEvent → List DumpEvent → List DumpEvent → List DumpEvent → Type 0
 AppendsBy (Err stops.Memory) before after old new = Unit {0}
 AppendsBy _ before after old new = Appends before after old new
+
+-- what the reader keeps besides: the lines of stamps in the text, and the limit that is told in tokens
+pub record Marks (r : ValueReader) (text : List ℕ) (m : ValueRules) (w : Wiring) (ts : List Token) : Type 0 where
+  pub lines : HasLines r text
+  pub limit : limit_of r ≡ limit_after m w ts
+
+-- of want of memory nothing is said
+abbrev pub UnlessMemory : {X : Type 0} → Result X ScanStop → Type 0 → Type 0
+UnlessMemory (Err stops.Memory) so = Unit {0}
+UnlessMemory _ so = so

@@ -9,7 +9,7 @@ use Rattle.vcd_course.specs.Opening.{OpenPiece, after_happenings, told_in}
 use Rattle.vcd_course.specs.declared.event.CourseEvent.{CourseEvent}
 use Rattle.vcd_course.specs.declared.course.Course.{Course}
 use Rattle.vcd_scan.specs.Digits.{digit_by}
-use Rattle.vcd_scan.specs.Erased.{section_from, erased}
+use Rattle.vcd_scan.specs.Erased.{section_from, remarks_from, erased}
 use Rattle.vcd_scan.specs.Wired.{Wiring, wired, wires_told}
 use Rattle.vcd_scan.specs.declared.machine.Place.{Place}
 use Rattle.vcd_scan.specs.declared.machine.Place.TheVariants as places
@@ -39,9 +39,9 @@ abbrev pub spot_told : Place → List ℕ → Spot
 spot_told places.Values digits = AtValues
 spot_told (places.Code from) digits = AtCode from digits
 spot_told (places.OtherCode from) digits = AtOtherCode from
-spot_told (places.Remark from holds_stamp) digits = InRemark (section_from from holds_stamp)
+spot_told (places.Remark from heard) digits = InRemark (section_from from heard)
 
--- what is known, without the sections that were read past and the words of the open one
+-- what is known, with what is kept of sections
 abbrev pub state_told : Machine → DumpState Wiring
 state_told m = record {
   fault = m.fault;
@@ -50,7 +50,7 @@ state_told m = record {
   header = wires_told m.wires;
   time = m.time;
   is_off = m.is_off;
-  remarks = [];
+  remarks = remarks_from m.limit;
 }
 
 -- the block that stands open
@@ -73,7 +73,7 @@ token_at place word = record { place = place; word = word }
 abbrev pub Becomes : Machine → Machine → Step Wiring → Type 0
 Becomes old new y = state_told new ≡ y.state
 
--- the same, without what is kept of no section
+-- the same, with what is kept of sections
 abbrev pub Leaves : Machine → Machine → Step Wiring → Type 0
 Leaves old new y = state_told new ≡ erased y.state
 

@@ -10,6 +10,7 @@ ghost use Rattle.vcd_scan.specs.Digits.{digit_by, all_digits};
 use std::alloc::AllocError;
 
 /// Whether a byte is a digit of a strict dump.
+#[inline(always)]
 fn is_value_digit(byte: u8) -> bool
     ensures { result ≡ is_value_digit byte }
 {
@@ -26,6 +27,7 @@ fn is_among(bytes: &[u8], byte: u8) -> bool
 
 /// The digit that a byte means, those of VHDL among them.
 #[tactic(auto, unfolding(vcd_way::specs::Wide::wide_digit))]
+#[inline(always)]
 fn wide_digit(byte: u8) -> Option<u8>
     ensures { result ≡ wide_digit byte }
 {
@@ -43,6 +45,7 @@ fn wide_digit(byte: u8) -> Option<u8>
 }
 
 /// The digit that a byte means.
+#[inline(always)]
 pub(crate) fn digit_of(is_wide: bool, byte: u8) -> Option<u8>
     ensures { result ≡ digit_by is_wide byte }
 {
@@ -76,7 +79,7 @@ pub(crate) fn read_digits(is_wide: bool, bytes: &[u8], to: &mut Vec<u8>) -> Resu
 }
 
 /// Whether each byte is 0 or 1. It looks at all of them, and so at many at once.
-fn are_known(bytes: &[u8]) -> bool
+pub(crate) fn are_known(bytes: &[u8]) -> bool
     ensures { result ≡ list_all is_known_digit bytes.now }
 {
     let mut all = true;

@@ -7,6 +7,7 @@
 #![tactic(auto)]
 
 pub use early::EarlyEnd;
+pub use heard::has_part;
 pub use machine::ScanRules;
 pub use reader::ValueReader;
 pub use stop::ScanStop;
@@ -14,6 +15,7 @@ pub use table::Wires;
 
 mod digits;
 mod early;
+mod heard;
 mod machine;
 mod numbers;
 mod places;

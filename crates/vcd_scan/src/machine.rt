@@ -1,4 +1,4 @@
-ghost use Rattle.std.specs.Prelude.{◌≡◌, ℕ, ◌++◌, [], ◌∷◌, None, Some, IfOk, OnOk, ◌&&◌, ◌||◌, true, false, not, if◌then◌else◌};
+ghost use Rattle.std.specs.Prelude.{◌≡◌, ℕ, ◌++◌, [], ◌∷◌, None, Some, IfOk, IfSome, OnOk, ◌&&◌, ◌||◌, true, false, not, if◌then◌else◌};
 ghost use Rattle.vcd_grammar.specs.Digits.{time_in};
 ghost use Rattle.vcd_grammar.specs.Words.{stamp_word, scalar_word, is_read_past, Foreign, Mark, Section as opens_section};
 ghost use Rattle.vcd_way.specs.Steps.{breaks, moves_to, comes, stamp_step, scalar_step, word_step, vector_by, value_word_by, step, stops, resumes, mark_step, vector_step, other_step, if_short, remark_step, is_too_wide_for, AtCode};
@@ -13,10 +13,16 @@ ghost use Rattle.vcd_course.specs.Told.{event_list, event_told, open_told};
 ghost use Rattle.vcd_scan.specs.Wired.{taps_in, wires_told};
 ghost use Rattle.vcd_scan.specs.Told.{values_by, rules_in, state_told, open_in, events_told, way_in, token_at, Becomes, Leaves, Opens, Tells};
 ghost use Rattle.vcd_scan.specs.Begun.{begun};
+ghost use Rattle.vcd_scan.specs.Direct.{GetsKnown, vector_tokens, known_in, happened_in};
+ghost use Rattle.vcd_scan.specs.Erased.{erased};
+ghost use Rattle.vcd_course.specs.Opening.{after_happenings, told_in};
+ghost use Rattle.vcd_course.specs.Told.{stamp_of};
+ghost use Rattle.vcd_scan.specs.Lined.{stamps_in, Lines, LinesAt};
 
-use crate::digits::{are_digits, digit_of, read_digits};
+use crate::digits::{are_digits, are_known, digit_of, read_digits};
+use crate::heard::{Heard, limit_behind};
 use crate::table::Wires;
-use crate::words::{is_like_stamp, is_off_word, is_on_word, is_unreadable, opens_remark, time_in};
+use crate::words::{is_off_word, is_on_word, is_unreadable, opens_remark, time_in};
 use std::alloc::{AllocError, Global};
 use vcd_course::{Course, CourseEvent, Stamp};
 use vcd_grammar::{VcdCause, VcdFault};
@@ -45,8 +51,8 @@ pub(crate) enum Place {
     Code(u64),
     /// After a real number or a string at this place: its code is next.
     OtherCode(u64),
-    /// In a section that began at this place, and whether it holds what looks like a time stamp.
-    Remark(u64, bool),
+    /// In a section that began at this place, and what its words have among them.
+    Remark(u64, Heard),
 }
 
 /// What the tokens so far have said.
@@ -64,6 +70,8 @@ pub(crate) struct Machine {
     pub(crate) meant: Vec<u8>,
     pub(crate) time: Option<u64>,
     pub(crate) is_off: bool,
+    /// Where the first section begins that was read past and says that a limit is exceeded.
+    pub(crate) limit: Option<u64>,
     /// What was told and is not taken yet.
     pub(crate) told: Vec<CourseEvent>,
 }
@@ -77,6 +85,8 @@ impl Machine {
         ensures rules { rules_in result ≡ values_by rules course }
         ensures fault { result.fault ≡ None }
         ensures wires { wires_told result.wires ≡ wires_told wires }
+        ensures stamps { stamps_in result ≡ record { last = stamp_of course; told = [] } }
+        ensures limit { result.limit ≡ None }
     {
         Machine {
             alloc,
@@ -89,6 +99,7 @@ impl Machine {
             meant: Vec::new(alloc),
             time: None,
             is_off: false,
+            limit: None,
             told: Vec::new(alloc),
         }
     }
@@ -100,6 +111,7 @@ impl Machine {
         ensures told { Tells self.old self.new (breaks (state_told self.old) place cause) }
         ensures rules { rules_in self.new ≡ rules_in self.old }
         ensures wires { wires_told self.new.wires ≡ wires_told self.old.wires }
+        ensures stamps { stamps_in self.new ≡ stamps_in self.old }
     {
         self.fault = Some(VcdFault { place, cause });
     }
@@ -121,6 +133,7 @@ impl Machine {
             word.now))) }
         ensures rules { rules_in self.new ≡ rules_in self.old }
         ensures wires { wires_told self.new.wires ≡ wires_told self.old.wires }
+        ensures lines { OnOk result (LinesAt place line self.old self.new) }
     {
         match word {
             [] => {
@@ -156,6 +169,7 @@ impl Machine {
             word.now))) }
         ensures rules { rules_in self.new ≡ rules_in self.old }
         ensures wires { wires_told self.new.wires ≡ wires_told self.old.wires }
+        ensures lines { OnOk result (LinesAt place line self.old self.new) }
     {
         if first == b'#' {
             return self.stamp(place, line, word, rest);
@@ -193,6 +207,7 @@ impl Machine {
             (state_told self.old) (token_at place word.now) (stamp_word (time_in digits.now)))) }
         ensures rules { rules_in self.new ≡ rules_in self.old }
         ensures wires { wires_told self.new.wires ≡ wires_told self.old.wires }
+        ensures lines { OnOk result (LinesAt place line self.old self.new) }
     {
         if is_long(word) {
             self.fail(place, VcdCause::Token);
@@ -218,6 +233,7 @@ impl Machine {
             place time self.old.time)) }
         ensures rules { rules_in self.new ≡ rules_in self.old }
         ensures wires { wires_told self.new.wires ≡ wires_told self.old.wires }
+        ensures lines { OnOk result (LinesAt place line self.old self.new) }
     {
         match self.time {
             None => self.comes(place, line, time),
@@ -244,6 +260,7 @@ impl Machine {
             time)) }
         ensures rules { rules_in self.new ≡ rules_in self.old }
         ensures wires { wires_told self.new.wires ≡ wires_told self.old.wires }
+        ensures lines { OnOk result (LinesAt place line self.old self.new) }
     {
         self.time = Some(time);
         let event = self.course.comes(Stamp { time, place, line });
@@ -268,6 +285,7 @@ impl Machine {
             (token_at place word.now) (scalar_word digit code.now)) }
         ensures rules { rules_in self.new ≡ rules_in self.old }
         ensures wires { wires_told self.new.wires ≡ wires_told self.old.wires }
+        ensures stamps { stamps_in self.new ≡ stamps_in self.old }
     {
         if is_long(word) {
             self.fail(place, VcdCause::Token);
@@ -291,6 +309,7 @@ impl Machine {
             self.old) place digit (taps_in (wires_told self.old.wires).codes code.now)) }
         ensures rules { rules_in self.new ≡ rules_in self.old }
         ensures wires { wires_told self.new.wires ≡ wires_told self.old.wires }
+        ensures stamps { stamps_in self.new ≡ stamps_in self.old }
     {
         let Some(taps) = self.wires.taps(code) else {
             self.fault = Some(VcdFault {
@@ -327,6 +346,7 @@ impl Machine {
             digits.now))) }
         ensures rules { rules_in self.new ≡ rules_in self.old }
         ensures wires { wires_told self.new.wires ≡ wires_told self.old.wires }
+        ensures stamps { stamps_in self.new ≡ stamps_in self.old }
     {
         if self.rules.takes_any {
             return self.keep_vector(place, digits);
@@ -357,6 +377,7 @@ impl Machine {
             (AtCode place digits.now))) }
         ensures rules { rules_in self.new ≡ rules_in self.old }
         ensures wires { wires_told self.new.wires ≡ wires_told self.old.wires }
+        ensures stamps { stamps_in self.new ≡ stamps_in self.old }
     {
         self.digits.clear();
         self.digits.extend_from_slice(digits)?;
@@ -374,6 +395,7 @@ impl Machine {
             (token_at place word.now) Foreign) }
         ensures rules { rules_in self.new ≡ rules_in self.old }
         ensures wires { wires_told self.new.wires ≡ wires_told self.old.wires }
+        ensures stamps { stamps_in self.new ≡ stamps_in self.old }
     {
         if !self.rules.takes_any && is_long(word) {
             self.fail(place, VcdCause::Token);
@@ -396,6 +418,7 @@ impl Machine {
             else opens_section))) }
         ensures rules { rules_in self.new ≡ rules_in self.old }
         ensures wires { wires_told self.new.wires ≡ wires_told self.old.wires }
+        ensures lines { OnOk result (Lines self.old self.new) }
     {
         if is_long(word) {
             self.fail(place, VcdCause::Token);
@@ -414,6 +437,7 @@ impl Machine {
             (state_told self.old) word.now)) }
         ensures rules { rules_in self.new ≡ rules_in self.old }
         ensures wires { wires_told self.new.wires ≡ wires_told self.old.wires }
+        ensures lines { OnOk result (Lines self.old self.new) }
     {
         if !self.rules.tells_holes {
             return Ok(());
@@ -437,6 +461,7 @@ impl Machine {
             self.old))) }
         ensures rules { rules_in self.new ≡ rules_in self.old }
         ensures wires { wires_told self.new.wires ≡ wires_told self.old.wires }
+        ensures lines { OnOk result (Lines self.old self.new) }
     {
         self.is_off = true;
         let (event, switch) = self.course.switches(true, self.wires.lines.as_slice());
@@ -453,25 +478,47 @@ impl Machine {
             self.old))) }
         ensures rules { rules_in self.new ≡ rules_in self.old }
         ensures wires { wires_told self.new.wires ≡ wires_told self.old.wires }
+        ensures lines { OnOk result (Lines self.old self.new) }
     {
         self.is_off = false;
         let (event, switch) = self.course.switches(false, self.wires.lines.as_slice());
         self.tell(event, switch)
     }
 
-    /// What is told of a hole.
+    /// What is told of a hole, with the last stamp.
     fn tell(&mut self, event: Option<CourseEvent>, switch: CourseEvent) -> Result<(), AllocError>
+        requires last { IfSome event (λ e. e.stamp ≡ stamp_of self.old.course) }
+        requires switch { switch.stamp ≡ stamp_of self.old.course }
         ensures told { OnOk result (events_told self.new.told.items
             ≡ events_told self.old.told.items ++ (event_list event ++ event_told switch ∷ [])) }
         ensures state { state_told self.new ≡ state_told self.old }
         ensures opened { open_in self.new ≡ open_in self.old }
         ensures rules { rules_in self.new ≡ rules_in self.old }
         ensures wires { wires_told self.new.wires ≡ wires_told self.old.wires }
+        ensures lines { OnOk result (Lines self.old self.new) }
     {
-        if let Some(event) = event {
-            self.told.push(event)?;
+        match event {
+            None => self.put(switch),
+            Some(event) => {
+                self.put(event)?;
+                self.put(switch)
+            }
         }
-        self.told.push(switch)?;
+    }
+
+    /// What is told, with the last stamp.
+    fn put(&mut self, event: CourseEvent) -> Result<(), AllocError>
+        requires { event.stamp ≡ stamp_of self.old.course }
+        ensures told { OnOk result (events_told self.new.told.items
+            ≡ events_told self.old.told.items ++ event_told event ∷ []) }
+        ensures state { state_told self.new ≡ state_told self.old }
+        ensures opened { open_in self.new ≡ open_in self.old }
+        ensures rules { rules_in self.new ≡ rules_in self.old }
+        ensures wires { wires_told self.new.wires ≡ wires_told self.old.wires }
+        ensures stamp { stamp_of self.new.course ≡ stamp_of self.old.course }
+        ensures lines { OnOk result (Lines self.old self.new) }
+    {
+        self.told.push(event)?;
         Ok(())
     }
 
@@ -488,6 +535,7 @@ impl Machine {
             from self.old.digits.items (taps_in (wires_told self.old.wires).codes word.now)))) }
         ensures rules { rules_in self.new ≡ rules_in self.old }
         ensures wires { wires_told self.new.wires ≡ wires_told self.old.wires }
+        ensures stamps { stamps_in self.new ≡ stamps_in self.old }
     {
         if is_long(word) {
             self.fail(place, VcdCause::Token);
@@ -541,6 +589,7 @@ impl Machine {
             self.old.wires).codes word.now))) }
         ensures rules { rules_in self.new ≡ rules_in self.old }
         ensures wires { wires_told self.new.wires ≡ wires_told self.old.wires }
+        ensures stamps { stamps_in self.new ≡ stamps_in self.old }
     {
         if is_long(word) {
             self.fail(place, VcdCause::Token);
@@ -554,25 +603,28 @@ impl Machine {
     }
 
     /// A token in a section that began at a place.
-    fn remark(&mut self, from: u64, holds_stamp: bool, place: u64, word: &[u8])
+    fn remark(&mut self, from: u64, heard: Heard, place: u64, word: &[u8])
         ensures state { Leaves self.old self.new (remark_step (state_told self.old)
-            (section_from from holds_stamp) (token_at place word.now)) }
+            (section_from from heard) (token_at place word.now)) }
         ensures opened { Opens self.old self.new (remark_step (state_told self.old)
-            (section_from from holds_stamp) (token_at place word.now)) }
+            (section_from from heard) (token_at place word.now)) }
         ensures told { Tells self.old self.new (remark_step (state_told self.old)
-            (section_from from holds_stamp) (token_at place word.now)) }
+            (section_from from heard) (token_at place word.now)) }
         ensures rules { rules_in self.new ≡ rules_in self.old }
         ensures wires { wires_told self.new.wires ≡ wires_told self.old.wires }
+        ensures stamps { stamps_in self.new ≡ stamps_in self.old }
     {
         let _place = place;
         if is_end(word) {
+            self.limit = limit_behind(self.limit, from, heard);
             self.spot = Place::Values;
         } else {
-            self.spot = Place::Remark(from, holds_stamp || is_like_stamp(word));
+            self.spot = Place::Remark(from, heard.with(word));
         }
     }
 
     /// A token between values: a section that it opens, or a value.
+    #[inline(always)]
     fn between(&mut self, place: u64, line: u64, word: &[u8]) -> Result<(), AllocError>
         requires values { self.old.spot ≡ Place.Values }
         ensures state { OnOk result (Leaves self.old self.new (word_step (way_in self.old)
@@ -586,15 +638,107 @@ impl Machine {
             word.now))) }
         ensures rules { rules_in self.new ≡ rules_in self.old }
         ensures wires { wires_told self.new.wires ≡ wires_told self.old.wires }
+        ensures lines { OnOk result (LinesAt place line self.old self.new) }
     {
         if opens_remark(word) {
-            self.spot = Place::Remark(place, false);
+            self.spot = Place::Remark(place, Heard::nothing());
             return Ok(());
         }
         self.value(place, line, word)
     }
 
+    /// Whether the next token stands between values.
+    #[inline(always)]
+    pub(crate) fn is_between(&self) -> bool
+        ensures { result ≡ true → self.now.spot ≡ Place.Values }
+    {
+        match self.spot {
+            Place::Values => true,
+            Place::Code(_) | Place::OtherCode(_) | Place::Remark(_, _) => false,
+        }
+    }
+
+    /// A vector of digits 0 and 1 and the code behind it, where that was declared. Tells whether both
+    /// were taken; where they were not, nothing has changed.
+    #[inline(always)]
+    pub(crate) fn vector_at_once(&mut self, word: &[u8], code: &[u8]) -> bool
+        requires fault { self.old.fault ≡ None }
+        requires short { is_long code.now ≡ false }
+        ensures state { result ≡ true → (place behind : ℕ) → state_told self.new
+            ≡ erased (known_in self.old (vector_tokens place word.now behind code.now)) }
+        ensures opened { result ≡ true → (place behind : ℕ) → open_in self.new
+            ≡ after_happenings (open_in self.old)
+            (happened_in self.old (vector_tokens place word.now behind code.now)) }
+        ensures told { result ≡ true → (place behind : ℕ) → events_told self.new.told.items
+            ≡ events_told self.old.told.items ++ told_in (rules_in self.old) (open_in self.old)
+            (happened_in self.old (vector_tokens place word.now behind code.now)) }
+        ensures unchanged { result ≡ false → self.new ≡ self.old }
+        ensures rules { rules_in self.new ≡ rules_in self.old }
+        ensures wires { wires_told self.new.wires ≡ wires_told self.old.wires }
+        ensures stamps { stamps_in self.new ≡ stamps_in self.old }
+    {
+        if !self.is_between() {
+            return false;
+        }
+        match word {
+            [] => false,
+            [first, digits @ ..] => self.changed_at_once(word, *first, digits, code),
+        }
+    }
+
+    /// A word between values, of which this is the first byte, and the code behind it.
+    #[inline(always)]
+    fn changed_at_once(&mut self, word: &[u8], first: u8, digits: &[u8], code: &[u8]) -> bool
+        requires fault { self.old.fault ≡ None }
+        requires values { self.old.spot ≡ Place.Values }
+        requires short { is_long code.now ≡ false }
+        requires word { word.now ≡ first ∷ digits.now }
+        ensures state { result ≡ true → (place behind : ℕ) → state_told self.new
+            ≡ erased (known_in self.old (vector_tokens place word.now behind code.now)) }
+        ensures opened { result ≡ true → (place behind : ℕ) → open_in self.new
+            ≡ after_happenings (open_in self.old)
+            (happened_in self.old (vector_tokens place word.now behind code.now)) }
+        ensures told { result ≡ true → (place behind : ℕ) → events_told self.new.told.items
+            ≡ events_told self.old.told.items ++ told_in (rules_in self.old) (open_in self.old)
+            (happened_in self.old (vector_tokens place word.now behind code.now)) }
+        ensures unchanged { result ≡ false → self.new ≡ self.old }
+        ensures rules { rules_in self.new ≡ rules_in self.old }
+        ensures wires { wires_told self.new.wires ≡ wires_told self.old.wires }
+        ensures stamps { stamps_in self.new ≡ stamps_in self.old }
+    {
+        if first != b'b' {
+            return false;
+        }
+        self.digits_at_once(digits, code)
+    }
+
+    /// The digits of a vector and its code.
+    #[inline(always)]
+    fn digits_at_once(&mut self, digits: &[u8], code: &[u8]) -> bool
+        requires values { self.old.spot ≡ Place.Values }
+        ensures gets { result ≡ true → GetsKnown self.old self.new digits.now code.now }
+        ensures unchanged { result ≡ false → self.new ≡ self.old }
+        ensures state { state_told self.new ≡ state_told self.old }
+        ensures told { self.new.told ≡ self.old.told }
+        ensures rules { rules_in self.new ≡ rules_in self.old }
+        ensures wires { wires_told self.new.wires ≡ wires_told self.old.wires }
+        ensures stamps { stamps_in self.new ≡ stamps_in self.old }
+    {
+        if is_unreadable(digits) || !are_known(digits) {
+            return false;
+        }
+        let Some(taps) = self.wires.taps(code) else {
+            return false;
+        };
+        if is_too_wide(taps, digits) {
+            return false;
+        }
+        self.course.gets(taps, digits);
+        true
+    }
+
     /// A token at a place, where there was no fault before it.
+    #[inline(always)]
     pub(crate) fn take(&mut self, place: u64, line: u64, word: &[u8]) -> Result<(), AllocError>
         requires fault { self.old.fault ≡ None }
         ensures state { OnOk result (Leaves self.old self.new (step (way_in self.old) (state_told
@@ -605,6 +749,7 @@ impl Machine {
             self.old) (token_at place word.now))) }
         ensures rules { rules_in self.new ≡ rules_in self.old }
         ensures wires { wires_told self.new.wires ≡ wires_told self.old.wires }
+        ensures lines { OnOk result (LinesAt place line self.old self.new) }
     {
         match self.spot {
             Place::Values => self.between(place, line, word),
@@ -613,8 +758,8 @@ impl Machine {
                 self.other_code(place, word);
                 Ok(())
             }
-            Place::Remark(from, holds_stamp) => {
-                self.remark(from, holds_stamp, place, word);
+            Place::Remark(from, heard) => {
+                self.remark(from, heard, place, word);
                 Ok(())
             }
         }
@@ -628,6 +773,8 @@ impl Machine {
             ≡ events_told self.old.told.items ++ ended_in (rules_in self.old) (open_in self.old)) }
         ensures rules { rules_in self.new ≡ rules_in self.old }
         ensures wires { wires_told self.new.wires ≡ wires_told self.old.wires }
+        ensures lines { OnOk result (Lines self.old self.new) }
+        ensures limit { self.new.limit ≡ self.old.limit }
     {
         let event = self.course.ends();
         match event {
@@ -668,7 +815,7 @@ impl Machine {
         ensures { result ≡ hides_stamp (state_told self.now).spot }
     {
         match self.spot {
-            Place::Remark(_, holds_stamp) => holds_stamp,
+            Place::Remark(_, heard) => heard.stamp,
             Place::Values | Place::Code(_) | Place::OtherCode(_) => false,
         }
     }

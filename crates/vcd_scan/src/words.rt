@@ -31,6 +31,7 @@ fn is_read_past(word: &[u8]) -> bool
 }
 
 /// Whether a section opens with the word.
+#[inline(always)]
 pub(crate) fn opens_remark(word: &[u8]) -> bool
     ensures { result ≡ opens_remark word.now }
 {

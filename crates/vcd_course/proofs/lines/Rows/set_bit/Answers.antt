@@ -1,4 +1,4 @@
-use Rattle.std.proofs.Common.{◌≡◌, [], set, take, ap, sym, subst, ◌∙◌, arith, length-set}
+use Rattle.std.proofs.Common.{◌≡◌, [], set, take, ap, sym, ◌∙◌, length-set}
 use Rattle.std.proofs.lemmas.List.{get_or-set_other}
 use Rattle.fsb_signal.specs.Table.{table}
 use Rattle.vcd_grammar.specs.Digits.{extended}

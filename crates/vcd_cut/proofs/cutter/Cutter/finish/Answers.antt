@@ -1,7 +1,4 @@
-use Rattle.std.proofs.Common.{◌≡◌, [], subst, arith}
-use Rattle.std.specs.Prelude.{IfSome}
-use Rattle.std.proofs.lemmas.List.{append-nil}
-use Rattle.vcd_way.specs.Pieces.{line_number}
+use Rattle.std.proofs.Common.{[], arith}
 use Rattle.vcd_cut.specs.Cutting.{cutting}
 use Rattle.vcd_cut.proofs.Cutting.{empty_counted}
 use Rattle.vcd_cut.proofs.Standings.{sound_stands, end_stands, line_stands_if}
@@ -20,5 +17,4 @@ returns-clause-tokens c = λ fed s. end_stands c.args.self.now fed _ s c.joined.
 
 pub returns-clause-line : goal.returns-clause-line
 returns-clause-line c = λ fed s.
-    subst (λ x. IfSome c.joined.result (λ t. t.line ≡ line_number x t.place)) (append-nil fed)
-    (line_stands_if c.args.self.now fed [] c.joined.result s c.joined.ensures.begins)
+    line_stands_if c.args.self.now fed c.joined.result s c.joined.ensures.begins

@@ -30,7 +30,7 @@ returns-then-len-bytes-clause-tokens c = λ fed s.
 
 pub returns-then-len-bytes-clause-line : goal.returns-then-len-bytes-clause-line
 returns-then-len-bytes-clause-line c = λ fed s.
-    line_stands_if c.args.self.now fed _ c.closed-token.result s c.closed-token.ensures.begins
+    line_stands_if c.args.self.now fed c.closed-token.result s c.closed-token.ensures.begins
 
 pub returns-else-len-bytes-clause-stands : goal.returns-else-len-bytes-clause-stands
 returns-else-len-bytes-clause-stands c = λ fed s.
@@ -49,4 +49,4 @@ returns-else-len-bytes-clause-tokens c = λ fed s.
 
 pub returns-else-len-bytes-clause-line : goal.returns-else-len-bytes-clause-line
 returns-else-len-bytes-clause-line c = λ fed s.
-    line_stands_if c.args.self.now fed _ c.grown-token.result s c.grown-token.ensures.begins
+    line_stands_if c.args.self.now fed c.grown-token.result s c.grown-token.ensures.begins

@@ -1,11 +1,12 @@
-use Rattle.std.proofs.Common.{◌≡◌, ◌++◌, refl, sym, ap, ◌∙◌, append-nil}
+use Rattle.std.proofs.Common.{◌++◌, refl, sym, ap, ◌∙◌, append-nil}
 use Rattle.std.proofs.lemmas.Result.{on_ok_weaker}
 use Rattle.vcd_grammar.specs.Tokens.{Token}
-use Rattle.vcd_way.specs.Steps.{Step}
+use Rattle.vcd_way.specs.Steps.{InRemark, Step}
 use Rattle.vcd_course.specs.Opening.{after_happenings, told_in}
 use Rattle.vcd_scan.specs.Wired.{Wiring}
-use Rattle.vcd_scan.specs.Erased.{erased}
+use Rattle.vcd_scan.specs.Erased.{section_from, remarks_from, erased}
 use Rattle.vcd_scan.specs.Told.{rules_in, state_told, open_in, events_told}
+use Rattle.vcd_scan.proofs.Erasing.{limit-again}
 use Rattle.vcd_scan.proofs.Told.{leaves}
 use Rattle.vcd_scan.proofs.Steps.{opens_step}
 use Rattle.vcd_scan.proofs.machine.Machine.between.Goals as goal
@@ -14,7 +15,11 @@ pub returns-then-opens_remark-clause-state : goal.returns-then-opens_remark-clau
 returns-then-opens_remark-clause-state c =
     let old = c.args.self.now in
     let t : Token = record { place = c.args.place; word = c.args.word.now } in
-    sym (ap (λ (y : Step Wiring). erased y.state)
+    (λ i. record (state_told old) {
+      spot = InRemark (section_from t.place (c.nothing.ensures i));
+      remarks = remarks_from (sym (limit-again old.limit) i);
+    })
+    ∙ sym (ap (λ (y : Step Wiring). erased y.state)
     (opens_step old.rules.has_wide_digits (rules_in old) (state_told old) t refl
     (sym c.opens_remark.ensures ∙ c.if-opens_remark.true)))
 

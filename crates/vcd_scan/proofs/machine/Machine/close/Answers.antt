@@ -8,7 +8,7 @@ pub returns-in-None-clause-told : goal.returns-in-None-clause-told
 returns-in-None-clause-told c =
     let old = c.args.self.now in
     let fits : FitsCourse (rules_in old) old.course = record { edge = refl; takes_first = refl; late = refl } in
-    told_none (events_told old.told.items) c.ends-event.result _ c.in-None.is (c.ends-event.ensures (rules_in old) fits)
+    told_none (events_told old.told.items) c.ends-event.result _ c.in-None.is (c.ends-event.ensures.told (rules_in old) fits)
     ∙ ap (λ x. events_told old.told.items ++ x) (append-nil _)
 
 pub returns-in_ok-push-in-Some-clause-told : goal.returns-in_ok-push-in-Some-clause-told
@@ -16,5 +16,5 @@ returns-in_ok-push-in-Some-clause-told c =
     let old = c.args.self.now in
     let fits : FitsCourse (rules_in old) old.course = record { edge = refl; takes_first = refl; late = refl } in
     told_some old.told.items c.push.new.self.items c.in-Some.event c.ends-event.result _ c.in-Some.is
-    (c.ends-event.ensures (rules_in old) fits) c.in_ok-push-in-Some.ensures.items
+    (c.ends-event.ensures.told (rules_in old) fits) c.in_ok-push-in-Some.ensures.items
     ∙ ap (λ x. events_told old.told.items ++ x) (append-nil _)

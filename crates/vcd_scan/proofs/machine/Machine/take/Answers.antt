@@ -70,7 +70,7 @@ returns-in-Remark-clause-state c =
     let t : Token = record { place = c.args.place; word = c.args.word.now } in
     c.remark.ensures.state
     ∙ sym (ap (λ (y : Step Wiring). erased y.state)
-    (step_is (rules_in old) (state_told old) t (InRemark (section_from c.in-Remark.from c.in-Remark.holds_stamp))
+    (step_is (rules_in old) (state_told old) t (InRemark (section_from c.in-Remark.from c.in-Remark.heard))
     c.requires.fault (ap (λ p. spot_told p old.digits.items) c.in-Remark.is)))
 
 pub returns-in-Remark-clause-opened : goal.returns-in-Remark-clause-opened
@@ -79,7 +79,7 @@ returns-in-Remark-clause-opened c =
     let t : Token = record { place = c.args.place; word = c.args.word.now } in
     c.remark.ensures.opened
     ∙ sym (ap (λ (y : Step Wiring). after_happenings (open_in old) y.happenings)
-    (step_is (rules_in old) (state_told old) t (InRemark (section_from c.in-Remark.from c.in-Remark.holds_stamp))
+    (step_is (rules_in old) (state_told old) t (InRemark (section_from c.in-Remark.from c.in-Remark.heard))
     c.requires.fault (ap (λ p. spot_told p old.digits.items) c.in-Remark.is)))
 
 pub returns-in-Remark-clause-told : goal.returns-in-Remark-clause-told
@@ -88,7 +88,7 @@ returns-in-Remark-clause-told c =
     let t : Token = record { place = c.args.place; word = c.args.word.now } in
     c.remark.ensures.told
     ∙ sym (ap (λ (y : Step Wiring). events_told old.told.items ++ told_in (rules_in old) (open_in old) y.happenings)
-    (step_is (rules_in old) (state_told old) t (InRemark (section_from c.in-Remark.from c.in-Remark.holds_stamp))
+    (step_is (rules_in old) (state_told old) t (InRemark (section_from c.in-Remark.from c.in-Remark.heard))
     c.requires.fault (ap (λ p. spot_told p old.digits.items) c.in-Remark.is)))
 
 pub returns-in-OtherCode-clause-state : goal.returns-in-OtherCode-clause-state

@@ -3,6 +3,7 @@ use Rattle.vcd_way.specs.Answers.{EarlyEnd}
 use Rattle.vcd_scan.specs.Told.{events_told}
 use Rattle.vcd_scan.specs.Standing.{Appends, rules_of, wiring_of, events_of, tokens_after, last_tokens_after, told_after}
 use Rattle.vcd_scan.proofs.Quiet.{told-quiet}
+use Rattle.vcd_scan.proofs.Marks.{limit-took}
 use Rattle.vcd_scan.proofs.Endings.{well-is, early-is, told-where, told-early, fault-where, fault-early, end-early}
 use Rattle.vcd_scan.proofs.Readers.{sound-first, end-fault, end-lets, end-open, told_all}
 use Rattle.vcd_scan.proofs.reader.ValueReader.end.Goals as goal
@@ -87,3 +88,25 @@ returns-else-not-lets_end-clause-early c = λ head fed w.
     sym (end-early m wires head fed c.in-Some.fault early fault
     ∙ ap end (end-open start now head fed c.open_from.result c.last.ensures.keeps
     (c.in_ok-last.ensures.took head fed w) c.open_from.ensures))
+
+pub returns-in_ok-close-in-None-clause-marks : goal.returns-in_ok-close-in-None-clause-marks
+returns-in_ok-close-in-None-clause-marks c = λ head fed w. record {
+  lines = c.in_ok-close-in-None.ensures.lines (head ++ fed) (c.in_ok-last.ensures.lines head fed w);
+  limit = c.close.ensures.limit
+      ∙ limit-took c.args.self.now c.last.new.self (last_tokens_after head fed) c.last.ensures.keeps
+      (c.in_ok-last.ensures.took head fed w);
+}
+
+pub returns-else-not-lets_end-clause-marks : goal.returns-else-not-lets_end-clause-marks
+returns-else-not-lets_end-clause-marks c = λ head fed w. record {
+  lines = c.in_ok-last.ensures.lines head fed w;
+  limit = limit-took c.args.self.now c.last.new.self (last_tokens_after head fed) c.last.ensures.keeps
+      (c.in_ok-last.ensures.took head fed w);
+}
+
+pub returns-then-not-lets_end-clause-marks : goal.returns-then-not-lets_end-clause-marks
+returns-then-not-lets_end-clause-marks c = λ head fed w. record {
+  lines = c.in_ok-last.ensures.lines head fed w;
+  limit = limit-took c.args.self.now c.last.new.self (last_tokens_after head fed) c.last.ensures.keeps
+      (c.in_ok-last.ensures.took head fed w);
+}

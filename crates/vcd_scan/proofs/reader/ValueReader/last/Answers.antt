@@ -11,6 +11,7 @@ use Rattle.vcd_scan.specs.declared.reader.ValueReader.{ValueReader}
 use Rattle.vcd_scan.proofs.Events.{on_ok_both}
 use Rattle.vcd_scan.proofs.Reading.{last_tokens}
 use Rattle.vcd_scan.proofs.Told.{told-erased}
+use Rattle.vcd_scan.proofs.Marks.{token-line}
 use Rattle.vcd_scan.proofs.Readers.{took_last, told_last}
 use Rattle.vcd_scan.proofs.reader.ValueReader.last.Goals as goal
 
@@ -65,3 +66,9 @@ returns-in-Some-clause-told c = λ head fed w.
     (λ h. told_last old new head fed (t ∷ []) w.reads.took more
     (h ∙ ap (λ hs. events_of old ++ told_in (rules_of old) (open_in old.machine) hs)
     (sym (append-nil (step (wired (rules_of old)) (state_told old.machine) t).happenings)))) c.take.ensures.told
+
+pub returns-in-Some-clause-lines : goal.returns-in-Some-clause-lines
+returns-in-Some-clause-lines c = λ head fed w.
+    on_ok_weaker c.take.result
+    (λ h. h (head ++ fed) (token-line (head ++ fed) c.finish.result c.in-Some.token c.in-Some.is
+    (c.finish.ensures.line (head ++ fed) w.reads.cutter)) w.reads.lines) c.take.ensures.lines

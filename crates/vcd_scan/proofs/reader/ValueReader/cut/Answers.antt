@@ -10,8 +10,10 @@ use Rattle.vcd_scan.specs.Standing.{rules_of, events_of, tokens_after, Keeps}
 use Rattle.vcd_scan.specs.declared.reader.ValueReader.{ValueReader}
 use Rattle.vcd_scan.proofs.Reading.{more_tokens}
 use Rattle.vcd_scan.proofs.Told.{told-erased}
+use Rattle.vcd_scan.specs.Lined.{stamps_in}
+use Rattle.vcd_scan.proofs.Marks.{lines-read, token-line}
 use Rattle.vcd_scan.proofs.Readers.{took_more, told_more}
-use Rattle.vcd_scan.proofs.reader.ValueReader.step.Goals as goal
+use Rattle.vcd_scan.proofs.reader.ValueReader.cut.Goals as goal
 
 pub returns-in_ok-take-in-Some-clause-reads : goal.returns-in_ok-take-in-Some-clause-reads
 returns-in_ok-take-in-Some-clause-reads c = λ head fed w.
@@ -37,6 +39,10 @@ returns-in_ok-take-in-Some-clause-reads c = λ head fed w.
           (c.in_ok-take-in-Some.ensures.opened
           ∙ ap (after_happenings (open_in old.machine))
           (sym (append-nil (step (wired (rules_of old)) (state_told old.machine) t).happenings)));
+      lines = lines-read head fed xs (stamps_in c.take.new.self)
+          (c.in_ok-take-in-Some.ensures.lines (head ++ fed)
+          (token-line (head ++ fed) c.next-cut.result.token token c.in-Some.is
+          (c.next-cut.ensures.line (head ++ fed) w.reads.cutter)) w.reads.lines);
     }
 
 pub returns-in_ok-take-in-Some-clause-told : goal.returns-in_ok-take-in-Some-clause-told
@@ -73,6 +79,7 @@ returns-in-None-clause-reads c = λ head fed w.
     record {
       cutter = subst (λ x. Stands k x) (append_assoc head fed xs) (c.next-cut.ensures.stands (head ++ fed) w.reads.cutter);
       took = took_more old new head fed xs [] keeps w.reads.took more (sym (told-erased old.machine)) refl;
+      lines = lines-read head fed xs (stamps_in old.machine) w.reads.lines;
     }
 
 pub returns-in-None-clause-told : goal.returns-in-None-clause-told
