@@ -3,6 +3,7 @@ pub mod Places
 pub mod Numbering
 pub mod Splits
 pub mod Wires
+pub mod Groups
 pub mod Scopes
 pub mod ScopeFaults
 pub mod Told
