@@ -1,2 +1,3 @@
+pub mod Firsts
 pub mod Indices
 pub mod Within

@@ -1,11 +1,11 @@
 -- What is asked of one scope is answered by the variables of the scope.
-use Rattle.std.proofs.Common.{◌≡◌, ◌∙◌, ℕ, Bool, true, false, nat_eq, cond, not, ◌&&◌, ◌||◌, List, [], ◌∷◌, Option, Some, None, is_some, refl, ap, sym, arith, rules, BTreeMap, Vec, Global}
+use Rattle.std.proofs.Common.{◌≡◌, ◌∙◌, ℕ, Bool, true, false, nat_eq, cond, ◌&&◌, ◌||◌, List, [], ◌∷◌, Option, Some, None, refl, ap, arith, rules, BTreeMap, Vec, Global}
 use Rattle.std.proofs.lemmas.Bool.{eqb-true}
 use Rattle.std.proofs.lemmas.List.Elements.{filter_agree}
 use Rattle.std.specs.List.{find, filter, list_any, list_all}
 use Rattle.scope_pick.specs.declared.wires.Named.{Named}
 use Rattle.scope_pick.specs.Groups.{in_scope, group_at, AreGroups}
-use Rattle.scope_pick.specs.Scopes.{lines, is_for, exact_in, like_in, first_in, is_rival, is_ambiguous, found_in, is_listed, is_settled, is_whole, is_head, qualifies, qualified}
+use Rattle.scope_pick.specs.Scopes.{lines, is_for, exact_in, like_in, first_in, is_rival, is_ambiguous, found_in, is_settled, is_whole, is_head, qualifies, qualified}
 
 -- the test passes only within the scope
 abbrev pub PassesWithin : (Named → Bool) → ℕ → Type 0

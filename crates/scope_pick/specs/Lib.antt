@@ -1,5 +1,6 @@
 pub mod Names
 pub mod Places
+pub mod Headers
 pub mod Numbering
 pub mod Splits
 pub mod Wires

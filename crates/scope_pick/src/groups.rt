@@ -8,10 +8,7 @@ use std::alloc::{AllocError, Global};
 use std::collections::BTreeMap;
 
 /// The variables of each scope, in the order of the header.
-pub fn groups_of(
-    alloc: Global,
-    names: &[Named],
-) -> Result<BTreeMap<usize, Vec<Named>>, AllocError>
+pub fn groups_of(alloc: Global, names: &[Named]) -> Result<BTreeMap<usize, Vec<Named>>, AllocError>
     ensures { IfOk result (λ groups. AreGroups groups names.now) }
 {
     let mut groups = BTreeMap::new(alloc);

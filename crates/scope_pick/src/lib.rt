@@ -9,6 +9,7 @@
 #![tactic(auto)]
 
 pub use groups::{group_at, groups_of};
+pub use header::Header;
 pub use index::{after_last, before_last, index_in, index_of, indexed};
 pub use names::{is_exact_name, line_named, without_escape};
 pub use numbering::{is_same_wire, is_wire_kind};
@@ -26,6 +27,7 @@ pub use variable::{Range, Variable, Written};
 pub use wires::{Named, named_lines, unfit_lines};
 
 mod groups;
+mod header;
 mod index;
 mod names;
 mod numbering;

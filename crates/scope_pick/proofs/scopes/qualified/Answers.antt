@@ -1,4 +1,3 @@
-use Rattle.std.proofs.Common.{◌∙◌}
 use Rattle.scope_pick.proofs.Within.{qualified-within}
 use Rattle.scope_pick.proofs.scopes.qualified.Goals as goal
 
