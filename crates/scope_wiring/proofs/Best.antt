@@ -3,17 +3,24 @@ use Rattle.std.proofs.Common.{◌≡◌, ◌∙◌, ℕ, ◌+◌, ◌<◌, Bool,
 use Rattle.std.proofs.lemmas.List.{take_more}
 use Rattle.std.proofs.lemmas.List.Elements.{filter_agree}
 use Rattle.std.proofs.lemmas.List.Folds.{list_all-append}
-use Rattle.std.specs.List.{filter, list_all}
+use Rattle.std.specs.List.{filter, fold, list_all}
 use Rattle.scope_pick.specs.declared.wires.Named.{Named}
 use Rattle.scope_pick.specs.Groups.{in_scope, group_at, AreGroups}
 use Rattle.scope_pick.specs.Scopes.{lines, is_head, found_in}
 use Rattle.scope_pick.proofs.Within.{head-within, found-within}
 use Rattle.scope_wiring.specs.Candidates.{heads, is_found, found_count, is_greatest, found_counts, best_among}
 
+-- tests that agree count on the same
+count-on-agree : (p q : ℕ → Bool) → ((n : ℕ) → p n ≡ q n) → (ns : List ℕ) (so_far : ℕ)
+    → fold (λ a n. a + cond (p n) 1 0) so_far ns ≡ fold (λ a n. a + cond (q n) 1 0) so_far ns
+count-on-agree p q h [] so_far = refl
+count-on-agree p q h (n ∷ ns) so_far =
+    ap (λ b. fold (λ a m. a + cond (p m) 1 0) (so_far + cond b 1 0) ns) (h n)
+    ∙ count-on-agree p q h ns (so_far + cond (q n) 1 0)
+
 -- tests that agree count the same
 count-agree : (p q : ℕ → Bool) → ((n : ℕ) → p n ≡ q n) → (ns : List ℕ) → count_by p ns ≡ count_by q ns
-count-agree p q h [] = refl
-count-agree p q h (n ∷ ns) = rw (h n, count-agree p q h ns) refl
+count-agree p q h ns = count-on-agree p q h ns 0
 
 map-agree : (f g : Named → ℕ) → ((e : Named) → f e ≡ g e) → (ns : List Named) → map f ns ≡ map g ns
 map-agree f g h [] = refl
