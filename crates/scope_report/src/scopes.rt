@@ -51,7 +51,11 @@ impl<'a> Heading<'a> {
     /// Appends how many needed lines a scope has.
     pub(crate) fn put_counts(&self, text: &mut Vec<u8>, scope: usize) -> Result<(), AllocError> {
         put_scope(text, self.variables, scope)?;
-        put_share(text, found_count(self.named_in(scope), &[], scope), needed_count())?;
+        put_share(
+            text,
+            found_count(self.named_in(scope), &[], scope),
+            needed_count(),
+        )?;
         put(text, " needed lines\n")
     }
 
@@ -184,11 +188,7 @@ impl<'a> Heading<'a> {
             // of a word in single bits the first one stands for all
             let is_told = name.is_split && last == Some(name.line);
             last = Some(name.line);
-            self.put_unfit_one(
-                text,
-                *name,
-                !is_listed(settled, name.line) && !is_told,
-            )?;
+            self.put_unfit_one(text, *name, !is_listed(settled, name.line) && !is_told)?;
         }
         Ok(())
     }
