@@ -258,6 +258,7 @@ pub(crate) fn in_full(alloc: Global, row: &str) -> Result<String, AllocError> {
     let row = row.replace(alloc, "NOTHING", "without [] file - rise false after []")?;
     let row = row.replace(alloc, "WHOLE", "at - from - to - quiet 32")?;
     let row = row.replace(alloc, "LINES", crate::texts::LINES)?;
+    let row = row.replace(alloc, "SAMPLED", crate::texts::SAMPLED)?;
     let row = row.replace(alloc, "CLOCK", crate::texts::CLOCK)?;
     let row = row.replace(alloc, "JUDGED", crate::texts::JUDGED)?;
     row.replace(alloc, "PICKED", crate::texts::PICKED)

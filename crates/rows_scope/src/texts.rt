@@ -8,6 +8,10 @@ use std::test::Fail;
 pub(crate) const LINES: &str =
     "the lines: BCLK, BREQ0_n to BREQ3_n, BPRI_n, LOCK_n, BNR_n, ADS_n, REQ_n, A_n, AERR_n, HIT_n, HITM_n, DEFER_n, RS_n, TRDY_n, DBSY_n, DRDY_n, D_n, AP_n, RP_n";
 
+/// What may stand behind `--after`.
+pub(crate) const SAMPLED: &str =
+    "the lines: BREQ0_n to BREQ3_n, BPRI_n, LOCK_n, BNR_n, ADS_n, REQ_n, A_n, AERR_n, HIT_n, HITM_n, DEFER_n, RS_n, TRDY_n, DBSY_n, DRDY_n, D_n, AP_n, RP_n";
+
 /// What may stand behind `check`.
 pub(crate) const JUDGED: &str =
     "wanted: one DUMP, and of --scope --line --lines --without --edge --first --after --at --from --to --quiet --resume --max";
@@ -224,15 +228,23 @@ const REFUSED: [(&str, &str); 80] = [
     ),
     (
         "check|--after|ADS_n,FOO|a.vcd",
-        "2 error: '--after ADS_n,FOO': these are no lines of the bus with commas between\nLINES\n",
+        "2 error: '--after ADS_n,FOO': these are no lines of the bus with commas between\nSAMPLED\n",
     ),
     (
         "check|--after||a.vcd",
-        "2 error: '--after ': these are no lines of the bus with commas between\nLINES\n",
+        "2 error: '--after ': these are no lines of the bus with commas between\nSAMPLED\n",
     ),
     (
         "check|--after|ADS_n,|a.vcd",
-        "2 error: '--after ADS_n,': these are no lines of the bus with commas between\nLINES\n",
+        "2 error: '--after ADS_n,': these are no lines of the bus with commas between\nSAMPLED\n",
+    ),
+    (
+        "check|--after|BCLK|a.vcd",
+        "2 error: '--after BCLK': BCLK is the clock itself: its edge says when the others are sampled\nSAMPLED\n",
+    ),
+    (
+        "pick|--after|ADS_n,bclk|a.vcd",
+        "2 error: '--after ADS_n,bclk': BCLK is the clock itself: its edge says when the others are sampled\nSAMPLED\n",
     ),
     (
         "check|--at|x|a.vcd",

@@ -1,8 +1,10 @@
 pub mod Names
 pub mod Places
+pub mod Headers
 pub mod Numbering
 pub mod Splits
 pub mod Wires
+pub mod Groups
 pub mod Scopes
 pub mod ScopeFaults
 pub mod Told

@@ -8,6 +8,8 @@
 //! of headers makes the declarations. What a user names, and the one call over it all, is in scope_wiring.
 #![tactic(auto)]
 
+pub use groups::{group_at, groups_of};
+pub use header::Header;
 pub use index::{after_last, before_last, index_in, index_of, indexed};
 pub use names::{is_exact_name, line_named, without_escape};
 pub use numbering::{is_same_wire, is_wire_kind};
@@ -24,6 +26,8 @@ pub use told::{ambiguous_lines, other_names, unfound_lines};
 pub use variable::{Range, Variable, Written};
 pub use wires::{Named, named_lines, unfit_lines};
 
+mod groups;
+mod header;
 mod index;
 mod names;
 mod numbering;

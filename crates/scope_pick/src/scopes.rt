@@ -1,11 +1,14 @@
 ghost use Rattle.std.specs.Prelude.{◌≡◌, ◌≢◌, ◌<◌, ◌||◌, nat_eq, Some, None, IfOk, IfErr, MatchResult, All, [], List, ℕ};
 ghost use Rattle.std.specs.List.{list_any, list_all, find, filter};
 ghost use Rattle.scope_pick.specs.Scopes.{lines, is_for, exact_in, like_in, first_in, is_rival, is_ambiguous, found_in, is_settled, is_whole, is_head, qualifies, qualified, has_same, may_be_one_word, may_be_two_words, is_same_bus, is_fullest, picked, lies_in, stands_alone, buses, is_free, is_scope_needed, is_listed};
+ghost use Rattle.scope_pick.specs.Groups.{group_at};
 ghost use Rattle.scope_pick.specs.ScopeFaults.{IsPicked, IsScopeFault};
 
+use crate::groups::{group_at, groups_of};
 use crate::place::{is_line_needed, is_multi_bit};
 use crate::wires::Named;
 use std::alloc::{AllocError, Global};
+use std::collections::BTreeMap;
 
 /// Why no scope is picked, where one is needed.
 #[derive(Debug, Drop)]
@@ -118,14 +121,27 @@ fn lies_in(names: &[Named], settled: &[u8], scope: Named, other: Named) -> bool
 }
 
 /// The scopes that have every needed line and none that is ambiguous, each by its first variable.
-#[tactic(auto, unfolding(crate::specs::Scopes::qualified))]
 pub fn qualified(alloc: Global, names: &[Named], settled: &[u8]) -> Result<Vec<Named>, AllocError>
     ensures { IfOk result (λ v. v.items ≡ qualified names.now settled.now) }
+{
+    let groups = groups_of(alloc, names)?;
+    qualified_among(alloc, names, settled, &groups)
+}
+
+// Each scope is asked by its own variables.
+fn qualified_among(
+    alloc: Global,
+    names: &[Named],
+    settled: &[u8],
+    groups: &BTreeMap<usize, Vec<Named>>,
+) -> Result<Vec<Named>, AllocError>
+    ensures { IfOk result (λ v. v.items
+        ≡ filter (λ e. qualifies (group_at groups.now e.scope) settled.now e) names.now) }
 {
     names
         .iter()
         .copied()
-        .filter(|name| qualifies(names, settled, *name))
+        .filter(|name| qualifies(group_at(groups, name.scope), settled, *name))
         .collect(alloc)
 }
 

@@ -5,9 +5,10 @@ ghost use Rattle.std.specs.List.{list_all, list_any, find};
 ghost use Rattle.scope_pick.specs.Places.{line_width};
 ghost use Rattle.scope_pick.specs.Splits.{bit_called, bit_by_name, bit_by_range, bit_name, bit_at, bits, is_of_word, is_bit_of, bit_in, is_other_bit, has_bit, has_bits_from, base_of, is_joined, is_first_bit};
 
+use crate::header::Header;
 use crate::index::{index_of, indexed};
 use crate::names::{is_exact_name, line_named, without_escape};
-use crate::numbering::{is_wire_kind, scope_number, wire_number};
+use crate::numbering::is_wire_kind;
 use crate::place::{is_multi_bit, line_width, lowest_index};
 use crate::variable::{Variable, Written};
 use std::alloc::{AllocError, Global};
@@ -45,20 +46,21 @@ pub(crate) const BIT_NUMBERS: [u8; 64] = [
 
 /// All variables that are bits of words, in the order of the header.
 #[tactic(auto, unfolding(crate::specs::Splits::bits))]
-pub fn bits(alloc: Global, variables: &[Variable]) -> Result<Vec<Bit>, AllocError>
-    ensures { IfOk result (λ v. v.items ≡ bits variables.now) }
+pub fn bits(alloc: Global, header: &Header<'_>) -> Result<Vec<Bit>, AllocError>
+    ensures { IfOk result (λ v. v.items ≡ bits header.now) }
 {
-    variables
+    header
+        .variables()
         .iter()
         .enumerate()
-        .filter_map(|(index, variable)| bit_at(variables, index, variable))
+        .filter_map(|(index, variable)| bit_at(header, index, variable))
         .collect(alloc)
 }
 
 /// The variable as a bit of a word, if it has one bit and is named like one.
 #[tactic(auto, unfolding(crate::specs::Splits::bit_at))]
-pub fn bit_at(variables: &[Variable], index: usize, variable: &Variable) -> Option<Bit>
-    ensures value { result ≡ bit_at variables.now index variable.now }
+pub fn bit_at(header: &Header<'_>, index: usize, variable: &Variable) -> Option<Bit>
+    ensures value { result ≡ bit_at header.now index variable.now }
     ensures line { IfSome result (λ b. b.line < 22) }
 {
     match bit_name(&variable.name, variable.range) {
@@ -70,8 +72,8 @@ pub fn bit_at(variables: &[Variable], index: usize, variable: &Variable) -> Opti
                     line: bit.line,
                     number: bit.number,
                     exact: bit.exact,
-                    scope: scope_number(variables, index, variable),
-                    wire: wire_number(variables, index, variable),
+                    scope: header.scope_number(index, variable),
+                    wire: header.wire_number(index, variable),
                 })
             } else {
                 None

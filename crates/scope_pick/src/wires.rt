@@ -3,8 +3,9 @@ ghost use Rattle.std.specs.List.{filter_map, enumerate_from};
 ghost use Rattle.scope_pick.specs.Splits.{bits};
 ghost use Rattle.scope_pick.specs.Wires.{can_be, as_line, as_word, whole_at, split_at, lone_bit, unfit_line, unfit_at, unfit_lines, named_at, named_lines};
 
+use crate::header::Header;
 use crate::names::{is_exact_name, line_named};
-use crate::numbering::{is_wire_kind, scope_number, wire_number};
+use crate::numbering::is_wire_kind;
 use crate::place::place_of;
 use crate::split::{Bit, bit_at, bits, is_first_bit, is_joined};
 use crate::variable::Variable;
@@ -32,22 +33,20 @@ pub struct Named {
 pub fn unfit_lines(alloc: Global, variables: &[Variable]) -> Result<Vec<Named>, AllocError>
     ensures { IfOk result (λ v. v.items ≡ unfit_lines variables.now) }
 {
-    let bits = bits(alloc, variables)?;
-    unfit_among(alloc, variables, &bits)
+    let header = Header::new(alloc, variables)?;
+    let bits = bits(alloc, &header)?;
+    unfit_among(alloc, &header, &bits)
 }
 
-fn unfit_among(
-    alloc: Global,
-    variables: &[Variable],
-    bits: &[Bit],
-) -> Result<Vec<Named>, AllocError>
+fn unfit_among(alloc: Global, header: &Header<'_>, bits: &[Bit]) -> Result<Vec<Named>, AllocError>
     ensures { IfOk result (λ v. v.items
-        ≡ filter_map (λ p. unfit_at variables.now bits.now p.0 p.1) (enumerate_from 0 variables.now)) }
+        ≡ filter_map (λ p. unfit_at header.now bits.now p.0 p.1) (enumerate_from 0 header.now)) }
 {
-    variables
+    header
+        .variables()
         .iter()
         .enumerate()
-        .filter_map(|(index, variable)| unfit_at(variables, bits, index, variable))
+        .filter_map(|(index, variable)| unfit_at(header, bits, index, variable))
         .collect(alloc)
 }
 
@@ -56,49 +55,42 @@ fn unfit_among(
 pub fn named_lines(alloc: Global, variables: &[Variable]) -> Result<Vec<Named>, AllocError>
     ensures { IfOk result (λ v. v.items ≡ named_lines variables.now) }
 {
-    let bits = bits(alloc, variables)?;
-    named_among(alloc, variables, &bits)
+    let header = Header::new(alloc, variables)?;
+    let bits = bits(alloc, &header)?;
+    named_among(alloc, &header, &bits)
 }
 
-fn named_among(
-    alloc: Global,
-    variables: &[Variable],
-    bits: &[Bit],
-) -> Result<Vec<Named>, AllocError>
+fn named_among(alloc: Global, header: &Header<'_>, bits: &[Bit]) -> Result<Vec<Named>, AllocError>
     ensures { IfOk result (λ v. v.items
-        ≡ filter_map (λ p. named_at variables.now bits.now p.0 p.1) (enumerate_from 0 variables.now)) }
+        ≡ filter_map (λ p. named_at header.now bits.now p.0 p.1) (enumerate_from 0 header.now)) }
 {
-    variables
+    header
+        .variables()
         .iter()
         .enumerate()
-        .filter_map(|(index, variable)| named_at(variables, bits, index, variable))
+        .filter_map(|(index, variable)| named_at(header, bits, index, variable))
         .collect(alloc)
 }
 
 #[tactic(auto, unfolding(crate::specs::Wires::named_at))]
-fn named_at(
-    variables: &[Variable],
-    bits: &[Bit],
-    index: usize,
-    variable: &Variable,
-) -> Option<Named>
-    ensures { result ≡ named_at variables.now bits.now index variable.now }
+fn named_at(header: &Header<'_>, bits: &[Bit], index: usize, variable: &Variable) -> Option<Named>
+    ensures { result ≡ named_at header.now bits.now index variable.now }
 {
-    match whole_at(variables, index, variable) {
+    match whole_at(header, index, variable) {
         Some(name) => Some(name),
-        None => split_at(bits, bit_at(variables, index, variable)),
+        None => split_at(bits, bit_at(header, index, variable)),
     }
 }
 
 #[tactic(auto, unfolding(crate::specs::Wires::whole_at))]
-fn whole_at(variables: &[Variable], index: usize, variable: &Variable) -> Option<Named>
-    ensures { result ≡ whole_at variables.now index variable.now }
+fn whole_at(header: &Header<'_>, index: usize, variable: &Variable) -> Option<Named>
+    ensures { result ≡ whole_at header.now index variable.now }
 {
     match line_named(&variable.name) {
         None => None,
         Some(line) => {
             if can_be(variable, line) {
-                Some(as_line(variables, index, variable, line))
+                Some(as_line(header, index, variable, line))
             } else {
                 None
             }
@@ -124,18 +116,13 @@ fn split_at(bits: &[Bit], bit: Option<Bit>) -> Option<Named>
 }
 
 #[tactic(auto, unfolding(crate::specs::Wires::unfit_at))]
-fn unfit_at(
-    variables: &[Variable],
-    bits: &[Bit],
-    index: usize,
-    variable: &Variable,
-) -> Option<Named>
-    ensures { result ≡ unfit_at variables.now bits.now index variable.now }
+fn unfit_at(header: &Header<'_>, bits: &[Bit], index: usize, variable: &Variable) -> Option<Named>
+    ensures { result ≡ unfit_at header.now bits.now index variable.now }
 {
-    let bit = bit_at(variables, index, variable);
+    let bit = bit_at(header, index, variable);
     match bit {
         Some(bit) => lone_bit(bits, Some(bit)),
-        None => unfit_line(variables, index, variable, line_named(&variable.name)),
+        None => unfit_line(header, index, variable, line_named(&variable.name)),
     }
 }
 
@@ -158,13 +145,13 @@ fn lone_bit(bits: &[Bit], bit: Option<Bit>) -> Option<Named>
 
 #[tactic(auto, unfolding(crate::specs::Wires::unfit_line))]
 fn unfit_line(
-    variables: &[Variable],
+    header: &Header<'_>,
     index: usize,
     variable: &Variable,
     line: Option<u8>,
 ) -> Option<Named>
     requires { IfSome line (λ n. n < 22) }
-    ensures { result ≡ unfit_line variables.now index variable.now line }
+    ensures { result ≡ unfit_line header.now index variable.now line }
 {
     match line {
         None => None,
@@ -172,7 +159,7 @@ fn unfit_line(
             if can_be(variable, line) {
                 None
             } else {
-                Some(as_line(variables, index, variable, line))
+                Some(as_line(header, index, variable, line))
             }
         }
     }
@@ -193,16 +180,16 @@ fn as_word(bit: Bit) -> Named
 }
 
 #[tactic(auto, unfolding(crate::specs::Wires::as_line))]
-fn as_line(variables: &[Variable], index: usize, variable: &Variable, line: u8) -> Named
+fn as_line(header: &Header<'_>, index: usize, variable: &Variable, line: u8) -> Named
     requires { line < 22 }
-    ensures { result ≡ as_line variables.now index variable.now line }
+    ensures { result ≡ as_line header.now index variable.now line }
 {
     Named {
         index,
         line,
         exact: is_exact_name(line, &variable.name),
-        scope: scope_number(variables, index, variable),
-        wire: wire_number(variables, index, variable),
+        scope: header.scope_number(index, variable),
+        wire: header.wire_number(index, variable),
         is_split: false,
     }
 }

@@ -103,7 +103,7 @@ fn put_whole(
     scope: usize,
     most: usize,
 ) -> Result<(), AllocError> {
-    if found_count(&heading.names, &[], scope) < most {
+    if found_count(heading.named_in(scope), &[], scope) < most {
         return Ok(());
     }
     heading.put_found(text, scope)?;
@@ -114,7 +114,7 @@ fn put_whole(
 fn most_found(heading: &Heading<'_>, scopes: &[Named]) -> usize {
     let mut most = 0;
     for scope in scopes {
-        most = most.max(found_count(&heading.names, &[], scope.scope));
+        most = most.max(found_count(heading.named_in(scope.scope), &[], scope.scope));
     }
     most
 }

@@ -3,11 +3,12 @@
 use crate::near::{Near, best_of, near_lines, put_hint};
 use crate::text::{put, put_line, put_listed, put_number, put_path, put_scope, put_shape};
 use scope_pick::{
-    Named, Variable, ambiguous_lines, found_in, is_line_needed, is_listed, line_named, named_lines,
-    other_names, unfit_lines, unfound_lines, without_escape,
+    Named, Variable, ambiguous_lines, found_in, group_at, groups_of, is_line_needed, is_listed,
+    line_named, named_lines, other_names, unfit_lines, unfound_lines, without_escape,
 };
 use scope_wiring::found_count;
 use std::alloc::{AllocError, Global};
+use std::collections::BTreeMap;
 
 /// The lines by their numbers.
 const LINES: [u8; 22] = [
@@ -20,34 +21,48 @@ pub(crate) struct Heading<'a> {
     pub(crate) alloc: Global,
     pub(crate) variables: &'a [Variable],
     pub(crate) names: Vec<Named>,
-    /// Those that are named like lines and cannot be them.
-    unfit: Vec<Named>,
+    /// The names by their scopes.
+    groups: BTreeMap<usize, Vec<Named>>,
+    /// Those that are named like lines and cannot be them, by their scopes.
+    unfit: BTreeMap<usize, Vec<Named>>,
     near: Vec<Near>,
 }
 
 impl<'a> Heading<'a> {
     /// How these variables are named.
     pub(crate) fn new(alloc: Global, variables: &'a [Variable]) -> Result<Self, AllocError> {
+        let names = named_lines(alloc, variables)?;
+        let unfit = unfit_lines(alloc, variables)?;
         Ok(Heading {
             alloc,
             variables,
-            names: named_lines(alloc, variables)?,
-            unfit: unfit_lines(alloc, variables)?,
+            groups: groups_of(alloc, &names)?,
+            names,
+            unfit: groups_of(alloc, &unfit)?,
             near: near_lines(alloc, variables)?,
         })
+    }
+
+    /// The variables of a scope that are named like lines.
+    pub(crate) fn named_in(&self, scope: usize) -> &[Named] {
+        group_at(&self.groups, scope)
     }
 
     /// Appends how many needed lines a scope has.
     pub(crate) fn put_counts(&self, text: &mut Vec<u8>, scope: usize) -> Result<(), AllocError> {
         put_scope(text, self.variables, scope)?;
-        put_share(text, found_count(&self.names, &[], scope), needed_count())?;
+        put_share(
+            text,
+            found_count(self.named_in(scope), &[], scope),
+            needed_count(),
+        )?;
         put(text, " needed lines\n")
     }
 
     /// Appends the lines that a scope has.
     pub(crate) fn put_found(&self, text: &mut Vec<u8>, scope: usize) -> Result<(), AllocError> {
         for line in &LINES {
-            self.put_found_line(text, *line, found_in(&self.names, scope, *line))?;
+            self.put_found_line(text, *line, found_in(self.named_in(scope), scope, *line))?;
         }
         Ok(())
     }
@@ -118,8 +133,8 @@ impl<'a> Heading<'a> {
 
     // The lines that are not found in a scope and are not ambiguous: those that are needed, or the others.
     fn lacking(&self, settled: &[u8], scope: usize, needed: bool) -> Result<Vec<u8>, AllocError> {
-        let unfound = unfound_lines(self.alloc, &self.names, settled, scope)?;
-        let unclear = ambiguous_lines(self.alloc, &self.names, settled, scope)?;
+        let unfound = unfound_lines(self.alloc, self.named_in(scope), settled, scope)?;
+        let unclear = ambiguous_lines(self.alloc, self.named_in(scope), settled, scope)?;
         lacking_among(self.alloc, &unfound, &unclear, needed)
     }
 
@@ -130,7 +145,7 @@ impl<'a> Heading<'a> {
         settled: &[u8],
         scope: usize,
     ) -> Result<(), AllocError> {
-        let unclear = ambiguous_lines(self.alloc, &self.names, settled, scope)?;
+        let unclear = ambiguous_lines(self.alloc, self.named_in(scope), settled, scope)?;
         for line in &unclear {
             self.put_rivals(text, scope, *line)?;
         }
@@ -146,7 +161,7 @@ impl<'a> Heading<'a> {
     }
 
     fn put_each_rival(&self, text: &mut Vec<u8>, scope: usize, line: u8) -> Result<(), AllocError> {
-        for name in &self.names {
+        for name in self.named_in(scope) {
             self.put_rival(text, *name, is_of(*name, scope, line))?;
         }
         Ok(())
@@ -169,15 +184,11 @@ impl<'a> Heading<'a> {
         scope: usize,
     ) -> Result<(), AllocError> {
         let mut last = None;
-        for name in &self.unfit {
+        for name in group_at(&self.unfit, scope) {
             // of a word in single bits the first one stands for all
             let is_told = name.is_split && last == Some(name.line);
             last = Some(name.line);
-            self.put_unfit_one(
-                text,
-                *name,
-                name.scope == scope && !is_listed(settled, name.line) && !is_told,
-            )?;
+            self.put_unfit_one(text, *name, !is_listed(settled, name.line) && !is_told)?;
         }
         Ok(())
     }
@@ -255,7 +266,7 @@ impl<'a> Heading<'a> {
         for line in &LINES {
             self.put_passed(
                 text,
-                found_in(&self.names, scope, *line),
+                found_in(self.named_in(scope), scope, *line),
                 is_listed(settled, *line),
             )?;
         }
@@ -276,7 +287,7 @@ impl<'a> Heading<'a> {
     }
 
     fn put_rest(&self, text: &mut Vec<u8>, taken: Named) -> Result<(), AllocError> {
-        let others = other_names(self.alloc, &self.names, taken)?;
+        let others = other_names(self.alloc, self.named_in(taken.scope), taken)?;
         for other in &others {
             self.put_other(text, taken, *other)?;
         }

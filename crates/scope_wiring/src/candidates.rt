@@ -1,19 +1,21 @@
 //! What is listed where the wires are not picked.
 
-ghost use Rattle.std.specs.Prelude.{◌≡◌, map, count_by, nat_le, IfOk, option_map};
-ghost use Rattle.std.specs.List.{filter, filter_map, list_all, enumerate_from};
-ghost use Rattle.scope_pick.specs.Scopes.{qualified};
-ghost use Rattle.scope_wiring.specs.Candidates.{scopes_of, heads, is_found, found_count, is_greatest, found_counts, best_among, buses_among, is_alike, alike_at, alike, index_meant, alike_option, meant_by, candidates};
+ghost use Rattle.std.specs.Prelude.{◌≡◌, ℕ, map, count_by, nat_le, IfOk, option_map};
+ghost use Rattle.std.specs.List.{filter, filter_map, enumerate_from};
+ghost use Rattle.scope_pick.specs.Groups.{group_at};
+ghost use Rattle.scope_pick.specs.Scopes.{qualified, is_head};
+ghost use Rattle.scope_wiring.specs.Candidates.{scopes_of, heads, is_found, found_count, is_greatest, best_among, buses_among, is_alike, alike_at, alike, index_meant, alike_option, meant_by, candidates};
 
 use crate::cause::Cause;
 use crate::home::Home;
 use crate::meaning::{Meaning, meaning_of};
 use crate::text::{LineOption, before_bits};
 use scope_pick::{
-    Named, Variable, after_last, buses, found_in, is_head, is_line_needed, is_listed, qualified,
-    without_escape,
+    Named, Variable, after_last, buses, found_in, group_at, groups_of, is_head, is_line_needed,
+    is_listed, qualified, without_escape,
 };
 use std::alloc::{AllocError, Global};
+use std::collections::BTreeMap;
 
 const LINES: [u8; 22] = [
     0, 1, 2, 3, 4, 5, 6, 7, 8, 9, 10, 11, 12, 13, 14, 15, 16, 17, 18, 19, 20, 21,
@@ -26,14 +28,26 @@ fn scopes_of(alloc: Global, names: &[Named]) -> Result<Vec<usize>, AllocError>
 }
 
 /// The scopes with a variable that is named like a line, each by the first such.
-#[tactic(auto, unfolding(crate::specs::Candidates::heads))]
 pub fn heads(alloc: Global, names: &[Named]) -> Result<Vec<Named>, AllocError>
     ensures { IfOk result (λ v. v.items ≡ heads names.now) }
+{
+    let groups = groups_of(alloc, names)?;
+    heads_among(alloc, names, &groups)
+}
+
+// Each is looked for among those of its scope.
+fn heads_among(
+    alloc: Global,
+    names: &[Named],
+    groups: &BTreeMap<usize, Vec<Named>>,
+) -> Result<Vec<Named>, AllocError>
+    ensures { IfOk result (λ v. v.items
+        ≡ filter (λ e. is_head (group_at groups.now e.scope) e) names.now) }
 {
     names
         .iter()
         .copied()
-        .filter(|name| is_head(names, *name))
+        .filter(|name| is_head(group_at(groups, name.scope), *name))
         .collect(alloc)
 }
 
@@ -64,46 +78,52 @@ pub fn found_count(names: &[Named], settled: &[u8], scope: usize) -> usize
     count_found(names, settled, scope, &LINES)
 }
 
-#[tactic(auto, unfolding(crate::specs::Candidates::found_counts))]
+// How many each of these scopes has, counted among its own variables.
 fn found_counts(
     alloc: Global,
-    names: &[Named],
+    groups: &BTreeMap<usize, Vec<Named>>,
     settled: &[u8],
     scopes: &[Named],
 ) -> Result<Vec<usize>, AllocError>
-    ensures { IfOk result (λ v. v.items ≡ found_counts names.now settled.now scopes.now) }
+    ensures { IfOk result (λ v. v.items
+        ≡ map (λ e. found_count (group_at groups.now e.scope) settled.now e.scope) scopes.now) }
 {
     scopes
         .iter()
-        .map(|scope| found_count(names, settled, scope.scope))
+        .map(|scope| found_count(group_at(groups, scope.scope), settled, scope.scope))
         .collect(alloc)
 }
 
-#[tactic(auto, unfolding(crate::specs::Candidates::is_greatest))]
-fn is_greatest(counts: &[usize], count: usize) -> bool
-    ensures { result ≡ is_greatest counts.now count }
+// The greatest of these counts, or 0.
+fn greatest(counts: &[usize]) -> usize
+    ensures { (count : ℕ) → is_greatest counts.now count ≡ nat_le result count }
 {
-    counts.iter().all(|other| *other <= count)
+    let mut greatest = 0;
+    for count in counts {
+        greatest = greatest.max(*count);
+    }
+    greatest
 }
 
 fn greatest_among(
     alloc: Global,
-    names: &[Named],
+    groups: &BTreeMap<usize, Vec<Named>>,
     settled: &[u8],
-    counts: &[usize],
+    most: usize,
     scopes: &[Named],
 ) -> Result<Vec<Named>, AllocError>
-    ensures { IfOk result (λ v. v.items ≡ filter
-        (λ e. is_greatest counts.now (found_count names.now settled.now e.scope)) scopes.now) }
+    ensures { IfOk result (λ v. v.items ≡ filter (λ e.
+        nat_le most (found_count (group_at groups.now e.scope) settled.now e.scope)) scopes.now) }
 {
     scopes
         .iter()
         .copied()
-        .filter(|scope| is_greatest(counts, found_count(names, settled, scope.scope)))
+        .filter(|scope| {
+            most <= found_count(group_at(groups, scope.scope), settled, scope.scope)
+        })
         .collect(alloc)
 }
 
-#[tactic(auto, unfolding(crate::specs::Candidates::best_among))]
 fn best_among(
     alloc: Global,
     names: &[Named],
@@ -112,8 +132,9 @@ fn best_among(
 ) -> Result<Vec<Named>, AllocError>
     ensures { IfOk result (λ v. v.items ≡ best_among names.now settled.now scopes.now) }
 {
-    let counts = found_counts(alloc, names, settled, scopes)?;
-    greatest_among(alloc, names, settled, &counts, scopes)
+    let groups = groups_of(alloc, names)?;
+    let counts = found_counts(alloc, &groups, settled, scopes)?;
+    greatest_among(alloc, &groups, settled, greatest(&counts), scopes)
 }
 
 #[tactic(auto, unfolding(crate::specs::Candidates::is_alike))]

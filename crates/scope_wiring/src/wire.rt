@@ -10,7 +10,7 @@ use crate::meaning::{Meaning, meaning_of};
 use crate::taps::{bit_tap, tap_named, tap_of};
 use crate::text::LineOption;
 use scope_pick::{
-    Bit, Named, Range, Variable, base_of, bit_at, bit_in, bits, found_in, is_listed, line_named,
+    Bit, Header, Named, Range, Variable, base_of, bit_at, bit_in, bits, found_in, is_listed, line_named,
     line_width,
 };
 use std::alloc::{AllocError, Global};
@@ -215,7 +215,7 @@ fn bit_wire(
 
 #[tactic(auto, unfolding(crate::specs::Wirings::wire_in))]
 fn wire_in(
-    variables: &[Variable],
+    header: &Header<'_>,
     bits: &[Bit],
     names: &[Named],
     settled: &[u8],
@@ -224,7 +224,7 @@ fn wire_in(
     variable: &Variable,
 ) -> Option<Wire>
     ensures { result
-        ≡ wire_in variables.now bits.now names.now settled.now scope index variable.now }
+        ≡ wire_in header.now bits.now names.now settled.now scope index variable.now }
 {
     match line_wire(
         names,
@@ -240,14 +240,14 @@ fn wire_in(
             names,
             settled,
             scope,
-            bit_at(variables, index, variable),
+            bit_at(header, index, variable),
         ),
     }
 }
 
 #[tactic(auto, unfolding(crate::specs::Wirings::wire_at))]
 fn wire_at(
-    variables: &[Variable],
+    header: &Header<'_>,
     bits: &[Bit],
     names: &[Named],
     settled: &[u8],
@@ -255,11 +255,11 @@ fn wire_at(
     index: usize,
     variable: &Variable,
 ) -> Option<Wire>
-    ensures { result ≡ wire_at variables.now bits.now names.now settled.now home index variable.now }
+    ensures { result ≡ wire_at header.now bits.now names.now settled.now home index variable.now }
 {
     match home {
         Home::Nowhere => None,
-        Home::At(scope) => wire_in(variables, bits, names, settled, scope, index, variable),
+        Home::At(scope) => wire_in(header, bits, names, settled, scope, index, variable),
         Home::Refused(_) => None,
     }
 }
@@ -267,20 +267,21 @@ fn wire_at(
 #[tactic(auto, unfolding(crate::specs::Wirings::found_wires))]
 fn found_wires(
     alloc: Global,
-    variables: &[Variable],
+    header: &Header<'_>,
     bits: &[Bit],
     names: &[Named],
     settled: &[u8],
     home: Home,
 ) -> Result<Vec<Wire>, AllocError>
     ensures { IfOk result (λ v.
-        v.items ≡ found_wires variables.now bits.now names.now settled.now home) }
+        v.items ≡ found_wires header.now bits.now names.now settled.now home) }
 {
-    variables
+    header
+        .variables()
         .iter()
         .enumerate()
         .filter_map(|(index, variable)| {
-            wire_at(variables, bits, names, settled, home, index, variable)
+            wire_at(header, bits, names, settled, home, index, variable)
         })
         .collect(alloc)
 }
@@ -298,8 +299,9 @@ pub(crate) fn wires_with(
     ensures { IfOk result (λ v.
         v.items ≡ wires_with variables.now options.now names.now settled.now home) }
 {
-    let bits = bits(alloc, variables)?;
-    let found = found_wires(alloc, variables, &bits, names, settled, home)?;
+    let header = Header::new(alloc, variables)?;
+    let bits = bits(alloc, &header)?;
+    let found = found_wires(alloc, &header, &bits, names, settled, home)?;
     let mut wires = option_wires(alloc, variables, home, options)?;
     wires.extend_from_slice(&found)?;
     Ok(wires)

@@ -1,6 +1,6 @@
 -- What holds of an order, and of the texts that stand in place of one.
 use Rattle.std.specs.Prelude.{◌≡◌, ◌≤◌, ℕ, Bool, true, false, nat_lt, ⊤, ◌⊎◌, List, length, Option, Some, None, IfSome}
-use Rattle.scope_words.specs.Names.{Lines}
+use Rattle.scope_words.specs.Names.{Lines, SampledLines}
 use Rattle.scope_words.specs.declared.moment.Moment.{Moment}
 use Rattle.scope_words.specs.declared.moment.Moment.TheVariants.{Clock, Time}
 use Rattle.scope_words.specs.declared.order.Order.{Order}
@@ -29,7 +29,7 @@ IsName word = (1 ≤ length word) × (length word ≤ 4096)
 abbrev pub KeepsWires : Wires → Type 0
 KeepsWires wires =
     IfSome wires.choice.scope (λ scope. IsName scope.items) × Lines wires.choice.without.items
-    × IfSome wires.file (λ file. IsName file.now) × Lines wires.after.items
+    × IfSome wires.file (λ file. IsName file.now) × SampledLines wires.after.items
 
 -- both are numbers of clocks, and the end lies before the begin
 unfoldable pub ends_before : Option Moment → Option Moment → Bool

@@ -3,19 +3,25 @@
 ghost use Rattle.std.specs.Prelude.{◌≡◌, IfOk, IfErr, IfSome, Some, map};
 ghost use Rattle.scope_wiring.specs.Settling.{said_by};
 ghost use Rattle.scope_wiring.specs.Texts.{said};
-ghost use Rattle.scope_words.specs.Names.{Lines};
+ghost use Rattle.scope_words.specs.Names.{Lines, SampledLines};
 ghost use Rattle.scope_words.specs.Orders.{IsError, IsName, KeepsWires};
 
 use crate::names::read_line_names;
 use crate::order::{Edge, Wires};
 use crate::told::{Stop, wrong, wrong_value};
 use clap::ArgMatches;
-use scope_pick::line_named;
+use scope_pick::{is_listed, line_named};
 use scope_wiring::{Choice, LineOption, line_option};
 use std::alloc::Global;
 
 const LINES: &str =
     "the lines: BCLK, BREQ0_n to BREQ3_n, BPRI_n, LOCK_n, BNR_n, ADS_n, REQ_n, A_n, AERR_n, HIT_n, HITM_n, DEFER_n, RS_n, TRDY_n, DBSY_n, DRDY_n, D_n, AP_n, RP_n";
+
+const SAMPLED: &str =
+    "the lines: BREQ0_n to BREQ3_n, BPRI_n, LOCK_n, BNR_n, ADS_n, REQ_n, A_n, AERR_n, HIT_n, HITM_n, DEFER_n, RS_n, TRDY_n, DBSY_n, DRDY_n, D_n, AP_n, RP_n";
+
+/// The number of BCLK.
+const CLOCK: u8 = 0;
 
 const ONE_LINE: &str =
     "LINE=[!]PATH is wanted, as ADS_n=tb.dut.ads, A_n=tb.a[35:3] or HIT_n=!tb.hit";
@@ -160,18 +166,33 @@ fn left_out(alloc: Global, words: &[&str]) -> Result<Vec<u8>, Stop>
 
 // The lines that are sampled after the edge, by their numbers.
 fn late_lines(alloc: Global, words: &[&str]) -> Result<Vec<u8>, Stop>
-    ensures ok { IfOk result (λ v. Lines v.items) }
+    ensures ok { IfOk result (λ v. SampledLines v.items) }
     ensures err { IfErr result IsError }
 {
     let mut lines = Vec::new(alloc);
     for word in words {
-        match read_line_names(alloc, word.as_bytes())? {
-            None => {
-                let fault = "these are no lines of the bus with commas between";
-                return Err(wrong_value(alloc, "--after", *word, fault, LINES));
-            }
-            Some(more) => lines.extend_from_slice(&more)?,
-        }
+        let more = sampled_lines(alloc, *word)?;
+        lines.extend_from_slice(&more)?;
     }
     Ok(lines)
+}
+
+// The lines that a word names, but for the clock, by whose edge all are sampled.
+fn sampled_lines(alloc: Global, word: &str) -> Result<Vec<u8>, Stop>
+    ensures ok { IfOk result (λ v. SampledLines v.items) }
+    ensures err { IfErr result IsError }
+{
+    match read_line_names(alloc, word.as_bytes())? {
+        None => {
+            let fault = "these are no lines of the bus with commas between";
+            Err(wrong_value(alloc, "--after", word, fault, SAMPLED))
+        }
+        Some(lines) => {
+            if is_listed(&lines, CLOCK) {
+                let fault = "BCLK is the clock itself: its edge says when the others are sampled";
+                return Err(wrong_value(alloc, "--after", word, fault, SAMPLED));
+            }
+            Ok(lines)
+        }
+    }
 }

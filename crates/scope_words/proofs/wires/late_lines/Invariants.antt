@@ -1,6 +1,6 @@
--- The lines so far are lines of the bus.
-use Rattle.scope_words.specs.Names.{Lines}
+-- The lines so far are lines that the clock samples.
+use Rattle.scope_words.specs.Names.{SampledLines}
 use Rattle.scope_words.proofs.wires.late_lines.Given as goal
 
 abbrev pub invariant-loop-word : goal.invariant-loop-word
-invariant-loop-word l = Lines l.lines.items
+invariant-loop-word l = SampledLines l.lines.items

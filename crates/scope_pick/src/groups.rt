@@ -1,0 +1,47 @@
+//! The variables that are named like lines, by their scopes, so that those of one are at hand.
+
+ghost use Rattle.std.specs.Prelude.{◌≡◌, ℕ, ◌++◌, [], ◌∷◌, nat_eq, IfOk, OnOk, if◌then◌else◌};
+ghost use Rattle.scope_pick.specs.Groups.{group_at, AreGroups};
+
+use crate::wires::Named;
+use std::alloc::{AllocError, Global};
+use std::collections::BTreeMap;
+
+/// The variables of each scope, in the order of the header.
+pub fn groups_of(alloc: Global, names: &[Named]) -> Result<BTreeMap<usize, Vec<Named>>, AllocError>
+    ensures { IfOk result (λ groups. AreGroups groups names.now) }
+{
+    let mut groups = BTreeMap::new(alloc);
+    for name in names {
+        add(alloc, &mut groups, *name)?;
+    }
+    Ok(groups)
+}
+
+// Puts the variable behind the others of its scope.
+fn add(
+    alloc: Global,
+    groups: &mut BTreeMap<usize, Vec<Named>>,
+    name: Named,
+) -> Result<(), AllocError>
+    ensures { OnOk result ((scope : ℕ) → group_at groups.new scope
+        ≡ group_at groups.old scope ++ (if nat_eq name.scope scope then name ∷ [] else [])) }
+{
+    let mut group = match groups.remove(&name.scope) {
+        Some(group) => group,
+        None => Vec::new(alloc),
+    };
+    group.push(name)?;
+    groups.insert(name.scope, group)?;
+    Ok(())
+}
+
+/// The variables of the scope.
+pub fn group_at(groups: &BTreeMap<usize, Vec<Named>>, scope: usize) -> &[Named]
+    ensures { result.now ≡ group_at groups.now scope }
+{
+    match groups.get(&scope) {
+        Some(group) => group,
+        None => &[],
+    }
+}
