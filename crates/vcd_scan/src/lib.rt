@@ -13,6 +13,7 @@ pub use reader::ValueReader;
 pub use stop::ScanStop;
 pub use table::Wires;
 
+mod at_once;
 mod digits;
 mod early;
 mod heard;
