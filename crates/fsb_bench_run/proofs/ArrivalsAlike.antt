@@ -59,14 +59,9 @@ accesses-now n p q a k =
     ∙ next_item-alike n k.before q a n k.second (omega arith) in
     λ i. option_map_or (λ m. option_map_or (completed_of_item a m) (item i) []) (number i) []
 
-completed-now : (n : ℕ) (p q : Past) (a : ℕ) → DifferNow n p q
-    → completed_if p n (is_arrival p a n) a ≡ completed_if q n (is_arrival q a n) a
-unfolding completed_if
-completed-now n p q a k = grind (arith, arrival-now, accesses-now)
-
 arrivals-now : (n : ℕ) (p q : Past) → DifferNow n p q → arrivals_at p n ≡ arrivals_at q n
-unfolding of_all_agents
-arrivals-now n p q k = grind (arith, completed-now)
+unfolding of_all_agents completed_if
+arrivals-now n p q k = grind (arith, arrival-now, accesses-now)
 
 -- the moment of the clock is the same
 moment-now : (v : BenchView) (hold : Bool) (choice : Choice) (old new : List Done)

@@ -46,24 +46,16 @@ use Rattle.fsb_bench_run.proofs.StepFields.{performed-begun}
 use Rattle.fsb_bench_run.proofs.ThisClock.{holds-now}
 use Rattle.fsb_bench_run.proofs.StepWith.{IsStepWith}
 
-same-agents : (a b : Who) → is_same_agent b a ≡ is_same_who a b
-unfolding is_same_agent
-same-agents a b = grind arith
-
-before-parts : (s : Run) (n : ℕ) (who : Who) → began_before s n who ≡ true
-    → (1 ≤ n) × (line_at ADS s.trace (n - 1) ≡ true)
-unfolding began_before begins_at
-before-parts s n who e = grind arith
-
 before-off : (s : Run) (n : ℕ) (who : Who) → ((1 ≤ n) → line_at ADS s.trace (n - 1) ≡ true → ⊥)
     → began_before s n who ≡ false
-before-off s n who off = grind (arith, before-parts)
+unfolding began_before begins_at
+before-off s n who off = grind arith
 
 before-on : (s : Run) (n q : ℕ) (last who : Who) → q + 1 ≡ n → line_at ADS s.trace q ≡ true
     → winner_at s.trace q ≡ Some last
     → began_before s n who ≡ is_same_who last who
-unfolding began_before begins_at is_agent is_some_and
-before-on s n q last who e ads won = grind (arith, same-agents)
+unfolding began_before begins_at is_agent is_some_and is_same_agent
+before-on s n q last who e ads won = grind arith
 
 began-latest : (r s : Run) (o : Option Latest) (who : Who) → GrowsTo r s → IsLatestOf o r
     → began_by o (length r.trace) who ≡ began_before s (length r.trace) who

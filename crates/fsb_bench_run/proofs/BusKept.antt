@@ -1,34 +1,25 @@
 -- What a bench has before the snoop end of its clock: what was served, and as many deferrals as before.
-use Rattle.std.proofs.Common.{ℕ, ◌≡◌, Bool, Option, List, length, ap, ◌∙◌, arith}
+use Rattle.std.proofs.Common.{ℕ, ◌≡◌, Bool, Option, length, ap, ◌∙◌, arith}
 use Rattle.std.specs.Option.{option_map_or}
 use Rattle.std.proofs.lemmas.List.{length-map}
 use Rattle.fsb_bridge.specs.Deferrals.{Bridged}
-use Rattle.fsb_bridge.specs.declared.deferral.Waiting.{Waiting}
 use Rattle.fsb_queue.specs.declared.entry.Entry.{Entry}
-use Rattle.fsb_trace.specs.declared.who.Who.{Who}
 use Rattle.fsb_bench_view.specs.declared.beginning.Starting.{Starting}
 use Rattle.fsb_bench_view.specs.BenchSteps.{step_cancelled, step_decided, step_performed, step_started}
-use Rattle.fsb_bench_view.specs.BusEvents.{bus_cancelled, bus_started, waiting_cancelled, waiting_started}
+use Rattle.fsb_bench_view.specs.BusEvents.{bus_cancelled, bus_started}
 use Rattle.fsb_bench_view.specs.BusViews.{BenchView, BusView, next_clock_of}
 use Rattle.fsb_bench_run.proofs.SameBus.{same-performed}
 
 pub served-cancelled : (v : BenchView) (hold : Bool) → (step_cancelled v hold).served ≡ v.bus.served
 served-cancelled v hold = grind (arith, same-performed)
 
--- and so many deferrals wait
-length-begun : (did : ℕ) (who : Who) (list : List Waiting) → length (waiting_started did who list) ≡ length list
-length-begun did who list = grind (arith, length-map)
-
-length-given-up : (did : ℕ) (who : Who) (list : List Waiting) → length (waiting_cancelled did who list) ≡ length list
-length-given-up did who list = grind (arith, length-map)
-
 waiting-started : (bus : BusView) (clock : ℕ) (o : Option Starting)
     → length (option_map_or (bus_started bus clock) o bus).bridge.waiting ≡ length bus.bridge.waiting
-waiting-started bus clock o = grind (arith, length-begun)
+waiting-started bus clock o = grind (arith, length-map)
 
 waiting-then : (bus : BusView) (o : Option Entry)
     → length (option_map_or (bus_cancelled bus) o bus).bridge.waiting ≡ length bus.bridge.waiting
-waiting-then bus o = grind (arith, length-given-up)
+waiting-then bus o = grind (arith, length-map)
 
 pub waiting-cancelled : (v : BenchView) (hold : Bool)
     → length (step_cancelled v hold).bridge.waiting ≡ length v.bus.bridge.waiting

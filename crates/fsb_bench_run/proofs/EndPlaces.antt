@@ -93,7 +93,6 @@ unended : (r : Run) (queue : List Entry) (k x : ℕ) (e : Entry) → HoldsReques
     → end_of r.trace (rank_of r.trace e) ≡ Some x → x < length r.trace → ⊥
 unfolding is_in_flight has_ended
 unended r queue k x e f at end l =
-    let n = length r.trace in
     let here = held-here r queue k e f at in
     let flies = flies-at r queue k e f at in
     grind (arith, is_before-from)

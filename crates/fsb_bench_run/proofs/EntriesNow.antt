@@ -6,8 +6,6 @@ use Rattle.std.specs.Option.{option_map_or}
 use Rattle.std.proofs.lemmas.Bool.{and_from}
 use Rattle.std.proofs.lemmas.Option.{slice_get_past}
 use Rattle.std.proofs.lemmas.List.Elements.{filter-append}
-use Rattle.fsb_access.specs.declared.access.Access.{Access}
-use Rattle.fsb_access.specs.declared.access.Operand.{Operand}
 use Rattle.fsb_access.specs.declared.item.Item.{Item}
 use Rattle.fsb_access.specs.declared.log.Done.{Done}
 use Rattle.fsb_access.specs.ScriptOrder.{Step, step_of}
@@ -45,18 +43,9 @@ pub entries-there : (p : Past) (n : ℕ) (old new : List Done) → p.log ≡ old
 unfolding entries_at
 entries-there p n old new e early at = grind (arith, old-off, new-on, filter-append)
 
--- equal lists of what is completed are the same
-operand-same : (x : Operand) → is_operand x x ≡ true
-unfolding is_operand
-operand-same x = grind arith
-
-access-same : (x : Access) → is_access x x ≡ true
-unfolding is_access
-access-same x = grind (arith, operand-same)
-
 completed-same : (x : Completed) → is_completed x x ≡ true
-unfolding is_completed
-completed-same x = grind (arith, access-same)
+unfolding is_completed is_access is_operand
+completed-same x = grind arith
 
 pub all-completed : (xs : List Completed) → are_completed xs xs ≡ true
 unfolding are_completed

@@ -9,7 +9,7 @@ use Rattle.std.proofs.lemmas.Bool.{eqb-true}
 use Rattle.fsb_access.specs.ScriptOrder.{Step}
 use Rattle.fsb_agent_view.specs.AgentEvents.{AgentEvent, agent_after}
 use Rattle.fsb_agent_view.specs.AgentViews.{AgentView, is_finished_at}
-use Rattle.fsb_agent_view.specs.Arriving.{ended_entries_for, met_entries}
+use Rattle.fsb_agent_view.specs.Arriving.{met_entries}
 use Rattle.fsb_agent_view.specs.Completing.{is_hit_by, performed}
 use Rattle.fsb_agent_view.specs.Serving.{AtHand, entries_at_hand, hand_after}
 use Rattle.fsb_agent_view.specs.Snooping.{committed}
@@ -23,7 +23,6 @@ use Rattle.fsb_timely.specs.Hits.{is_hit}
 use Rattle.fsb_timely.specs.Runs.{past_of}
 use Rattle.fsb_timely.specs.Scripts.{is_done_at}
 use Rattle.fsb_trace.specs.declared.outcome.Outcome.{Outcome}
-use Rattle.fsb_trace.specs.declared.who.Who.{Who}
 use Rattle.fsb_bench_view.specs.declared.beginning.Starting.{Starting}
 use Rattle.fsb_bench_view.specs.declared.decided.Decided.{Decided}
 use Rattle.fsb_bench_view.specs.declared.decided.Ending.{Ending}
@@ -31,8 +30,8 @@ use Rattle.fsb_bench_view.specs.declared.snoop.SnoopSettled.{SnoopSettled}
 use Rattle.fsb_bench_view.specs.BenchSteps.{step_answered, step_decided, step_ending, step_entries, step_performed}
 use Rattle.fsb_bench_view.specs.BenchSteps.{step_phased, step_run}
 use Rattle.fsb_bench_view.specs.BusEvents.{answered_by, bus_answered, bus_cancelled, bus_snooped, bus_started}
-use Rattle.fsb_bench_view.specs.BusEvents.{cancelled_event, end_entries, entries_ended, heard_answer, heard_cancel}
-use Rattle.fsb_bench_view.specs.BusEvents.{heard_entries, heard_snoop, heard_start, starting_event}
+use Rattle.fsb_bench_view.specs.BusEvents.{end_entries, heard_answer, heard_cancel, heard_entries, heard_snoop}
+use Rattle.fsb_bench_view.specs.BusEvents.{heard_start}
 use Rattle.fsb_bench_view.specs.BusViews.{BenchView, BusView, next_clock_of}
 use Rattle.fsb_bench_view.specs.ToldAgents.{agents_told}
 use Rattle.fsb_bench_run.specs.BenchOf.{IsBenchOf}
@@ -62,14 +61,6 @@ told-kept : (events : ℕ → List AgentEvent) (us : List AgentView)
     → KeepsPlaces us (agents_told events 0 us)
 told-kept events us keeps = grind (arith, told-at)
 
-starting-kept : (clock : ℕ) (who : Who) (us : List AgentView)
-    → KeepsPlaces us (agents_told (starting_event clock who) 0 us)
-starting-kept clock who us = grind (arith, told-kept)
-
-cancelled-kept : (number : ℕ) (who : Who) (us : List AgentView)
-    → KeepsPlaces us (agents_told (cancelled_event number who) 0 us)
-cancelled-kept number who us = grind (arith, told-kept)
-
 committed-kept : (u : AgentView) (number : ℕ) (mine : Bool) (request : Request) (shared : Bool) (outcome : Outcome)
     → KeepsPlace u (committed u number mine request shared outcome)
 committed-kept u number mine request shared outcome = grind arith
@@ -77,11 +68,11 @@ committed-kept u number mine request shared outcome = grind arith
 -- up to the end of the clock the agents keep their places
 start-kept : (bus : BusView) (clock : ℕ) (o : Option Starting)
     → KeepsPlaces bus.agents (option_map_or (bus_started bus clock) o bus).agents
-start-kept bus clock o = grind (arith, all-kept, starting-kept)
+start-kept bus clock o = grind (arith, all-kept, told-kept)
 
 cancel-kept : (bus : BusView) (o : Option Entry)
     → KeepsPlaces bus.agents (option_map_or (bus_cancelled bus) o bus).agents
-cancel-kept bus o = grind (arith, all-kept, cancelled-kept)
+cancel-kept bus o = grind (arith, all-kept, told-kept)
 
 snoop-kept : (bus : BusView) (o : Option SnoopSettled)
     → KeepsPlaces bus.agents (option_map_or (bus_snooped bus) o bus).agents
@@ -123,18 +114,6 @@ none-arrived : (a clock : ℕ) (w : AgentView) (bytes : List ℕ) → HasNone a 
 none-arrived a clock w bytes h None = refl
 none-arrived a clock w bytes h (Some out) = none-met a clock w out bytes h
 
-none-kept : (a clock : ℕ) (w : AgentView) (out : OwnRequest) → HasNone a clock w → (o : Option (List ℕ))
-    → list_any (is_done_at a clock) (elim o [ Some bytes ↦ met_entries w clock out bytes | None ↦ [] ]) ≡ false
-none-kept a clock w out h1 o = grind (arith, none-met)
-
-none-upgraded : (a clock : ℕ) (w : AgentView) → HasNone a clock w → (o : Option OwnRequest)
-    → list_any (is_done_at a clock) (option_map_or (ended_entries_for w clock) o []) ≡ false
-none-upgraded a clock w h1 o = grind (arith, none-kept)
-
-none-ended : (a clock first : ℕ) (bytes : List ℕ) (o : Outcome) (w : AgentView) → HasNone a clock w
-    → list_any (is_done_at a clock) (entries_ended clock first bytes o w) ≡ false
-none-ended a clock first bytes o w h1 = grind (arith, none-arrived, none-upgraded)
-
 -- one of two agents
 abbrev either : Bool → AgentView → AgentView → AgentView
 either b u w = elim b [ true ↦ u | false ↦ w ]
@@ -163,15 +142,10 @@ answered-none v hold a b w bench hit at =
     k.2.number ∙ ap (λ (u : AgentView). u.number) f.2 ∙ performed-number f.0 n ∙ view.agent.number in
     grind (arith, eqb-true, performed-finished)
 
-none-of-end : (a clock first : ℕ) (bytes : List ℕ) (outcome : Outcome) (o : Option AgentView)
-    → ((w : AgentView) → o ≡ Some w → HasNone a clock w)
-    → list_any (is_done_at a clock) (option_map_or (entries_ended clock first bytes outcome) o []) ≡ false
-none-of-end a clock first bytes outcome o h1 = grind (arith, none-ended)
-
 none-of-ending : (a clock : ℕ) (bus : BusView) (o : Option Ending)
     → ((b : ℕ) (w : AgentView) → slice_get bus.agents b ≡ Some w → HasNone a clock w)
     → list_any (is_done_at a clock) (option_map_or (end_entries bus clock) o []) ≡ false
-none-of-ending a clock bus o h1 = grind (arith, none-of-end)
+none-of-ending a clock bus o h1 = grind (arith, none-arrived, none-met)
 
 pub first-entries : (v : BenchView) (hold : Bool) → IsBenchOf v → HasHitsFirst v (step_entries v hold)
 first-entries v hold b = record {

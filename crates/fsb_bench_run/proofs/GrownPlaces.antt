@@ -18,16 +18,12 @@ use Rattle.fsb_timely.specs.Past.{Past}
 use Rattle.fsb_timely.specs.Scripts.{idle_start, is_done_by, is_logged, items_of, last_done, number_after}
 use Rattle.fsb_timely.proofs.Interface.{last-same, last_where-found, next_number-alike}
 
--- an entry of clock n or later is no entry below c
-done-later : (n a c : ℕ) (done : Done) → c ≤ n → nat_le n done.clock ≡ true → is_done_by a c done ≡ false
-unfolding is_done_by
-done-later n a c done l e = grind arith
-
 none-logged : (n a c k : ℕ) (entries : List Done) → c ≤ n
     → list_all (λ (done : Done). nat_le n done.clock) entries ≡ true
     → list_any (λ (done : Done). is_done_by a c done && nat_eq done.item k) entries ≡ false
+unfolding is_done_by
 none-logged n a c k [] l e = refl
-none-logged n a c k (done ∷ entries) l e = grind (arith, done-later, none-logged n a c k entries l)
+none-logged n a c k (done ∷ entries) l e = grind (arith, none-logged n a c k entries l)
 
 -- what is logged below the clock
 pub logged-alike : (n : ℕ) (p q : Past) (a c k : ℕ) → GoesOn n p q → c ≤ n → is_logged p a c k ≡ is_logged q a c k
@@ -52,18 +48,13 @@ all-at test [] j x e f = absurd (let h : ⊥ = cc in h)
 all-at test (y ∷ ys) zero x e f = grind arith
 all-at test (y ∷ ys) (suc j) x e f = all-at test ys j x (and_parts (test y) (list_all test ys) e).1 f
 
-later-by : (n a c : ℕ) (entries : List Done) (j : ℕ) → c ≤ n
-    → list_all (λ (done : Done). nat_le n done.clock) entries ≡ true → (o : Option Done) → slice_get entries j ≡ o
-    → is_some_and o (is_done_by a c) ≡ false
-unfolding is_some_and
-later-by n a c entries j h1 h2 o h3 = grind (arith, done-later, all-at)
-
 -- past the old log no entry lies below c
 later-quiet : (n : ℕ) (p q : Past) (a c k : ℕ) → GoesOn n p q → c ≤ n → length p.log ≤ k
     → is_some_and (slice_get q.log k) (is_done_by a c) ≡ false
+unfolding is_some_and is_done_by
 later-quiet n p q a c k h l m =
     let e : length p.log + (k - length p.log) ≡ k = omega arith in
-    grind (arith, get-behind, later-by)
+    grind (arith, get-behind, all-at)
 
 entry-same : (n : ℕ) (p q : Past) (k : ℕ) → GoesOn n p q → k < length p.log → slice_get p.log k ≡ slice_get q.log k
 entry-same n p q k h l = sym (ap (λ xs. slice_get xs k) h.more_log ∙ slice_get-before p.log h.entries k l)
@@ -98,7 +89,6 @@ pub placed-alike : (n : ℕ) (p q : Past) (a c : ℕ) (v : AgentView) → GoesOn
     → IsPlacedIn q a c v
 unfolding items_of idle_start number_after
 placed-alike n p q a c v h l k =
-    let plan = h.same_plan in
     let number = next_number-alike n p q a c h l in
     let done = last_done-alike n p q a c h l in
     grind arith

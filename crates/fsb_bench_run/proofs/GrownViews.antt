@@ -1,6 +1,6 @@
 -- The record of an agent is that of the agent also in the run that has grown by a clock.
-use Rattle.std.proofs.Common.{ℕ, zero, suc, ◌<◌, ◌≤◌, ◌≡◌, Bool, true, false, ◌&&◌, nat_eq, nat_lt, nat_le, List, []}
-use Rattle.std.proofs.Common.{◌∷◌, map, length, Option, Some, slice_get, refl, sym, ap, subst, ◌∙◌, arith}
+use Rattle.std.proofs.Common.{ℕ, zero, suc, ◌<◌, ◌≡◌, Bool, true, false, ◌&&◌, nat_eq, nat_lt, nat_le, List, [], ◌∷◌}
+use Rattle.std.proofs.Common.{map, length, Some, slice_get, refl, sym, ap, subst, ◌∙◌, arith}
 use Rattle.std.proofs.lemmas.Bool.{eq-eqb}
 use Rattle.std.proofs.lemmas.List.Folds.{list_any-append}
 use Rattle.std.specs.List.{filter, list_all, list_any}
@@ -14,8 +14,6 @@ use Rattle.fsb_agent_view.specs.declared.want.OwnRequest.{OwnRequest}
 use Rattle.fsb_coherent.specs.Awaits.{snoop_end_below}
 use Rattle.fsb_coherent.specs.Relation.{is_dirty_below, is_stored_below}
 use Rattle.fsb_coherent.proofs.Interface as coherent
-use Rattle.fsb_count.specs.Clocks.{first_where}
-use Rattle.fsb_count.specs.Options.{is_some_and}
 use Rattle.fsb_count.proofs.Interface.{any_where-same, first_where-found, first_where-same}
 use Rattle.fsb_lawful.proofs.Interface as lawful
 use Rattle.fsb_run_laws.specs.Reaches.{Reaches}
@@ -24,7 +22,6 @@ use Rattle.fsb_run_laws.proofs.Interface.{begun-wanted, owed-told}
 use Rattle.fsb_timely.specs.Grants.{ended_requests, is_end_at, is_ended, snooped_at}
 use Rattle.fsb_timely.specs.Growth.{GoesOn, GrowsTo}
 use Rattle.fsb_timely.specs.Hits.{is_store_on}
-use Rattle.fsb_timely.specs.Moments.{is_snoop_of}
 use Rattle.fsb_timely.specs.Past.{Moment, Owing, Past}
 use Rattle.fsb_timely.specs.Runs.{Run, past_of}
 use Rattle.fsb_timely.specs.Scripts.{items_of}
@@ -39,17 +36,9 @@ snooped-same : (n : ℕ) (p q : Past) (t : ℕ) → Alike n p q → t < n → sn
 unfolding snooped_at
 snooped-same n p q t h l = ap (option_and_then (λ (m : Moment). m.snooped)) (h.same_moments t l)
 
-end-same : (n : ℕ) (p q : Past) (t x : ℕ) → Alike n p q → t < n → is_end_at p t x ≡ is_end_at q t x
-unfolding is_end_at ended_requests
-end-same n p q t x h l = grind arith
-
-ended-same : (n : ℕ) (p q : Past) (c x : ℕ) → Alike n p q → c ≤ n → is_ended p c x ≡ is_ended q c x
-unfolding is_ended
-ended-same n p q c x h l = grind (arith, any_where-same, end-same)
-
 awaited-same : (n : ℕ) (p q : Past) (a line : ℕ) → Alike n p q → is_awaited p a line n n ≡ is_awaited q a line n n
-unfolding is_awaited
-awaited-same n p q a line h = grind (arith, latest_grant-same, ended-same)
+unfolding is_awaited is_ended is_end_at ended_requests
+awaited-same n p q a line h = grind (arith, latest_grant-same, any_where-same)
 
 -- no entry that comes is a store below the clock
 none-stored : (q : Past) (n a line x : ℕ) (entries : List Done)
@@ -59,28 +48,18 @@ none-stored : (q : Past) (n a line x : ℕ) (entries : List Done)
 none-stored q n a line x [] e = refl
 none-stored q n a line x (done ∷ entries) e = grind (arith, none-stored q n a line x entries)
 
-stored-test : (n : ℕ) (p q : Past) (a line x : ℕ) (done : Done) → Alike n p q
-    → (is_store_on a line done && is_ended p done.clock x && nat_lt done.clock n)
-    ≡ (is_store_on a line done && is_ended q done.clock x && nat_lt done.clock n)
-stored-test n p q a line x done h = grind (arith, ended-same)
-
 stored-same : (n : ℕ) (p q : Past) (a line x : ℕ) → GoesOn n p q
     → is_stored_below p a line n x ≡ is_stored_below q a line n x
-unfolding is_stored_below
-stored-same n p q a line x h = grind (arith, stored-test, list_any-append, none-stored)
+unfolding is_stored_below is_ended is_end_at ended_requests
+stored-same n p q a line x h = grind (arith, any_where-same, list_any-append, none-stored)
 
 dirty-same : (n : ℕ) (p q : Past) (a line : ℕ) → GoesOn n p q → is_dirty_below p a line n ≡ is_dirty_below q a line n
 unfolding is_dirty_below
 dirty-same n p q a line h = grind (arith, is_exclusive-same, latest_grant-same, stored-same)
 
-found-same : (n : ℕ) (p q : Past) (x : ℕ) → Alike n p q → (o : Option ℕ)
-    → first_where (λ t. is_some_and (snooped_at p t) (is_snoop_of x)) n ≡ o
-    → option_and_then (snooped_at p) o ≡ option_and_then (snooped_at q) o
-found-same n p q x h1 o h2 = grind (arith, snooped-same, first_where-found)
-
 won-same : (n : ℕ) (p q : Past) (x : ℕ) → Alike n p q → is_won_below p n x ≡ is_won_below q n x
 unfolding is_won_below snoop_end_below
-won-same n p q x h = grind (arith, snooped-same, found-same, first_where-same)
+won-same n p q x h = grind (arith, snooped-same, first_where-found, first_where-same)
 
 get-mapped : {X Y : Type 0} (f : X → Y) (xs : List X) (k : ℕ) (x : X) → slice_get xs k ≡ Some x
     → slice_get (map f xs) k ≡ Some (f x)

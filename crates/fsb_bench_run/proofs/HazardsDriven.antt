@@ -4,7 +4,7 @@ use Rattle.std.proofs.Common.{List, [], ◌∷◌, ◌++◌, length, is_none, is
 use Rattle.std.proofs.Common.{arith, inl, inr, subst}
 use Rattle.std.specs.Bool.{beq}
 use Rattle.std.specs.List.{find, slice_get}
-use Rattle.std.specs.Option.{option_and_then, option_map, option_map_or}
+use Rattle.std.specs.Option.{option_and_then, option_map_or}
 use Rattle.std.proofs.lemmas.Bool.{and_from, and_parts, both_ways, eqb-true, false_from_ne_true, le-leb, leb-true}
 use Rattle.fsb_count.specs.Clocks.{any_where}
 use Rattle.fsb_count.specs.Options.{is_some_and}
@@ -42,10 +42,9 @@ use Rattle.fsb_timely.specs.Snoops.{keeps_snoop_lines}
 use Rattle.fsb_timely.specs.Timely.{Timely, holds_at}
 use Rattle.fsb_phase_run.specs.Holds.{HoldsRequests}
 use Rattle.fsb_phase_run.proofs.Interface.{agree-grown, choice-same, entry-held, snoops-first, stall-drive}
-use Rattle.fsb_bench_view.specs.declared.beginning.Started.{Started}
 use Rattle.fsb_bench_view.specs.BenchSteps.{step_decided, step_drive, step_performed, step_sample}
 use Rattle.fsb_bench_view.specs.BusDecisions.{is_cancelled_by}
-use Rattle.fsb_bench_view.specs.BusSnooping.{snooped_entry, snooped_for, snooped_reply, turn_counted}
+use Rattle.fsb_bench_view.specs.BusSnooping.{snooped_entry, snooped_for, turn_counted}
 use Rattle.fsb_bench_view.specs.BusViews.{BenchView, BusView, next_clock_of}
 use Rattle.fsb_bench_run.specs.BenchOf.{IsBegunAt, IsBenchOf}
 use Rattle.fsb_bench_run.proofs.RunWith.{run_with}
@@ -207,14 +206,10 @@ turn-now v hold choice entries b told grows k =
     end-turn r s e grows k.told (decoded-now v hold choice entries b grows k)
     ∙ (λ i. effective_turn (choice_is i).turn e.request (window i) (pending i))
 
--- DEFER#
-begun-keeps : (y : Entry) (d : Deferral) (o : Option Started) → defer_driven (option_map (snooped_reply y d) o) ≡ false
-unfolding is_keep
-begun-keeps y d o = grind arith
-
 reply-keeps : (bus : BusView) (y : Entry) (o : Option Deferral)
     → defer_driven (option_and_then (snooped_for bus y) o) ≡ false
-reply-keeps bus y o = grind (arith, begun-keeps)
+unfolding is_keep
+reply-keeps bus y o = grind arith
 
 put-off-by : (v : BenchView) (hold : Bool) (choice : Choice) (entries : List Done) → IsBenchOf v
     → DeferralsTold v (run_with v hold choice entries)

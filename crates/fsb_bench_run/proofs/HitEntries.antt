@@ -1,9 +1,8 @@
 -- The entries of a clock that begin with those of the hits: each agent with a hit has the accesses of its next item
 -- there,
 -- and so the agents of the bench after the hits are those of the longer run.
-use Rattle.std.proofs.Common.{ℕ, zero, suc, ◌+◌, ◌-◌, ◌<◌, ◌≤◌, ◌≡◌, Bool, true, false, ◌&&◌, nat_eq, nat_lt, Option}
-use Rattle.std.proofs.Common.{Some, List, [], ◌∷◌, ◌++◌, length, slice_get, refl, sym, ap, subst, ◌∙◌, arith}
-use Rattle.std.proofs.Common.{append-nil}
+use Rattle.std.proofs.Common.{ℕ, zero, suc, ◌+◌, ◌-◌, ◌<◌, ◌≡◌, Bool, true, false, ◌&&◌, nat_eq, Option, Some, List}
+use Rattle.std.proofs.Common.{[], ◌∷◌, ◌++◌, length, slice_get, refl, sym, ap, subst, ◌∙◌, arith, append-nil}
 use Rattle.std.specs.List.{list_all, list_any}
 use Rattle.std.proofs.lemmas.Bool.{and_parts, eq-eqb, eqb-true, lt-ltb, ne_eqb}
 use Rattle.std.proofs.lemmas.List.{map-append}
@@ -155,13 +154,9 @@ record IsNextItem (p : Past) (a n : ℕ) : Type 0 where
   pub is_item : next_item p a n ≡ Some item
   pub active : is_idle item ≡ false
 
-next-is : (p : Past) (a n : ℕ) (test : Item → Bool) → is_some_and (next_item p a n) test ≡ true → IsNextItem p a n
-unfolding next_item next_number is_to_do is_some_and
-next-is p a n test e = grind (arith, first_where-found)
-
 hit-next : (p : Past) (a n : ℕ) → is_hit p a n ≡ true → IsNextItem p a n
-unfolding is_hit
-hit-next p a n e = grind (arith, next-is)
+unfolding is_hit next_item next_number is_to_do is_some_and
+hit-next p a n e = grind (arith, first_where-found)
 
 -- the last entry of an agent that has one among those that come at the clock
 record IsLastOf (p : Past) (a n : ℕ) : Type 0 where
@@ -188,8 +183,6 @@ last-comes p a n m old new split now e =
     let last = last_where-from test (length p.log) place (slice_get_within p.log place some.entry found) here in
     let passes = last_where-found test (length p.log) last.0 last.1 in
     let there = some-there (slice_get p.log last.0) (is_done_by a (n + 1)) passes.1 in
-    let own = and_parts (nat_eq there.0.agent a) (nat_lt there.0.clock (n + 1)) there.2 in
-    let above : place ≤ last.0 = last.2 in
     let size : length old + (last.0 - length old) ≡ last.0 = omega arith in
     let new_at : slice_get new (last.0 - length old) ≡ Some there.0 =
     sym (get-behind old new (last.0 - length old))

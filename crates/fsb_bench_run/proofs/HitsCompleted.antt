@@ -1,8 +1,7 @@
 -- The entries of a clock's hits are what the run completes by them there.
-use Rattle.std.proofs.Common.{ℕ, ◌≡◌, Some, List, [], ◌++◌, length, map, append-nil, append_assoc, ap, arith}
+use Rattle.std.proofs.Common.{ℕ, ◌≡◌, Some, List, ◌++◌, length, map, append-nil, append_assoc, arith}
 use Rattle.std.specs.List.{slice_get}
 use Rattle.std.proofs.lemmas.List.{map-append}
-use Rattle.fsb_access.specs.declared.log.Done.{Done}
 use Rattle.fsb_agent_view.specs.AgentViews.{AgentView}
 use Rattle.fsb_agent_view.specs.Completing.{performed_entries}
 use Rattle.fsb_agent_run.specs.Stages.{IsViewOf}
@@ -35,11 +34,6 @@ one-completes v s a w k at =
     hit-completes p a n w view (hit-by p a n (λ line. is_dirty_below p a line n) w view.agent
     (placed-at p a n w view.placed) view.lines)
 
-four-mapped : (w0 w1 w2 w3 : List Done)
-    → map completed_of (w0 ++ (w1 ++ (w2 ++ (w3 ++ []))))
-    ≡ map completed_of w0 ++ (map completed_of w1 ++ (map completed_of w2 ++ map completed_of w3))
-four-mapped w0 w1 w2 w3 = grind (arith, append-nil, map-append)
-
 left-four : (a b c d : List Completed) → a ++ (b ++ (c ++ d)) ≡ ((a ++ b) ++ c) ++ d
 left-four a b c d = simp append_assoc
 
@@ -48,8 +42,6 @@ pub hits-completed : (v : BenchView) (s : Run) → AgentsFound v s
     ≡ of_all_agents (λ a. completed_if (past_of s) (next_clock_of v) (is_hit (past_of s) a (next_clock_of v)) a)
 unfolding of_all_agents
 hits-completed v s k =
-    let n = next_clock_of v in
     let vs = (step_fetched v).agents in
     let q = is-four vs k.four in
-    let e0 = one-completes v s 0 q.first k (ap (λ xs. slice_get xs 0) q.same) in
-    grind (arith, one-completes, four-mapped, left-four)
+    grind (arith, one-completes, append-nil, map-append, left-four)

@@ -47,12 +47,6 @@ use Rattle.fsb_bench_run.proofs.StepWith.{IsStepWith, begins-with}
 pub same-bools : (a b : Bool) → (a ≡ true → b ≡ true) → (b ≡ true → a ≡ true) → a ≡ b
 same-bools a b h1 h2 = grind arith
 
-since-next : (p : Past) (a c : ℕ)
-    → (holds_since (is_locked_request p a) (is_released_before p a) (suc c) && not (is_released_before p a (suc c)))
-    ≡ (holds_since (is_locked_request p a) (is_released_before p a) (c + 1) && not (is_release p a c))
-unfolding is_released_before
-since-next p a c = grind arith
-
 keeps-since : (p : Past) (c a : ℕ)
     → keeps_lock p c a ≡ holds_since (is_locked_request p a) (is_released_before p a) (c + 1)
 unfolding keeps_lock
@@ -72,12 +66,13 @@ since-zero gain loss = refl
 
 -- an agent keeps the bus locked where it begins a locked request, or keeps it locked into the clock
 pub keeps_lock-into : (p : Past) (c a : ℕ) → keeps_lock p c a ≡ (is_locked_request p a c || keeps_into p c a)
+unfolding is_released_before
 keeps_lock-into p zero a =
     keeps-since p 0 a ∙ holds_since-more (is_locked_request p a) (is_released_before p a) 0
     ∙ ap (λ b. is_locked_request p a 0 || b)
     (ap (λ b. b && not (is_released_before p a 0)) (since-zero (is_locked_request p a) (is_released_before p a))
     ∙ sym (into-zero p a))
-keeps_lock-into p (suc c) a = grind (arith, keeps-since, holds_since-more, since-next, into-suc)
+keeps_lock-into p (suc c) a = grind (arith, keeps-since, holds_since-more, into-suc)
 
 -- who begins a request has begun it
 pub agent-begins : (r : Run) (q a : ℕ) (request : Request) → q < length r.trace → IsBegunAt r q (Symmetric a) request

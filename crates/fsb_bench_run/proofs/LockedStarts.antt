@@ -30,24 +30,14 @@ use Rattle.fsb_access.specs.declared.log.Done.{Done}
 use Rattle.fsb_bench_run.proofs.RunWith.{run_with}
 use Rattle.fsb_bench_run.proofs.StepWith.{IsStepWith}
 
--- the winner's claim is that of the agent
-agent-won : (w : Trace) (q a : ℕ) (o : Option Who) → winner_at w q ≡ o → agent_at w q ≡ Some a → o ≡ Some (Symmetric a)
-unfolding agent_at
-agent-won w q a o h1 h2 = grind arith
-
-claimed-by : (w : Trace) (q : ℕ) (claim : Claim) → claim_at w q ≡ Some claim
-    → winner_at w q ≡ Some (Symmetric claim.agent)
-unfolding claim_at
-claimed-by w q claim e = grind (arith, agent-won)
-
 claim-there : (w : Trace) (q : ℕ) (claim : Claim) (b : Bool) → (if b then claim_at w q else None) ≡ Some claim
     → claim_at w q ≡ Some claim
 claim-there w q claim b h1 = grind arith
 
 winner-of : (w : Trace) (q a : ℕ) (o : Option Claim) → o ≡ (if line_at ADS w q then claim_at w q else None)
     → is_some_and o (λ (claim : Claim). nat_eq claim.agent a) ≡ true → winner_at w q ≡ Some (Symmetric a)
-unfolding is_some_and
-winner-of w q a o h1 h2 = grind (arith, claimed-by)
+unfolding is_some_and claim_at agent_at
+winner-of w q a o h1 h2 = grind arith
 
 -- an agent that begins a request is the winner
 pub begun-by-agent : (r : Run) (a q : ℕ) → q < length r.trace → is_begun_by (past_of r) a q ≡ true

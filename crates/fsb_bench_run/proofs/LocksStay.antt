@@ -2,18 +2,17 @@
 use Rattle.std.proofs.Common.{ℕ, ◌-◌, ◌<◌, ◌≤◌, ◌≡◌, ◌&&◌, ◌||◌, Bool, true, false, nat_eq, nat_le, Option, Some}
 use Rattle.std.proofs.Common.{None, List, [], ◌∷◌, ◌++◌, length, slice_get, refl, ap, ◌∙◌, arith}
 use Rattle.std.specs.List.{list_all, list_any}
-use Rattle.std.specs.Option.{option_and_then}
 use Rattle.fsb_access.specs.declared.log.Done.{Done}
 use Rattle.fsb_count.specs.Clocks.{count_where, from_clock, holds_since}
 use Rattle.fsb_count.specs.Options.{is_some_and}
 use Rattle.fsb_count.proofs.Interface.{any_where-same, nth_where-found}
 use Rattle.fsb_lawful.proofs.Interface.{length-cut}
 use Rattle.fsb_signal.proofs.Interface.{slice_get-before}
-use Rattle.fsb_timely.specs.BusLock.{ends_locked_item, is_lock_cancelled, is_lock_retried, is_locked_request}
-use Rattle.fsb_timely.specs.BusLock.{is_release, is_released_before, keeps_lock}
+use Rattle.fsb_timely.specs.BusLock.{ends_locked_item, is_lock_cancelled, is_lock_retried, is_release}
+use Rattle.fsb_timely.specs.BusLock.{is_released_before, keeps_lock}
 use Rattle.fsb_timely.specs.Growth.{GrowsTo}
 use Rattle.fsb_timely.specs.Moments.{cancelled_at, moment_at, responded_at, retried_at}
-use Rattle.fsb_timely.specs.Past.{Moment, Past}
+use Rattle.fsb_timely.specs.Past.{Past}
 use Rattle.fsb_timely.specs.Runs.{Run, past_of}
 use Rattle.fsb_timely.specs.Scripts.{items_of}
 use Rattle.fsb_timely.proofs.Interface.{cancelled-told, length-moments, moment-at, moments-grow}
@@ -61,17 +60,8 @@ ends-old r s a t grows l =
     ∙ or-false _ _ (none-ends (past_of s) a t (length r.trace) grows.next.entries l grows.next.at_end)
     ∙ (λ i. list_any (ends_locked_item (record { plan = grows.next.same_plan i; moments = []; log = [] }) a t) r.log)
 
-some-same : (r s : Run) (a : ℕ) (o : Option ℕ) → GrowsTo r s → ((q : ℕ) → o ≡ Some q → q < length r.trace)
-    → is_some_and o (is_locked_request (past_of s) a) ≡ is_some_and o (is_locked_request (past_of r) a)
-unfolding is_some_and
-some-same r s a o h1 h2 = grind (arith, locked-same)
-
 if-some : {X : Type 0} (b : Bool) (o : Option X) (x : X) → (elim b [ true ↦ o | false ↦ None ]) ≡ Some x → o ≡ Some x
 if-some b o x h1 = grind arith
-
-cancelled-below : (w : Trace) (t q : ℕ) → cancelled_at w t ≡ Some q → q ≤ t
-unfolding cancelled_at
-cancelled-below w t q e = grind arith
 
 -- what responds began below the end of the trace
 retried-within : (w : Trace) (t q : ℕ) → retried_at w t ≡ Some q → q < length w
@@ -81,39 +71,21 @@ retried-within w t q e =
     let live = if-some (responds_at w t) (live_clock_of w (count_where (responds_at w) t)) q responded in
     (nth_where-found (is_live w) (count_where (responds_at w) t) (length w) q live).0
 
-retried-below : (r : Run) (t q : ℕ) → t < length r.trace
-    → option_and_then (λ (moment : Moment). moment.retried) (slice_get (past_of r).moments t) ≡ Some q
-    → q < length r.trace
-unfolding past_of moment_at
-retried-below r t q l e = grind (arith, moment-at, retried-within, length-cut)
-
 pub release-old : (r s : Run) (a t : ℕ) → GrowsTo r s → t < length r.trace
     → is_release (past_of s) a t ≡ is_release (past_of r) a t
-unfolding is_release is_lock_retried is_lock_cancelled
+unfolding is_release is_lock_retried is_lock_cancelled is_some_and past_of moment_at cancelled_at
 release-old r s a t grows l =
-    grind (arith, moments-old, ends-old, some-same, retried-below, cancelled-below, cancelled-told)
-
--- what has held since is the same where the gains and losses are
-since-same : (gain gain' loss loss' : ℕ → Bool) (n : ℕ) → ((c : ℕ) → c < n → gain c ≡ gain' c)
-    → ((c : ℕ) → c < n → loss c ≡ loss' c)
-    → holds_since gain loss n ≡ holds_since gain' loss' n
-unfolding holds_since from_clock
-since-same gain gain' loss loss' n a b = grind (arith, last-same, any_where-same)
+    grind (arith, moments-old, ends-old, locked-same, moment-at, retried-within, length-cut, cancelled-told)
 
 released-old : (r s : Run) (a t : ℕ) → GrowsTo r s → t < length r.trace
     → is_released_before (past_of s) a t ≡ is_released_before (past_of r) a t
 unfolding is_released_before
 released-old r s a t grows l = ap (λ b. nat_le 1 t && b) (release-old r s a (t - 1) grows (omega arith))
 
-keeps-old : (r s : Run) (a c : ℕ) → GrowsTo r s → c < length r.trace
-    → keeps_lock (past_of s) c a ≡ keeps_lock (past_of r) c a
-unfolding keeps_lock
-keeps-old r s a c grows l = grind (arith, since-same, locked-same, released-old)
-
 into-old : (r s : Run) (a c : ℕ) → GrowsTo r s → c ≤ length r.trace
     → keeps_into (past_of s) c a ≡ keeps_into (past_of r) c a
-unfolding keeps_into
-into-old r s a c h1 h2 = grind (arith, keeps-old, release-old)
+unfolding keeps_into keeps_lock holds_since from_clock
+into-old r s a c h1 h2 = grind (arith, last-same, any_where-same, locked-same, released-old, release-old)
 
 -- into the next clock
 pub keeps_into-grown : (r s : Run) (a : ℕ) → GrowsTo r s

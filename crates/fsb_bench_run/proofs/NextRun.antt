@@ -8,7 +8,7 @@ use Rattle.std.proofs.lemmas.List.{length-append}
 use Rattle.fsb_access.specs.ScriptOrder.{Step}
 use Rattle.fsb_access.specs.declared.log.Done.{Done}
 use Rattle.fsb_agent_view.specs.AgentViews.{AgentView}
-use Rattle.fsb_agent_view.specs.Arriving.{ended_entries_for, is_arrival_by, met_entries, with_bytes}
+use Rattle.fsb_agent_view.specs.Arriving.{is_arrival_by, met_entries, with_bytes}
 use Rattle.fsb_agent_view.specs.Completing.{completed_entries}
 use Rattle.fsb_agent_view.specs.Serving.{AtHand, entries_at_hand, hand_after}
 use Rattle.fsb_agent_view.specs.declared.want.OwnRequest.{OwnRequest}
@@ -23,10 +23,9 @@ use Rattle.fsb_timely.specs.Runs.{requests_below}
 use Rattle.fsb_trace.specs.At.{Trace}
 use Rattle.fsb_trace.specs.declared.outcome.Outcome.{Outcome}
 use Rattle.fsb_bench_view.specs.declared.beginning.Starting.{Starting}
-use Rattle.fsb_bench_view.specs.declared.decided.Ending.{Ending}
 use Rattle.fsb_bench_view.specs.BenchSteps.{step_decided, step_entries, step_performed, step_run, step_sample}
-use Rattle.fsb_bench_view.specs.BusEvents.{end_entries, end_event, entries_ended, entries_of_event}
-use Rattle.fsb_bench_view.specs.BusViews.{BenchView, BusView, next_clock_of}
+use Rattle.fsb_bench_view.specs.BusEvents.{end_event, entries_ended, entries_of_event}
+use Rattle.fsb_bench_view.specs.BusViews.{BenchView, next_clock_of}
 use Rattle.fsb_bench_view.specs.ToldAgents.{hit_entries}
 use Rattle.fsb_bench_run.specs.BenchOf.{IsBenchOf}
 use Rattle.fsb_bench_run.proofs.DrivenLines.{ads-driven, line-new}
@@ -57,33 +56,17 @@ of-met : (v : AgentView) (clock : ℕ) (out : OwnRequest) (bytes : List ℕ)
     → AreOfClock clock (met_entries v clock out bytes)
 of-met v clock out bytes = of-hit-if (with_bytes v out.request.line bytes) clock (is_arrival_by v clock out)
 
-of-arrived : (v : AgentView) (clock : ℕ) (bytes : List ℕ) (o : Option OwnRequest)
-    → AreOfClock clock (option_map_or (λ out. met_entries v clock out bytes) o [])
-of-arrived v clock bytes o = grind (arith, of-met)
-
-of-kept : (v : AgentView) (clock : ℕ) (out : OwnRequest) (o : Option (List ℕ))
-    → AreOfClock clock (elim o [ Some bytes ↦ met_entries v clock out bytes | None ↦ [] ])
-of-kept v clock out o = grind (arith, of-met)
-
-of-upgraded : (v : AgentView) (clock : ℕ) (o : Option OwnRequest)
-    → AreOfClock clock (option_map_or (ended_entries_for v clock) o [])
-of-upgraded v clock o = grind (arith, of-kept)
-
 of-outcome : (v : AgentView) (clock first : ℕ) (bytes : List ℕ) (o : Outcome)
     → AreOfClock clock (option_map_or (entries_of_event v) (end_event clock first bytes o) [])
-of-outcome v clock first bytes o = grind (arith, of-arrived, of-upgraded)
+of-outcome v clock first bytes o = grind (arith, of-met)
 
 of-end : (clock first : ℕ) (bytes : List ℕ) (outcome : Outcome) (o : Option AgentView)
     → AreOfClock clock (option_map_or (entries_ended clock first bytes outcome) o [])
 of-end clock first bytes outcome None = refl
 of-end clock first bytes outcome (Some v) = of-outcome v clock first bytes outcome
 
-of-ending : (bus : BusView) (clock : ℕ) (o : Option Ending)
-    → AreOfClock clock (option_map_or (end_entries bus clock) o [])
-of-ending bus clock o = grind (arith, of-end)
-
 pub entries-now : (v : BenchView) (hold : Bool) → AreOfClock (next_clock_of v) (step_entries v hold)
-entries-now v hold = grind (arith, of-both, of-hits, of-ending)
+entries-now v hold = grind (arith, of-both, of-hits, of-end)
 
 pub next-run : (v : BenchView) (hold : Bool) (choice : Choice) → IsNext v.run (step_run v hold choice)
 next-run v hold choice = record {

@@ -126,10 +126,6 @@ claim-there w q b l won =
     let claim : Claim = record { first = q; agent = b; line = x.0.addr.bits / 4 } in
     (claim, rw (won, x.1, claim_at, agent_at, line_of) refl, refl)
 
-claim-agent : (w : Trace) (q b : ℕ) (claim : Claim) → q < length w → winner_at w q ≡ Some (Symmetric b)
-    → claim_at w q ≡ Some claim → claim.agent ≡ b
-claim-agent w q b claim l won e = grind (arith, claim-there)
-
 mapped : (o : Option Owing) (claim : Claim) → option_map (λ (owing : Owing). owing.claim) o ≡ Some claim
     → (owing : Owing) × (o ≡ Some owing) × (owing.claim ≡ claim)
 mapped o claim h1 = grind arith
@@ -144,7 +140,7 @@ claim-line r q b request claim h k e =
     let begun : begun_at p q ≡ Some claim = grind (arith, begun-told) in
     let owing = mapped (owing_begun p q) claim begun in
     let wanted = begun-wanted r q owing.0 h owing.1 in
-    let agent : owing.0.claim.agent ≡ b = grind (arith, claim-agent) in
+    let agent : owing.0.claim.agent ≡ b = grind (arith, claim-there) in
     let g = past-begins r q h.timely l in
     let same = want_of-alike (q + 1) (past_to p q) p b q g (below_le q (q + 1) (omega arith))
     (done_below (q + 1) (past_to p q) b q g.entries (omega arith) g.at_end) in
@@ -170,16 +166,12 @@ open-list : (r : Run) (c : ℕ) → suc c ≡ length r.trace → unsnooped_at (p
 unfolding unsnooped_at past_of moment_at is_unsnooped run_to moments_below is_snooped_in
 open-list r c e = grind (arith, take_all, list_any-append, moment-at)
 
-none-flies : (w : Trace) → 0 ≡ length w → in_flight w (length w) ≡ []
-unfolding in_flight all_where
-none-flies w h1 = grind arith
-
 empty-open : (r : Run) (a line : ℕ) (queue : List Entry) → 0 ≡ length r.trace
     → map (λ (x : Entry). x.clock) queue ≡ in_flight r.trace (length r.trace)
     → list_any (is_claim_of_other a line) (unsnooped_at (past_of r) 0) ≡ list_any (is_open_of_other a line) queue
-unfolding unsnooped_at
+unfolding unsnooped_at in_flight all_where
 empty-open r a line [] size e = refl
-empty-open r a line (x ∷ queue) size e = grind (arith, none-flies)
+empty-open r a line (x ∷ queue) size e = grind arith
 
 open-at : (r : Run) (a line n : ℕ) (queue : List Entry) → n ≡ length r.trace → Reaches r (length r.trace)
     → HoldsRequests queue r → ((k : ℕ) (e : Entry) → slice_get queue k ≡ Some e → IsBegunAt r e.clock e.who e.request)

@@ -10,7 +10,6 @@ use Rattle.fsb_agent_view.specs.Arriving.{arrived_entries}
 use Rattle.fsb_coherent.specs.Awaits.{snoop_end_below}
 use Rattle.fsb_coherent.specs.Fitting.{fits_getting, fits_kind, fits_upgrade, fits_write_back}
 use Rattle.fsb_count.proofs.Interface.{first_where-found}
-use Rattle.fsb_encode.specs.declared.request.Kind.{Kind}
 use Rattle.fsb_run_laws.specs.Reaches.{Reaches}
 use Rattle.fsb_run_laws.proofs.Interface.{replied-on}
 use Rattle.fsb_tied.proofs.Interface.{ended-number, one-ends, orderly-whole}
@@ -33,7 +32,6 @@ use Rattle.fsb_bench_run.proofs.EntriesNow.{completed_of}
 one-ended : (s : Run) (n q u : ℕ) → Reaches s (n + 1) → is_end_at (past_of s) n q ≡ true
     → is_end_at (past_of s) n u ≡ true → q ≡ u
 one-ended s n q u h first second =
-    let long = h.long in
     let i = ended-number s n q h.timely (omega arith) first in
     let j = ended-number s n u h.timely (omega arith) second in
     let same : i.0 ≡ j.0 = one-ends s.trace i.0 j.0 n (orderly-whole s n h.timely (omega arith)) i.1.end j.1.end in
@@ -91,31 +89,16 @@ settled-or-replied s a n number end h ends =
           })
     ]
 
--- a write-back gets no bytes
-unwritten : (o : Outcome) → is_got o ≡ true → fits_write_back o ≡ true → ⊥
-unfolding is_got fits_write_back
-unwritten o h1 h2 = grind arith
-
--- a request that gets its bytes is granted its line
-got-makes : (kind : Kind) (outcome : Outcome) → is_got outcome ≡ true → fits_kind kind outcome ≡ true
-    → makes_grant kind outcome ≡ true
-unfolding fits_kind makes_grant
-got-makes kind outcome h1 h2 = grind (arith, unwritten)
-
--- a request of an agent is neither Replied nor Failed
-never-so : (kind : Kind) (outcome : Outcome) → (outcome ≡ Replied) ⊎ (outcome ≡ Failed)
-    → fits_kind kind outcome ≡ true → ⊥
-unfolding fits_kind fits_getting fits_upgrade fits_write_back
-never-so kind outcome h1 h2 = grind arith
-
 -- the grant of a request whose bytes come
 pub made-by : (s : Run) (end : SnoopEnd) (o : Outcome) → end.outcome ≡ o → (is_got o ≡ true) ⊎ (o ≡ Replied)
     → IsOwnSettled s end ⊎ IsRepliedGrant end → (grant : Grant) × (end.grant ≡ Some grant)
-made-by s end o h1 h2 h3 = grind (arith, never-so, got-makes)
+unfolding fits_kind fits_getting fits_upgrade fits_write_back makes_grant is_got
+made-by s end o h1 h2 h3 = grind arith
 
 -- an end that fails is none of an agent's request
 pub never-failed : (s : Run) (end : SnoopEnd) → end.outcome ≡ Failed → IsOwnSettled s end ⊎ IsRepliedGrant end → ⊥
-never-failed s end h1 h2 = grind (arith, never-so)
+unfolding fits_kind fits_getting fits_upgrade fits_write_back
+never-failed s end h1 h2 = grind arith
 
 -- where nothing arrives nothing is completed
 none-arrives : (p : Past) (a n : ℕ) → is_arrival p a n ≡ false → [] ≡ completed_if p n (is_arrival p a n) a

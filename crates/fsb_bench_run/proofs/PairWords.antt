@@ -7,7 +7,6 @@ use Rattle.std.proofs.Math.Nat.{mod-eq_of_lt}
 use Rattle.fsb_count.specs.Clocks.{last_where}
 use Rattle.fsb_encode.specs.Request.{are_lawful_fields, clocks, den_bit, high_bit, is_lawful_request, pairs_of}
 use Rattle.fsb_encode.specs.Request.{row_of}
-use Rattle.fsb_encode.specs.declared.request.Kind.{Kind}
 use Rattle.fsb_encode.specs.declared.request.Pair.{Pair}
 use Rattle.fsb_encode.specs.declared.request.Request.{Request}
 use Rattle.fsb_lawful.specs.Beginning.{KeepsBounds}
@@ -39,23 +38,10 @@ pub record FitsWords (pair : Pair) : Type 0 where
   pub addr : pair.addr < 2 ^ 33
   pub req : pair.req < 2 ^ 5
 
-high-small : (line : ℕ) → high_bit line ≤ 8
-unfolding high_bit
-high-small line = grind arith
-
-den-small : (den : Bool) → den_bit den ≤ 2
-unfolding den_bit
-den-small den = grind arith
-
-row-fits : (kind : Kind) (line chunk did : ℕ) (den : Bool) → are_lawful_fields kind line chunk den ≡ true → did < 2 ^ 8
-    → FitsWords (row_of kind line chunk did den).0 × FitsWords (row_of kind line chunk did den).1
-unfolding row_of clocks are_lawful_fields
-row-fits kind line chunk did den h1 h2 = grind (arith, high-small, den-small)
-
 -- those of a lawful request do
 pub lawful-fits : (q : Request) → is_lawful_request q ≡ true → FitsWords (pairs_of q).0 × FitsWords (pairs_of q).1
-unfolding is_lawful_request pairs_of
-lawful-fits q e = grind (arith, row-fits)
+unfolding is_lawful_request pairs_of row_of clocks are_lawful_fields high_bit den_bit
+lawful-fits q e = grind arith
 
 none-fits : FitsWords no_pair
 unfolding no_pair

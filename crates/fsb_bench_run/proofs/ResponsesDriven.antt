@@ -19,7 +19,6 @@ use Rattle.fsb_signal.specs.Samples.{data_at, known_word, line_at, response_of}
 use Rattle.fsb_trace.specs.At.{Trace, response_code_at}
 use Rattle.fsb_trace.specs.Outcome.{response_code_of}
 use Rattle.fsb_trace.specs.Requests.{live_count}
-use Rattle.fsb_trace.specs.declared.outcome.Outcome.{Outcome}
 use Rattle.fsb_timely.specs.Growth.{GrowsTo}
 use Rattle.fsb_timely.specs.Runs.{past_of}
 use Rattle.fsb_timely.specs.Transfers.{code_due, drives_code, drives_data_busy, drives_data_ready, drives_ready}
@@ -40,16 +39,9 @@ pub all5 : (a b c d e : Bool) → a ≡ true → b ≡ true → c ≡ true → d
     → (a && b && c && d && e) ≡ true
 all5 a b c d e p q r s t = rw (p, q, r, s, t) refl
 
-small-code : (o : Outcome) → response_code_of o < 8
-unfolding response_code_of
-small-code o = grind arith
-
-some-code : (o : Option Outcome) → option_map_or response_code_of o 0 < 8
-some-code o = grind (arith, small-code)
-
 entry-code : (o : Option Entry) → option_map_or settled_code o 0 < 8
-unfolding settled_code
-entry-code o = grind (arith, some-code)
+unfolding settled_code response_code_of
+entry-code o = grind arith
 
 -- a code has three bits
 pub code-small : (h : Trace) (queue : List Entry) → (drive_of h queue).rs < 8
@@ -89,7 +81,6 @@ quiet-now : (v : BenchView) (hold : Bool) (choice : Choice) (entries : List Done
 unfolding keeps_data_quiet
 quiet-now v hold choice entries =
     let n = next_clock_of v in
-    let s = run_with v hold choice entries in
     let line = line-with v hold choice entries DRDY
     ∙ drdy-driven (step_performed v) n v.run.plan.profile (step_decided v hold) in
     let word = data-new v hold choice entries in

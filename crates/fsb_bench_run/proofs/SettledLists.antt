@@ -89,7 +89,6 @@ pub passes-now : {X : Type 0} (p : X → Bool) (f : X → X) (xs : List X) (k : 
     → filter p (map f xs) ≡ filter p xs ++ f x ∷ []
 passes-now p f [] k x at shut now before after off = absurd (let no : ⊥ = cc in no)
 passes-now p f (y ∷ xs) zero x at shut now before after off =
-    let same : x ≡ y = cc in
     let none = filter-none p xs (λ j z e. off (suc j) z (omega arith) e) in
     let rest = map-same f xs (λ j z e. after (suc j) z (omega arith) e) in
     grind arith

@@ -3,7 +3,6 @@ use Rattle.std.proofs.Common.{ℕ, ◌≡◌, ◌||◌, Bool, true, false, Some,
 use Rattle.std.specs.Option.{option_map}
 use Rattle.std.specs.List.{find, slice_get}
 use Rattle.std.proofs.lemmas.Bool.{and_left}
-use Rattle.fsb_bridge.specs.declared.deferral.Deferral.{Deferral}
 use Rattle.fsb_laws.specs.OneMore.{stalls}
 use Rattle.fsb_phase.specs.Due.{has_snoop, is_stalled}
 use Rattle.fsb_phase.specs.Drive.{drive_of}
@@ -11,25 +10,10 @@ use Rattle.fsb_phase.specs.declared.drive.Drive.{Drive}
 use Rattle.fsb_phase.proofs.Interface.{find-off}
 use Rattle.fsb_queue.specs.declared.entry.Entry.{Entry}
 use Rattle.fsb_trace.specs.At.{Trace}
-use Rattle.fsb_bench_view.specs.declared.beginning.Started.{Started}
-use Rattle.fsb_bench_view.specs.declared.snoop.SnoopSettled.{SnoopSettled}
 use Rattle.fsb_bench_view.specs.BenchSteps.{step_decided, step_drive, step_performed, step_sample}
-use Rattle.fsb_bench_view.specs.BusSnooping.{first_open, snooping_by, snooped_entry, snooped_reply}
+use Rattle.fsb_bench_view.specs.BusSnooping.{first_open, snooping_by, snooped_entry}
 use Rattle.fsb_bench_view.specs.BusViews.{BenchView, BusView, next_clock_of}
 use Rattle.fsb_bench_run.proofs.DrivenLines.{hit-driven, hitm-driven}
-
-record IsReplySnoop (entry : Entry) (s : SnoopSettled) : Type 0 where
-  pub deferral : Deferral
-  pub begun : Started
-  pub same : s ≡ snooped_reply entry deferral begun
-
--- a bench decides a snoop end only of the oldest entry without one, where no snoop is stalled
-pub record IsDecidedSnoop (bus : BusView) (drive : Drive) (s : SnoopSettled) : Type 0 where
-  pub calm : drive.stall ≡ false
-  pub some : is_none drive.snoop ≡ false
-  pub entry : Entry
-  pub first : first_open bus.queue ≡ Some entry
-  pub snooped : snooped_entry bus entry entry.who ≡ Some s
 
 pub stalls-driven : (v : BenchView) (hold : Bool) → stalls (step_sample v hold) ≡ (step_drive v).stall
 unfolding stalls

@@ -35,7 +35,6 @@ use Rattle.fsb_bench_run.proofs.StepWith.{IsStepWith}
 pub some-lines : (v : BenchView) → IsBenchOf v → 0 < v.run.plan.cache
 unfolding past_of
 some-lines v b =
-    let four = b.agents.four in
     let u = get-there v.bus.agents 0 (omega arith) in
     let k = b.agents.each 0 u.0 u.1 in
     grind arith

@@ -42,16 +42,11 @@ pub back-old : (line : Lines) (r s : Run) (d : ℕ) → GrowsTo r s → 0 < d
 unfolding line_back
 back-old line r s d grows some = grind (arith, line_at-agree, agree-back)
 
--- where the request that began last is near, one began one or two clocks before
-near-back : (w : Trace) (n q : ℕ) → q < n → n < q + 3 → line_at ADS w q ≡ true
-    → (not (line_back ADS w n 1) && not (line_back ADS w n 2)) ≡ false
-unfolding line_back
-near-back w n q below near ads = grind arith
-
 spaced-by : (w : Trace) (o : Option Latest)
     → option_map (λ (last : Latest). last.clock) o ≡ last_where (line_at ADS w) (length w)
     → (not (line_back ADS w (length w) 1) && not (line_back ADS w (length w) 2)) ≡ is_spaced_by o (length w)
-spaced-by w o e = grind (arith, not-soon, last_where-found, near-back)
+unfolding line_back
+spaced-by w o e = grind (arith, not-soon, last_where-found)
 
 -- the distance, by the request that began last
 pub spaced-told : (v : BenchView) (hold : Bool) (choice : Choice) (entries : List Done)
@@ -62,7 +57,6 @@ unfolding is_spaced
 spaced-told v hold choice entries b =
     let r = v.run in
     let s = run_with v hold choice entries in
-    let n = next_clock_of v in
     let one = back-old ADS r s 1 b.grows (omega arith) in
     let two = back-old ADS r s 2 b.grows (omega arith) in
     grind (arith, spaced-by)

@@ -1,7 +1,6 @@
 -- The requests that have begun, after the clock.
 use Rattle.std.proofs.Common.{ℕ, ◌<◌, ◌≡◌, Bool, true, false, Option, Some, None, List, [], ◌∷◌, ◌++◌, is_some}
-use Rattle.std.proofs.Common.{length, map, slice_get, if◌then◌else◌, append-nil, refl, sym, ap, subst, ◌∙◌, arith}
-use Rattle.std.proofs.Common.{inl, inr}
+use Rattle.std.proofs.Common.{length, map, slice_get, append-nil, refl, sym, ap, subst, ◌∙◌, arith, inl, inr}
 use Rattle.std.proofs.lemmas.Option.{slice_get-map}
 use Rattle.fsb_count.specs.Clocks.{nth_where}
 use Rattle.fsb_count.proofs.Interface.{nth_where-found, slice_get-push}
@@ -11,11 +10,8 @@ use Rattle.fsb_signal.specs.Samples.{line_at}
 use Rattle.fsb_timely.specs.BusLock.{is_begun_by, is_locked_request}
 use Rattle.fsb_timely.specs.Grants.{begun_at}
 use Rattle.fsb_timely.specs.Growth.{GrowsTo}
-use Rattle.fsb_timely.specs.Moments.{claim_at}
 use Rattle.fsb_timely.specs.Runs.{Run, past_of}
 use Rattle.fsb_timely.proofs.Interface.{begun-told, claim_at-agree, past-same}
-use Rattle.fsb_trace.specs.Agree.{AgreeTo}
-use Rattle.fsb_trace.specs.At.{Trace}
 use Rattle.fsb_trace.proofs.Interface.{line_at-agree}
 use Rattle.fsb_bench_view.specs.declared.beginning.Started.{Started}
 use Rattle.fsb_bench_view.specs.declared.beginning.Starting.{Starting}
@@ -29,14 +25,10 @@ use Rattle.fsb_bench_run.proofs.StepEntries.{step-with}
 use Rattle.fsb_bench_run.proofs.StepFields.{started-stepped, started_after}
 use Rattle.fsb_phase_run.proofs.Interface.{agree-grown}
 
-claim-same : (w v : Trace) (n q : ℕ) → AgreeTo n w v → q < n
-    → (if line_at ADS w q then claim_at w q else None) ≡ (if line_at ADS v q then claim_at v q else None)
-claim-same w v n q agree l = grind (arith, line_at-agree, claim_at-agree)
-
 -- what begins at a clock stays as a run grows
 pub begun-same : (r s : Run) (q : ℕ) → GrowsTo r s → q < length r.trace
     → begun_at (past_of s) q ≡ begun_at (past_of r) q
-begun-same r s q grows l = grind (arith, begun-told, claim-same, agree-grown)
+begun-same r s q grows l = grind (arith, begun-told, line_at-agree, claim_at-agree, agree-grown)
 
 -- whether a request is a locked one stays as a run grows
 begun_by-same : (r s : Run) (a q : ℕ) → GrowsTo r s → q < length r.trace

@@ -23,14 +23,10 @@ unfolding entries_to
 new-entries n [] e = refl
 new-entries n (done ∷ log) e = grind (arith, new-entries n log)
 
-log-now : (r s : Run) → GrowsTo r s → entries_to (length r.trace) s.log ≡ s.log
-unfolding entries_to
-log-now r s grows = grind (arith, old-entries, new-entries, filter-append)
-
 -- the past up to the last clock is the whole past
 pub past-now : (r s : Run) → GrowsTo r s → past_to (past_of s) (length r.trace) ≡ past_of s
-unfolding past_to past_of
-past-now r s grows = grind (arith, longer, length-moments, take_all, log-now)
+unfolding past_to past_of entries_to
+past-now r s grows = grind (arith, longer, length-moments, take_all, old-entries, new-entries, filter-append)
 
 -- a part holds at the last clock where its test of the whole run passes there
 pub holds-now : (part : Part) (r s : Run) → GrowsTo r s → part s (past_of s) (length r.trace) ≡ true

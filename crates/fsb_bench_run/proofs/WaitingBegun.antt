@@ -13,8 +13,7 @@ use Rattle.fsb_queue.specs.declared.entry.Entry.{Entry}
 use Rattle.fsb_run_laws.specs.Reaches.{Reaches}
 use Rattle.fsb_signal.specs.declared.lines.TheConstants.Lines.{ADS}
 use Rattle.fsb_signal.specs.Samples.{line_at}
-use Rattle.fsb_timely.specs.Runs.{Run, past_of, past_to, run_to}
-use Rattle.fsb_timely.specs.Starts.{would_begin}
+use Rattle.fsb_timely.specs.Runs.{Run, past_of}
 use Rattle.fsb_trace.specs.At.{Trace}
 use Rattle.fsb_trace.specs.Winner.{begins_at, is_agent, is_same_agent, winner_at}
 use Rattle.fsb_trace.specs.declared.who.Who.{Who}
@@ -39,24 +38,15 @@ begins-off : (w : Trace) (n : ℕ) → line_at ADS w n ≡ false → begins_at w
 unfolding begins_at
 begins-off w n ads = λ i. ads i && is_agent (winner_at w n) Priority
 
--- the reply that begins at n is the request that begins there, where the bridge begins it
-reply-by : (s : Run) (n : ℕ) (who : Who) (request : Request)
-    → begins_at (run_to s n).trace n Priority ≡ is_same_agent Priority who
-    → would_begin (run_to s n) (past_to (past_of s) n) n who ≡ Some request → reply_begun s n ≡ reply_of who request
-unfolding reply_begun is_same_agent
-reply-by s n who request h1 h2 = grind arith
-
 pub reply-begun : (s : Run) (n : ℕ) (who : Who) (request : Request) → n < length s.trace → IsBegunAt s n who request
     → reply_begun s n ≡ reply_of who request
-reply-begun s n who request l k = grind (arith, run_to-agrees, line_at-agree, winner_at-agree, reply-by, begins-by)
-
-reply-off : (s : Run) (n : ℕ) → begins_at (run_to s n).trace n Priority ≡ false → reply_begun s n ≡ None
-unfolding reply_begun
-reply-off s n begins = grind arith
+unfolding reply_begun is_same_agent
+reply-begun s n who request l k = grind (arith, run_to-agrees, line_at-agree, winner_at-agree, begins-by)
 
 -- and none where nothing begins
 pub reply-none : (s : Run) (n : ℕ) → n < length s.trace → line_at ADS s.trace n ≡ false → reply_begun s n ≡ None
-reply-none s n l off = grind (arith, run_to-agrees, line_at-agree, reply-off, begins-off)
+unfolding reply_begun
+reply-none s n l off = grind (arith, run_to-agrees, line_at-agree, begins-off)
 
 started-told : (who : Who) (request : Request) (list : List Waiting)
     → waiting_started request.did who list ≡ after_reply (reply_of who request) true list

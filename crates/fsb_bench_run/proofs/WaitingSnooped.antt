@@ -7,10 +7,8 @@ use Rattle.fsb_bridge.specs.Deferrals.{new_waiting, waiting_without}
 use Rattle.fsb_bridge.specs.declared.deferral.Waiting.{Waiting}
 use Rattle.fsb_bridge_run.specs.DeferralSteps.{after_snoop_end, after_snoop_end_of, deferral_made}
 use Rattle.fsb_count.proofs.Interface.{count_where-same}
-use Rattle.fsb_encode.specs.declared.request.Kind.{Kind}
 use Rattle.fsb_encode.specs.declared.request.Request.{Request}
 use Rattle.fsb_hazard.specs.declared.choice.Choice.{Choice}
-use Rattle.fsb_hazard.specs.declared.choice.Turn.{Turn}
 use Rattle.fsb_hazard.specs.declared.choice.Turn.TheVariants.{Defer}
 use Rattle.fsb_phase_run.proofs.Interface.{agree-grown}
 use Rattle.fsb_queue.specs.declared.entry.Entry.{Entry}
@@ -32,7 +30,7 @@ use Rattle.fsb_trace.proofs.Interface.{line_at-agree}
 use Rattle.fsb_bench_view.specs.declared.snoop.SnoopSettled.{SnoopSettled}
 use Rattle.fsb_bench_view.specs.BenchSteps.{step_cancelled, step_decided, step_performed, step_snooped}
 use Rattle.fsb_bench_view.specs.BusEvents.{bus_snooped, waiting_snooped}
-use Rattle.fsb_bench_view.specs.BusSnooping.{snoop_outcome, snooped_entry, snooping_of}
+use Rattle.fsb_bench_view.specs.BusSnooping.{snooped_entry, snooping_of}
 use Rattle.fsb_bench_view.specs.BusViews.{BenchView, BusView, next_clock_of}
 use Rattle.fsb_bench_run.specs.BenchOf.{IsBegunAt}
 use Rattle.fsb_bench_run.proofs.RunWith.{run_with}
@@ -53,25 +51,6 @@ later-there : (later : ℕ) → later ≡ later_of (number_of_turn (Defer later)
 unfolding later_of number_of_turn
 later-there later = omega arith
 
-by-kind : (x : SnoopSettled) (list : List Waiting) (kind : Kind) (request : Request) → request.kind ≡ kind
-    → is_reply_kind kind ≡ false → waiting_snooped x (outcome_by_kind (Some request)) list ≡ list
-unfolding outcome_by_kind is_reply_kind
-by-kind x list kind request h1 h2 = grind arith
-
-not-deferred : (kind : Kind) (request : Request) → request.kind ≡ kind
-    → is_deferral (outcome_by_kind (Some request)) ≡ false
-unfolding outcome_by_kind is_deferral
-not-deferred kind request h1 = grind arith
-
--- what the snoop end of an agent's request makes of them
-plain-by : (x : SnoopSettled) (list : List Waiting) (request : Request) (handed : Bool) (turn : Turn) → x.turn ≡ turn
-    → is_reply_kind request.kind ≡ false
-    → waiting_snooped x (snoop_outcome handed turn request) list
-    ≡ (if is_deferral (snoop_outcome handed turn request)
-    then list ++ new_waiting x.entry.number x.entry.request x.hit (later_of (number_of_turn turn)) ∷ [] else list)
-unfolding is_deferral
-plain-by x list request handed turn h1 h2 = grind (arith, by-kind, not-deferred, later-there)
-
 -- the snoop end that is decided of an entry, and what it makes of the deferrals
 pub record IsToldOf (x : SnoopSettled) (y : Entry) (list : List Waiting) : Type 0 where
   pub entry : x.entry ≡ y
@@ -79,7 +58,8 @@ pub record IsToldOf (x : SnoopSettled) (y : Entry) (list : List Waiting) : Type 
 
 told-own : (bus : BusView) (agent : ℕ) (y : Entry) (list : List Waiting) → is_reply_kind y.request.kind ≡ false
     → IsToldOf (snooping_of bus agent y) y list
-told-own bus agent y list plain = grind (arith, plain-by)
+unfolding is_deferral outcome_by_kind is_reply_kind
+told-own bus agent y list plain = grind (arith, later-there)
 
 told-reply : (bus : BusView) (y : Entry) (x : SnoopSettled) (list : List Waiting) → is_reply_kind y.request.kind ≡ true
     → snooped_entry bus y Priority ≡ Some x → IsToldOf x y list

@@ -48,15 +48,10 @@ all-drop test zero xs e = e
 all-drop test (suc n) [] e = refl
 all-drop test (suc n) (x ∷ xs) e = all-drop test n xs (and_parts (test x) (list_all test xs) e).1
 
--- an item of a script is known
-item-known : (scripts : List (List Item)) (a k : ℕ) (items : List Item) (item : Item) → slice_get scripts a ≡ Some items
-    → slice_get items k ≡ Some item → is_known scripts item ≡ true
-unfolding is_named_in
-item-known scripts a k items item script at = grind (arith, all-each, any-from)
-
 script-known : (scripts : List (List Item)) (a : ℕ) (o : Option (List Item)) → slice_get scripts a ≡ o
     → list_all (is_known scripts) (script_of scripts a) ≡ true
-script-known scripts a o h1 = grind (arith, all-each, item-known)
+unfolding is_named_in
+script-known scripts a o h1 = grind (arith, all-each, any-from)
 
 -- what is needed of a known item is named, whatever comes before it in the window
 locked-known : (scripts : List (List Item)) (earlier : List ℕ) (group accesses : List Access)
@@ -94,19 +89,10 @@ plain-kept test (suc n) (One access ∷ items) e = grind (arith, plain-kept test
 plain-kept test (suc n) (Locked group ∷ items) e = refl
 plain-kept test (suc n) (Idle clocks ∷ items) e = refl
 
-window-from : (test : Item → Bool) (ahead : ℕ) (item : Item) (items : List Item) → test item ≡ true
-    → list_all test items ≡ true → list_all test (window_from ahead item items) ≡ true
-unfolding window_from
-window-from test ahead item items e f = grind (arith, plain-kept)
-
-window-at : (test : Item → Bool) (p : Past) (a n : ℕ) (o : Option Item) → slice_get (items_of p a) n ≡ o
-    → list_all test (items_of p a) ≡ true → list_all test (window_at p a n) ≡ true
-unfolding window_at
-window-at test p a n o h1 h2 = grind (arith, window-from, all-at, all-drop)
-
 windows : (test : Item → Bool) (p : Past) (a : ℕ) (o : Option ℕ) → list_all test (items_of p a) ≡ true
     → list_all test (option_map_or (window_at p a) o []) ≡ true
-windows test p a o h1 = grind (arith, window-at)
+unfolding window_at window_from
+windows test p a o h1 = grind (arith, plain-kept, all-at, all-drop)
 
 -- what is needed for a window is named
 need-named : (p : Past) (a c : ℕ) (test : Need → Bool) (need : Need)
@@ -131,12 +117,6 @@ want-for : (p : Past) (a c : ℕ) (request : Request) (b : Bool)
     → IsWantFor p a c request
 unfolding want_of
 want-for p a c request b h1 h2 = grind arith
-
--- the line of what is wanted for a need is that of the need, or the victim's
-line-for : (p : Past) (a c : ℕ) (need : Need) (o : Option ℕ) → victim_of p a c need.line ≡ o
-    → (want_for p a c (owed p a c) need).line ≡ option_map_or (λ victim. victim) o need.line
-unfolding want_for request_of_kind write_back_of
-line-for p a c need o h1 = grind arith
 
 -- a line that is granted to an agent is one that an agent wanted before
 record IsWantedBefore (r : Run) (line t : ℕ) : Type 0 where
@@ -177,12 +157,11 @@ victim-named r a c line victim h bounds l below e =
     let p = past_of r in
     let dirty = (a-victim p a c line victim e).1 in
     let held = holds_line-says p a victim c (dirty-held p a victim c dirty) in
-    let early = held.before in
     grind (arith, granted-wanted)
 
 want-named : (r : Run) (a c : ℕ) (request : Request) → Timely r → KeepsBounds r.plan → c ≤ length r.trace
     → AreNamedBelow r c → want_of (past_of r) a c ≡ Some request → is_named_line r.plan.scripts request.line ≡ true
-unfolding past_of
+unfolding past_of want_for request_of_kind write_back_of
 want-named r a c request h bounds l below e =
     let p = past_of r in
     let k = want-for p a c request (is_idling p a c || nat_le p.plan.ahead (length (owed p a c))) refl e in
@@ -192,7 +171,7 @@ want-named r a c request h bounds l below e =
     by : (need : Need) (o : Option ℕ) → victim_of (past_of r) a c need.line ≡ o
         → is_named_line r.plan.scripts need.line ≡ true
         → is_named_line r.plan.scripts (want_for (past_of r) a c (owed (past_of r) a c) need).line ≡ true
-    by need o h1 h2 = grind (arith, line-for, victim-named)
+    by need o h1 h2 = grind (arith, victim-named)
 
 named-below : (r : Run) (n : ℕ) → Timely r → KeepsBounds r.plan → n ≤ length r.trace + 1 → AreNamedBelow r n
 named-below r zero h bounds l = λ a c request low e. absurd (omega arith)

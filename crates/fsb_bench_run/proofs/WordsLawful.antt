@@ -1,7 +1,6 @@
 -- The words that a bench has for its next clock come from lawful requests.
-use Rattle.std.proofs.Common.{ℕ, ◌<◌, ◌≡◌, Bool, true, Some, slice_get, sym, ap, ◌∙◌, arith}
+use Rattle.std.proofs.Common.{◌<◌, ◌≡◌, true, Some, slice_get, sym, ap, ◌∙◌, arith}
 use Rattle.std.proofs.lemmas.Option.{slice_get_within}
-use Rattle.fsb_encode.specs.declared.request.Kind.{Kind}
 use Rattle.fsb_encode.specs.declared.request.Request.{Request}
 use Rattle.fsb_encode.specs.Request.{are_lawful_fields, is_lawful_request}
 use Rattle.fsb_lawful.proofs.Interface.{get-there}
@@ -15,14 +14,9 @@ use Rattle.fsb_bench_run.specs.BenchOf.{IsBenchOf, settled_entries}
 use Rattle.fsb_bench_run.proofs.BegunStays.{begun-lawful}
 use Rattle.fsb_bench_run.proofs.SameBus.{same-performed}
 
--- the chunk of a lawful request has two bits
-fields-chunk : (kind : Kind) (line chunk : ℕ) (den : Bool) → are_lawful_fields kind line chunk den ≡ true → chunk < 4
-unfolding are_lawful_fields
-fields-chunk kind line chunk den h1 = grind arith
-
 lawful-chunk : (request : Request) → is_lawful_request request ≡ true → request.chunk < 4
-unfolding is_lawful_request
-lawful-chunk request e = grind (arith, fields-chunk)
+unfolding is_lawful_request are_lawful_fields
+lawful-chunk request e = grind arith
 
 -- what is served first has begun
 served-lawful : (v : BenchView) (served : Served) → IsBenchOf v → slice_get v.bus.served 0 ≡ Some served

@@ -1,8 +1,8 @@
 -- Traces that agree below a clock have the same deferrals there.
-use Rattle.std.proofs.Common.{ℕ, ◌+◌, ◌<◌, ◌≤◌, ◌≡◌, Bool, true, false, cond, List, Option, Some, None, slice_index}
-use Rattle.std.proofs.Common.{refl, sym, ap, subst, ◌∙◌, arith, inl, inr}
+use Rattle.std.proofs.Common.{ℕ, ◌+◌, ◌<◌, ◌≤◌, ◌≡◌, Bool, true, cond, List, Option, Some, None, slice_index, sym, ap}
+use Rattle.std.proofs.Common.{subst, ◌∙◌, arith}
 use Rattle.std.specs.Option.{option_and_then, option_map}
-use Rattle.std.proofs.lemmas.Bool.{both_ways, cases_Bool, false_from_ne_true}
+use Rattle.std.proofs.lemmas.Bool.{both_ways, false_from_ne_true}
 use Rattle.fsb_count.specs.Clocks.{count_where}
 use Rattle.fsb_count.specs.Options.{is_before, is_some_and}
 use Rattle.fsb_count.proofs.Interface.{count_where-same, is_before-from, is_before-parts}
@@ -112,18 +112,7 @@ line-kept n w v i q a e l =
 before-same : (a b : Option ℕ) (c : ℕ) → ((m : ℕ) → a ≡ Some m → m < c → b ≡ Some m)
     → ((m : ℕ) → b ≡ Some m → m < c → a ≡ Some m)
     → cond (is_before a c) a None ≡ cond (is_before b c) b None
-before-same a b c f g =
-    elim (cases_Bool (is_before a c)) [
-      | inl t ↦
-          let x = is_before-parts a c t in
-          let e = f x.0 x.1 x.2 in
-          rw (t, is_before-from b x.0 c e x.2) (x.1 ∙ sym e)
-      | inr off ↦
-          let none : is_before b c ≡ false = false_from_ne_true (is_before b c) (λ t.
-          let x = is_before-parts b c t in
-          both_ways (is_before a c) off (is_before-from a x.0 c (g x.0 x.1 x.2) x.2)) in
-          rw (off, none) refl
-    ]
+before-same a b c f g = grind (arith, is_before-parts)
 
 pub response-kept : (n : ℕ) (w v : Trace) (c i : ℕ) → AgreeTo n w v → c ≤ n
     → response_before w c i ≡ response_before v c i

@@ -1,5 +1,5 @@
 -- The request to which the reply that begins at a clock is.
-use Rattle.std.proofs.Common.{ℕ, ◌+◌, ◌<◌, ◌≤◌, ◌≡◌, true, false, Some, length, sym, ap, ◌∙◌, arith, inl}
+use Rattle.std.proofs.Common.{ℕ, ◌+◌, ◌<◌, ◌≤◌, ◌≡◌, true, false, Some, length, arith, inl}
 use Rattle.std.specs.Option.{option_and_then}
 use Rattle.std.proofs.lemmas.Bool.{both_ways, false_from_ne_true}
 use Rattle.fsb_count.proofs.Interface.{is_before-parts}
@@ -36,24 +36,12 @@ unfolding would_begin reply_to
 begun-for r n reply h e =
     let w = r.trace in
     let v = (run_to r n).trace in
-    let long = h.long in
     let l : n < length w = omega arith in
     let due = due_number (run_to r n) (past_to (past_of r) n) n in
     let x = map-some reply_to (option_and_then (live_request_of v) due) reply (begun-parts r n reply e) in
     let j = and-then (live_request_of v) due x.0 x.1 in
     let d = due-at r n j.0 h.timely l j.1 in
-    let gap = d.gap in
-    let after = d.after in
-    record {
-      number = j.0;
-      due = d;
-      unanswered =
-          answered-same (n + 1) w v n j.0 d.snoop (run_to-agrees r n l) d.is_snoop (omega arith) (omega arith)
-          ∙ d.unanswered;
-      request = x.0;
-      asked = sym d.asked ∙ j.2;
-      did = sym (ap (λ z. z.did) x.2);
-    }
+    grind (arith, answered-same, run_to-agrees)
 
 -- that request waits up to the least clock at which the reply may have its snoop end
 pub begun-waits : (r : Run) (n c : ℕ) (reply : Request) (b : BegunFor r n reply) → b.due.snoop < c → c ≤ n + 4

@@ -1,9 +1,7 @@
 -- The entries of the list after the cancellation and the response of a clock.
-use Rattle.std.proofs.Common.{ℕ, ◌+◌, ◌<◌, ◌≡◌, Bool, true, false, cond, List, map, Option, Some, None, length, nat_eq}
-use Rattle.std.proofs.Common.{slice_index, refl, sym, ap, subst, ◌∙◌, arith, inl, inr}
-use Rattle.std.specs.Option.{option_map}
-use Rattle.std.proofs.lemmas.Bool.{both_ways, cases_Bool, cases_lt, cases_order, eq-eqb, eqb-true, false_from_ne_true}
-use Rattle.fsb_count.specs.Clocks.{count_where}
+use Rattle.std.proofs.Common.{ℕ, ◌+◌, ◌<◌, ◌≡◌, Bool, true, false, cond, List, map, Option, Some, None, length}
+use Rattle.std.proofs.Common.{nat_eq, slice_index, refl, sym, ap, subst, ◌∙◌, arith, inl, inr}
+use Rattle.std.proofs.lemmas.Bool.{both_ways, cases_Bool, eq-eqb, eqb-true}
 use Rattle.fsb_count.specs.Options.{is_before, is_some_and}
 use Rattle.fsb_count.proofs.Interface.{count_where-above, is_before-from, is_before-parts, nth_where-one}
 use Rattle.fsb_encode.specs.declared.request.Request.{Request}
@@ -12,11 +10,11 @@ use Rattle.fsb_signal.specs.Samples.{line_at}
 use Rattle.fsb_trace.specs.At.{Trace, request_at, responds_at}
 use Rattle.fsb_trace.specs.Deferral.{is_answered, later_of}
 use Rattle.fsb_trace.specs.Flight.{is_reply_to}
-use Rattle.fsb_trace.specs.Outcome.{is_deferral, response_clock_of}
+use Rattle.fsb_trace.specs.Outcome.{response_clock_of}
 use Rattle.fsb_trace.specs.Requests.{have_same_id, is_cancelled, is_live, live_clock_of, live_count, live_request_of}
 use Rattle.fsb_timely.specs.Runs.{Run, past_of, requests_below, run_to}
 use Rattle.fsb_timely.specs.Starts.{reply_to}
-use Rattle.fsb_coherent.specs.Awaits.{cancelled_in, responded_in, snoop_end_below}
+use Rattle.fsb_coherent.specs.Awaits.{cancelled_in, responded_in}
 use Rattle.fsb_lawful.proofs.Interface.{live-ads, wants-lawfully}
 use Rattle.fsb_tied.proofs.Interface.{Responds, cancelled-at, cancels, number-responded, orderly-whole}
 use Rattle.fsb_tied.proofs.Interface.{responded-number}
@@ -27,7 +25,8 @@ use Rattle.fsb_bridge.specs.Deferrals.{with_answer, with_reply}
 use Rattle.fsb_bridge.specs.DeferralList.{IsDeferralOf, live_line_of, request_number_of, response_before, waiting_at}
 use Rattle.fsb_bridge.specs.DeferralList.{waits}
 use Rattle.fsb_bridge.proofs.Interface.{IsEntryOf, Matched}
-use Rattle.fsb_bridge_run.specs.DeferralSteps.{after_cancellation, after_reply, after_response, reply_at, was_deferred}
+use Rattle.fsb_bridge_run.specs.DeferralSteps.{after_cancellation, after_reply, after_response, reply_at}
+use Rattle.fsb_bridge_run.specs.DeferralSteps.{was_deferred}
 use Rattle.fsb_bridge_run.specs.RunDeferrals.{turns_of}
 use Rattle.fsb_bridge_run.proofs.DueReplies.{answers-due}
 use Rattle.fsb_bridge_run.proofs.Listed.{AllPass, Matched-into, Matched-map, all_where-pass}
@@ -46,13 +45,7 @@ pub record IsEntryWith (r : Run) (response : Option ℕ) (begun : Bool) (e : Wai
 
 with-begun : (r : Run) (c : ℕ) (e : Waiting) (i : ℕ) (mark begun : Bool) → IsEntryOf r.trace (turns_of r) c e i
     → mark ≡ begun → IsEntryWith r (response_before r.trace c i) begun (record e { begun = mark }) i
-with-begun r c e i mark begun h same = record {
-  deferral = h.deferral;
-  line = h.line;
-  later = h.later;
-  answered_as = h.answered;
-  begun_as = same;
-}
+with-begun r c e i mark begun h same = grind arith
 
 -- the entries with their responses below c and the replies under way after c
 abbrev pub IsCancelledTo : Run → ℕ → Waiting → ℕ → Type 0
@@ -83,9 +76,7 @@ after-dropped r c q reply list e f = rw (after_cancellation, e, f) refl
 cancelled-there : (r : Run) (c q : ℕ) → Reaches r (c + 1) → q + 3 ≡ c → line_at ADS r.trace q ≡ true
     → is_cancelled r.trace q ≡ true → cancelled_in (past_of r) c ≡ Some q
 unfolding is_cancelled
-cancelled-there r c q h at ads error =
-    let long = h.long in
-    subst (λ k. cancelled_in (past_of r) k ≡ Some q) at (cancelled-at r q (omega arith) ads error)
+cancelled-there r c q h at ads error = grind (arith, cancelled-at)
 
 -- an entry whose request has no reply that is cancelled at c
 kept-entry : (r : Run) (c i : ℕ) (e : Waiting) → Reaches r (c + 1) → waits r.trace (turns_of r) (c + 1) i ≡ true
@@ -114,8 +105,7 @@ dropped-entry r c q i reply e h cancelled begins waiting entry true own =
     let shown = d.shown in
     let decoded = parts.2 in
     let same : reply_to d.request ≡ reply = cc in
-    let did : e.deferral.request.did ≡ d.request.did =
-    eqb-true e.deferral.request.did reply.did own ∙ sym (ap (λ x. x.did) same) in
+    let did : e.deferral.request.did ≡ d.request.did = grind arith in
     let off = begun-dropped r c i q e.deferral.request h (sym at) error parts.0 d waiting entry.deferral.request did in
     rw own (with-begun r c e i false (is_answered (run_to r c).trace (c + 1) i) entry (sym off))
 dropped-entry r c q i reply e h cancelled begins waiting entry false other =
@@ -142,9 +132,7 @@ cancelled-entries r c list h entries = by (cancelled_in (past_of r) c) refl
 
     kept : ((i q : ℕ) → cancelled_in (past_of r) c ≡ Some q → is_reply_to r.trace i q ≡ true → ⊥)
         → Matched (IsCancelledTo r c) list live
-    kept none =
-        Matched-into (IsEntryOf r.trace (turns_of r) c) (IsCancelledTo r c) (waits r.trace (turns_of r) (c + 1)) list
-        live all (λ e i waiting entry. kept-entry r c i e h waiting entry (none i)) entries
+    kept none = grind (arith, Matched-into, all, kept-entry)
 
     by-reply : (q : ℕ) → cancelled_in (past_of r) c ≡ Some q → (o : Option Request) → reply_at r.trace q ≡ o
         → Matched (IsCancelledTo r c) (after_cancellation r c list) live
@@ -162,9 +150,7 @@ cancelled-entries r c list h entries = by (cancelled_in (past_of r) c) refl
 
     by : (o : Option ℕ) → cancelled_in (past_of r) c ≡ o
         → Matched (IsCancelledTo r c) (after_cancellation r c list) live
-    by None e =
-        subst (λ xs. Matched (IsCancelledTo r c) xs live) (sym (after-no-cancellation r c list e))
-        (kept (λ i q also reply. let no : None ≡ Some q = sym e ∙ also in cc))
+    by None e = grind (arith, after-no-cancellation, kept)
     by (Some q) e = by-reply q e (reply_at r.trace q) refl
 
 after-no-response : (r : Run) (c : ℕ) (list : List Waiting) → responded_in (past_of r) c ≡ None
@@ -186,27 +172,11 @@ after-others r c q list e f = rw (after_response, e, f) refl
 -- a response at c is one below the next clock
 response-now : (w : Trace) (c i : ℕ) → response_clock_of w i ≡ Some c → response_before w (c + 1) i ≡ Some c
 unfolding response_before
-response-now w c i e =
-    rw (is_before-from (response_clock_of w i) c (c + 1) e (omega arith)) e
+response-now w c i e = grind (arith, is_before-from)
 
 more-same : (a : Option ℕ) (c : ℕ) → (a ≡ Some c → ⊥)
     → cond (is_before a (c + 1)) a None ≡ cond (is_before a c) a None
-more-same a c other =
-    elim (cases_Bool (is_before a c)) [
-      | inl t ↦
-          let x = is_before-parts a c t in
-          let below = x.2 in
-          rw (t, is_before-from a x.0 (c + 1) x.1 (omega arith)) refl
-      | inr off ↦
-          let none : is_before a (c + 1) ≡ false = false_from_ne_true (is_before a (c + 1)) (λ t.
-          let x = is_before-parts a (c + 1) t in
-          let upto = x.2 in
-          elim (cases_lt x.0 c) [
-            | inl less ↦ both_ways (is_before a c) off (is_before-from a x.0 c x.1 less)
-            | inr more ↦ let same : x.0 ≡ c = omega arith in other (x.1 ∙ ap Some same)
-          ]) in
-          rw (off, none) refl
-    ]
+more-same a c other = grind (arith, is_before-parts, is_before-from)
 
 response-other : (w : Trace) (c i : ℕ) → (response_clock_of w i ≡ Some c → ⊥)
     → response_before w (c + 1) i ≡ response_before w c i
@@ -215,34 +185,18 @@ response-other w c i other = more-same (response_clock_of w i) c other
 
 unanswered-entry : (r : Run) (c i : ℕ) (e : Waiting) → IsCancelledTo r c e i
     → (response_clock_of r.trace i ≡ Some c → ⊥) → IsAnsweredTo r c e i
-unanswered-entry r c i e entry other = record {
-  deferral = entry.deferral;
-  line = entry.line;
-  later = entry.later;
-  answered_as = entry.answered_as ∙ sym (response-other r.trace c i other);
-  begun_as = entry.begun_as;
-}
+unanswered-entry r c i e entry other = grind (arith, response-other)
 
 -- requests are told apart by how many begin before them
 one-place : (w : Trace) (p q : ℕ) → line_at ADS w p ≡ true → line_at ADS w q ≡ true
     → requests_below w p ≡ requests_below w q → p ≡ q
 unfolding requests_below
-one-place w p q one two same =
-    elim (cases_order p q) [
-      | inl e ↦ e
-      | inr other ↦ elim other [
-        | inl less ↦ let m = count_where-above (line_at ADS w) p q less one in absurd (omega arith)
-        | inr more ↦ let m = count_where-above (line_at ADS w) q p more two in absurd (omega arith)
-      ]
-    ]
+one-place w p q one two same = grind (arith, count_where-above)
 
 number-at : (w : Trace) (i q number : ℕ) → live_clock_of w i ≡ Some q → request_number_of w i ≡ Some number
     → number ≡ requests_below w q
 unfolding request_number_of requests_below
-number-at w i q number e f =
-    let there : Some (count_where (line_at ADS w) q) ≡ Some number =
-    sym (ap (option_map (count_where (line_at ADS w))) e) ∙ f in
-    cc
+number-at w i q number e f = grind arith
 
 one-live : (w : Trace) (i k q : ℕ) → live_clock_of w i ≡ Some q → live_clock_of w k ≡ Some q → i ≡ k
 unfolding live_clock_of
@@ -263,16 +217,7 @@ answered-entry r c k q i e responds waiting entry true own =
     let place = eqb-true e.deferral.number (requests_below w q) own in
     let same = one-place w a.clock q (live-ads w i a.clock a.is_clock) (live-ads w k q responds.first)
     (sym number ∙ place) in
-    let clock : live_clock_of w i ≡ Some q = a.is_clock ∙ ap Some same in
-    let is = one-live w i k q clock responds.first in
-    let response = subst (λ x. response_clock_of w x ≡ Some c) (sym is) responds.response in
-    rw own (record {
-      deferral = entry.deferral;
-      line = entry.line;
-      later = entry.later;
-      answered_as = sym (response-now w c i response);
-      begun_as = entry.begun_as;
-    })
+    grind (arith, one-live, response-now)
 answered-entry r c k q i e responds waiting entry false other =
     let w = r.trace in
     let a = waits-parts w (turns_of r) (c + 1) i waiting in
@@ -291,13 +236,9 @@ waits-deferred : (r : Run) (c i q : ℕ) → Reaches r (c + 1) → waits r.trace
 unfolding was_deferred is_some_and
 waits-deferred r c i q h waiting first =
     let a = waits-parts r.trace (turns_of r) (c + 1) i waiting in
-    let below = a.below in
     let d = deferred-at r a.snoop i h.timely (wants-lawfully r h.bounds) a.is_snoop a.deferred in
     let there = snoop-below r c a.snoop d.end h (omega arith) d.snooped.tied.there in
-    let is = d.snooped.tied.first in
-    let same : d.end.first ≡ q = cc in
-    ap (λ x. is_some_and (snoop_end_below (past_of r) (c + 1) x) (λ s. is_deferral s.outcome)) (sym same)
-    ∙ ap (λ o. is_some_and o (λ s. is_deferral s.outcome)) there ∙ d.deferred
+    grind arith
 
 pub answered-entries : (r : Run) (c : ℕ) (list : List Waiting) → Reaches r (c + 1)
     → Matched (IsCancelledTo r c) list (waiting_at r.trace (turns_of r) (c + 1))
@@ -330,14 +271,10 @@ answered-entries r c list h entries = by (responded_in (past_of r) c) refl
 
     others : (q k : ℕ) → Responds r k c q → was_deferred (past_of r) c q ≡ false → (i : ℕ)
         → waits r.trace (turns_of r) (c + 1) i ≡ true → response_clock_of r.trace i ≡ Some c → ⊥
-    others q k responds off i waiting response =
-        let is = one-response r.trace i k c response responds.response in
-        let first = subst (λ x. live_clock_of r.trace x ≡ Some q) (sym is) responds.first in
-        both_ways (was_deferred (past_of r) c q) off (waits-deferred r c i q h waiting first)
+    others q k responds off i waiting response = grind (arith, one-response, waits-deferred)
 
     by : (o : Option ℕ) → responded_in (past_of r) c ≡ o → Matched (IsAnsweredTo r c) (after_response r c list) live
-    by None e =
-        subst (λ xs. Matched (IsAnsweredTo r c) xs live) (sym (after-no-response r c list e)) (kept (silent e))
+    by None e = grind (arith, after-no-response, kept, silent)
     by (Some q) e =
         let long = h.long in
         let k = responded-number r c q h.timely (omega arith) e in

@@ -1,36 +1,34 @@
 -- A reply that begins in a timely run answers a request that is due.
 use Rattle.std.proofs.Common.{ℕ, suc, ◌+◌, ◌<◌, ◌≤◌, ◌≡◌, true, false, not, ◌&&◌, Option, Some, length, nat_le}
 use Rattle.std.proofs.Common.{slice_index, refl, sym, ap, ◌∙◌, arith, inl, inr}
-use Rattle.std.specs.Option.{option_and_then, option_map}
-use Rattle.std.proofs.lemmas.Bool.{and_from, and_parts, both_ways, cases_lt, eq-eqb, false_from_ne_true, leb-true}
-use Rattle.std.proofs.lemmas.Bool.{not-true}
+use Rattle.std.specs.Option.{option_and_then}
+use Rattle.std.proofs.lemmas.Bool.{and_from, and_parts, cases_lt, eq-eqb, false_from_ne_true, leb-true, not-true}
 use Rattle.fsb_count.specs.Options.{is_before, is_some_and}
-use Rattle.fsb_count.proofs.Interface.{first_where-at, first_where-found, is_before-parts}
+use Rattle.fsb_count.proofs.Interface.{first_where-found, is_before-parts}
 use Rattle.fsb_encode.specs.declared.request.Request.{Request}
 use Rattle.fsb_signal.specs.declared.lines.TheConstants.Lines.{ADS}
 use Rattle.fsb_signal.specs.Samples.{line_at}
 use Rattle.fsb_trace.specs.At.{Trace, request_at}
 use Rattle.fsb_trace.specs.Deferral.{due_at, is_answered, is_due, later_of}
-use Rattle.fsb_trace.specs.Flight.{is_live_reply_to, is_reply_to, reply_clock_of, reply_number_of}
+use Rattle.fsb_trace.specs.Flight.{is_reply_to, reply_number_of}
 use Rattle.fsb_trace.specs.Outcome.{is_settled_deferred, response_clock_of}
-use Rattle.fsb_trace.specs.Requests.{have_same_id, is_cancelled, is_live, is_reply, is_reply_kind, live_clock_of}
-use Rattle.fsb_trace.specs.Requests.{live_count, live_number_of, live_request_of}
+use Rattle.fsb_trace.specs.Requests.{have_same_id, is_cancelled, is_live, is_reply, live_clock_of, live_count}
+use Rattle.fsb_trace.specs.Requests.{live_request_of}
 use Rattle.fsb_trace.specs.Snoop.{snoop_end_of}
 use Rattle.fsb_trace.specs.Winner.{winner_at}
 use Rattle.fsb_trace.specs.declared.who.Who.{Who}
-use Rattle.fsb_trace.specs.declared.who.Who.TheVariants.{Symmetric, Priority}
-use Rattle.fsb_trace.proofs.Interface.{AgreeTo-sym, is_live-agree, is_reply-some, line_at-agree, live_request_of-stays}
-use Rattle.fsb_trace.proofs.Interface.{request_at-agree, response_clock_of-stays, snoop_end_of-clock}
-use Rattle.fsb_trace.proofs.Interface.{snoop_end_of-stays}
+use Rattle.fsb_trace.proofs.Interface.{AgreeTo-sym, is_live-agree, is_reply-some, line_at-agree}
+use Rattle.fsb_trace.proofs.Interface.{live_request_of-stays, request_at-agree, response_clock_of-stays}
+use Rattle.fsb_trace.proofs.Interface.{snoop_end_of-clock, snoop_end_of-stays}
 use Rattle.fsb_timely.specs.Moments.{number_of_turn, turns_in}
 use Rattle.fsb_timely.specs.Runs.{Run, past_of, past_to, run_to}
 use Rattle.fsb_timely.specs.Starts.{due_number, reply_to, request_begun, would_begin}
 use Rattle.fsb_timely.specs.Timely.{Timely}
 use Rattle.fsb_timely.proofs.Interface.{snoop-tied}
 use Rattle.fsb_lawful.specs.Beginning.{WantsLawfully}
-use Rattle.fsb_lawful.proofs.Interface.{and-then, begun-decoded, begun-winner, map-some, orderly-at, past-cut}
-use Rattle.fsb_lawful.proofs.Interface.{run_to-agrees, some-and, turned-at, want-own}
-use Rattle.fsb_tied.proofs.Interface.{answered, has-reply, live-at, orderly-whole}
+use Rattle.fsb_lawful.proofs.Interface.{and-then, begun-decoded, begun-winner, orderly-at, past-cut, run_to-agrees}
+use Rattle.fsb_lawful.proofs.Interface.{some-and, turned-at, want-own}
+use Rattle.fsb_tied.proofs.Interface.{answered, has-reply, live-at}
 use Rattle.fsb_bridge.specs.DeferralList.{waits}
 use Rattle.fsb_bridge_run.specs.RunDeferrals.{turns_of}
 use Rattle.fsb_bridge_run.proofs.Alike.{SameDeferrals, deferred-same}
@@ -63,12 +61,7 @@ due-by : (r : Run) (q : ℕ) (who : Who) (request : Request) → r.plan.ahead �
     → (x : Request) × (option_and_then (live_request_of (run_to r q).trace)
     (due_number (run_to r q) (past_to (past_of r) q) q) ≡ Some x) × (reply_to x ≡ request)
 unfolding would_begin past_to past_of
-due-by r q (Symmetric a) request few e reply =
-    let own = want-own (past_to (past_of r) q) a q request few e in
-    absurd (both_ways (is_reply_kind request.kind) own.0 (sym (is_reply-some request) ∙ reply))
-due-by r q Priority request few e reply =
-    map-some reply_to (option_and_then (live_request_of (run_to r q).trace)
-    (due_number (run_to r q) (past_to (past_of r) q) q)) request e
+due-by r q who request h1 h2 h3 = grind (arith, want-own, is_reply-some)
 
 -- the live request that is due at q: it is Deferred, responded before q, and no reply to it is under way
 pub record IsDueAt (r : Run) (q i : ℕ) : Type 0 where
@@ -152,41 +145,7 @@ answers-due r q h wants few l ads replies =
     let j = and-then (live_request_of v) (due_number (run_to r q) (past_to (past_of r) q) q) x due.1 in
     let i : ℕ = j.0 in
     let d = due-at r q i h long j.1 in
-    let gap = d.gap in
-    let after = d.after in
-    let asked = sym d.asked ∙ j.2 in
-    let shown = decoded ∙ ap Some (sym due.2) in
-    record {
-      number = i;
-      snoop = d.snoop;
-      is_snoop = d.is_snoop;
-      deferred = d.deferred;
-      response = d.response;
-      is_response = d.is_response;
-      gap = gap;
-      after = after;
-      request = x;
-      asked = asked;
-      shown = shown;
-      answers = reply-from w i q (record {
-        asks = ads;
-        replies = replies;
-        same_id = same-as (request_at w q) (live_request_of w i) x shown asked;
-        response = d.response;
-        is_response = d.is_response;
-        after = after;
-      });
-      unanswered = λ u less reply live.
-          let kept = reply-to-kept (q + 1) w v i d.snoop u agree d.is_snoop (omega arith) (omega arith) reply in
-          let asks = (reply-parts w i u reply).asks in
-          let apart = (orderly-whole r q h long).spaced.apart u q less asks ads in
-          both_ways (is_answered v q i) d.unanswered
-          (answered-from v q i u (record {
-            below = less;
-            reply = kept;
-            kept = inl (sym (is_live-agree (q + 1) w v u agree (omega arith)) ∙ live);
-          }));
-    }
+    grind (arith, reply-from, same-as, reply-to-kept, reply-parts, answered-from, is_live-agree, agree)
 
 pub live-of : (w : Trace) (i q : ℕ) → live_clock_of w i ≡ Some q → is_live w q ≡ true
 unfolding is_live is_cancelled
@@ -202,19 +161,7 @@ pub record IsReplied (w : Trace) (i j : ℕ) : Type 0 where
 pub is-replied : (w : Trace) (i j : ℕ) → reply_number_of w i ≡ Some j → IsReplied w i j
 is-replied w i j e =
     let k = has-reply w i j e in
-    record {
-      clock = k.clock;
-      first = k.first;
-      live = live-of w j k.clock k.first;
-      reply = reply-from w i k.clock (record {
-        asks = k.ads;
-        replies = k.replies;
-        same_id = k.same_id;
-        response = k.response;
-        is_response = k.is_response;
-        after = k.after;
-      });
-    }
+    grind (arith, live-of, reply-from)
 
 -- that request waits up to the least clock at which the reply may have its snoop end
 pub due-waits : (r : Run) (q c : ℕ) (d : AnswersDue r q) → d.snoop < c → c ≤ q + 4
@@ -236,15 +183,3 @@ due-waits r q c d below low =
       | inl early ↦ d.unanswered k.clock early k.reply k.live
       | inr late ↦ omega arith
     ]))
-
--- and a live one that begins at q is the reply to it
-pub due-replied : (r : Run) (q : ℕ) (d : AnswersDue r q) → q < length r.trace → is_live r.trace q ≡ true
-    → reply_number_of r.trace d.number ≡ Some (live_number_of r.trace q)
-unfolding reply_number_of reply_clock_of is_live_reply_to
-due-replied r q d l live =
-    let w = r.trace in
-    ap (option_map (live_number_of w))
-    (first_where-at (is_live_reply_to w d.number) (length w) q l (and_from _ _ live d.answers)
-    (λ u less. false_from_ne_true _ (λ t.
-    let parts = and_parts (is_live w u) (is_reply_to w d.number u) t in
-    d.unanswered u less parts.1 parts.0)))

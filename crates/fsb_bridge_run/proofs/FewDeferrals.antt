@@ -1,21 +1,20 @@
 -- There are sixteen deferrals at most: each has an ID of its own, one of four of each of the four agents.
-use Rattle.std.proofs.Common.{ℕ, zero, suc, ◌+◌, ◌*◌, ◌/◌, ◌%◌, ◌<◌, ◌≤◌, ◌≡◌, Bool, true, false, not, ◌&&◌, ◌||◌, List}
-use Rattle.std.proofs.Common.{[], ◌∷◌, Option, Some, None, length, nat_eq, if◌then◌else◌, refl, sym, ap, subst, ◌∙◌}
+use Rattle.std.proofs.Common.{ℕ, zero, suc, ◌+◌, ◌*◌, ◌/◌, ◌%◌, ◌<◌, ◌≤◌, ◌≡◌, Bool, true, false, not, ◌&&◌, ◌||◌}
+use Rattle.std.proofs.Common.{List, [], ◌∷◌, Option, Some, length, nat_eq, if◌then◌else◌, refl, sym, ap, subst, ◌∙◌}
 use Rattle.std.proofs.Common.{arith, inl, inr}
 use Rattle.std.specs.Option.{option_and_then, option_map_or}
 use Rattle.std.proofs.lemmas.Bool.{and_from, and_parts, cases_order, eq-eqb, eqb-false, eqb-true, false_from_ne_true}
 use Rattle.std.proofs.lemmas.Bool.{ne_eqb, not-true}
-use Rattle.fsb_count.specs.Clocks.{all_where, count_where, first_where}
+use Rattle.fsb_count.specs.Clocks.{all_where, count_where}
 use Rattle.fsb_count.proofs.Interface.{count_where-same, first_where-found, length-all_where}
 use Rattle.fsb_encode.specs.declared.request.Request.{Request}
 use Rattle.fsb_laws.proofs.Interface.{count_where-none}
 use Rattle.fsb_trace.specs.Requests.{is_reply, is_reply_kind, live_clock_of, live_count, live_request_of}
 use Rattle.fsb_trace.specs.Winner.{winner_at}
 use Rattle.fsb_count.specs.Options.{is_some_and}
-use Rattle.fsb_timely.specs.Past.{Owing}
 use Rattle.fsb_timely.specs.Runs.{Run, past_of, past_to, run_to}
 use Rattle.fsb_timely.specs.Starts.{request_begun, would_begin}
-use Rattle.fsb_timely.specs.Wants.{free_id, id_of, is_id_used, owed}
+use Rattle.fsb_timely.specs.Wants.{free_id, id_of}
 use Rattle.fsb_lawful.proofs.Interface.{begun-decoded, begun-winner, begun_of, live-ads, run_to-agrees, want-few}
 use Rattle.fsb_lawful.proofs.Interface.{want-own, wanted-by, wants-lawfully}
 use Rattle.fsb_tied.proofs.Interface.{winner-four}
@@ -57,21 +56,12 @@ count-but p t (suc n) one = by (p n) (t n) refl refl (count-but p t n one)
     by : (a b : Bool) → p n ≡ a → t n ≡ b → count_where p n ≤ count_where q n + 1
         → count_where p n + (if p n then 1 else 0)
         ≤ (count_where q n + (if p n && not (t n) then 1 else 0)) + 1
-    by true true e f upto =
-        let same = count_where-same p q n (record { same = λ k less. fails (p k) f e k less refl }) in
-        rw (e, f) (omega arith)
-    by true false e f upto = rw (e, f) (omega arith)
-    by false b e f upto = rw e (omega arith)
-
-none-below : (n : ℕ) → n < 0 → ⊥
-none-below n l = omega arith
+    by a b h1 h2 h3 = grind (arith, count_where-same, fails)
 
 -- no more numbers pass than there are values, where each has a value of its own
 few-values : (m : ℕ) (p : ℕ → Bool) (f : ℕ → ℕ) (n : ℕ) → ((i : ℕ) → p i ≡ true → f i < m)
     → ((i k : ℕ) → p i ≡ true → p k ≡ true → f i ≡ f k → i ≡ k) → count_where p n ≤ m
-few-values zero p f n low one =
-    let none = count_where-none p n (λ k l. false_from_ne_true (p k) (λ t. none-below (f k) (low k t))) in
-    omega arith
+few-values zero p f n low one = grind (arith, count_where-none)
 few-values (suc m) p f n low one =
     let t : ℕ → Bool = λ i. nat_eq (f i) m in
     let upto = count-but p t n (λ i k a b.
@@ -87,16 +77,6 @@ few-values (suc m) p f n low one =
     (λ i k a b same. one i k (and_parts (p i) (not (t i)) a).0 (and_parts (p k) (not (t k)) b).0 same) in
     omega arith
 
--- a free ID is one of four, while fewer than four are used
-free-low : (a : ℕ) (owings : List Owing) (o : Option ℕ) → length owings < 4
-    → first_where (λ n. not (is_id_used owings (id_of a n))) (length owings + 1) ≡ o → free_id a owings % 16 < 4
-unfolding free_id id_of
-free-low a owings None few e = rw (e, free_id) (omega arith)
-free-low a owings (Some n) few e =
-    let h = first_where-found (λ k. not (is_id_used owings (id_of a k))) (length owings + 1) n e in
-    let below = h.0 in
-    rw (e, free_id) (omega arith)
-
 -- the ID of a request that waits is that of an agent, and one of four
 pub record HasFewIds (did : ℕ) : Type 0 where
   pub agent : did / 16 < 4
@@ -104,7 +84,7 @@ pub record HasFewIds (did : ℕ) : Type 0 where
 
 begun-id : (r : Run) (q : ℕ) (request : Request) → r.plan.ahead ≤ 4 → begun_of r q ≡ Some request
     → is_reply_kind request.kind ≡ false → HasFewIds request.did
-unfolding request_begun is_reply is_some_and past_to past_of
+unfolding request_begun is_reply is_some_and past_to past_of free_id id_of
 begun-id r q request ahead begun plain =
     let past = past_to (past_of r) q in
     let who = begun-winner (would_begin (run_to r q) past q) (winner_at (run_to r q).trace q) request begun in
@@ -112,22 +92,14 @@ begun-id r q request ahead begun plain =
     let few = want-few past want.0 q request ahead want.2 in
     let own = want-own past want.0 q request ahead want.2 in
     let four = winner-four (run_to r q).trace q want.0 (who.1 ∙ ap Some want.1) in
-    let short = few.0 in
-    let free = free-low want.0 (owed past want.0 q)
-    (first_where (λ n. not (is_id_used (owed past want.0 q) (id_of want.0 n))) (length (owed past want.0 q) + 1))
-    (omega arith) refl in
-    let is = few.1 in
-    let named = own.1 in
-    record { agent = omega arith; place = rw is free }
+    grind (arith, first_where-found)
 
 waiting-id : (r : Run) (n c i : ℕ) (x : Request) → Reaches r n → c ≤ n → waits r.trace (turns_of r) c i ≡ true
     → live_request_of r.trace i ≡ Some x → HasFewIds x.did
 waiting-id r n c i x h low waiting asks =
     let a = waits-parts r.trace (turns_of r) c i waiting in
     let d = deferred-at r a.snoop i h.timely (wants-lawfully r h.bounds) a.is_snoop a.deferred in
-    let first = d.asked in
-    let same : d.request ≡ x = cc in
-    subst (λ y. HasFewIds y.did) same (begun-id r d.end.first d.request h.bounds.few_ahead d.begun d.plain)
+    grind (arith, begun-id)
 
 -- a number below sixteen for each such ID
 code_of : Option Request → ℕ
@@ -181,8 +153,7 @@ few-waiting r n c h low =
     omega arith
 
 other : (a b : Bool) → b ≡ false → (a || b) ≡ a
-other true b e = refl
-other false b e = e
+other a b h1 = grind arith
 
 -- one more has room: a request that is no reply, whose snoop end is n, has an ID of its own beside those that wait
 pub room-for : (r : Run) (n i q : ℕ) (w : Trace) (turns : List ℕ) (request : Request) → Reaches r n
@@ -293,11 +264,7 @@ room-for r n i q w turns request h same reached first decoded plain =
         ]
 
     itself : (k : ℕ) (x : Request) → nat_eq k i ≡ true → live_request_of r.trace k ≡ Some x → x ≡ request
-    itself k x t asked =
-        let one : k ≡ i = eqb-true k i t in
-        let there : live_request_of r.trace i ≡ Some x = subst (λ y. live_request_of r.trace y ≡ Some x) one asked in
-        let mine = asks in
-        cc
+    itself k x t asked = grind (arith, asks)
 
     own : (k m : ℕ) (x y : Request) → all k ≡ true → all m ≡ true → live_request_of r.trace k ≡ Some x
         → live_request_of r.trace m ≡ Some y → x.did ≡ y.did → k ≡ m

@@ -1,24 +1,17 @@
 -- A list that has the deferrals of a run has those of the run that grows from it; and lists are short.
-use Rattle.std.proofs.Common.{ℕ, zero, suc, ◌+◌, ◌-◌, ◌<◌, ◌≤◌, ◌≡◌, Bool, true, false, List, [], ◌∷◌, Option, Some}
-use Rattle.std.proofs.Common.{None, length, take, slice_index, refl, sym, ap, subst, ◌∙◌, arith}
+use Rattle.std.proofs.Common.{ℕ, ◌+◌, ◌-◌, ◌<◌, ◌≤◌, ◌≡◌, true, List, [], ◌∷◌, Some, length, take, slice_index, refl}
+use Rattle.std.proofs.Common.{sym, ap, subst, ◌∙◌, arith}
 use Rattle.std.proofs.lemmas.List.{length-append, length-map, take_all, take-append-le}
-use Rattle.std.specs.Option.{option_and_then, option_map}
-use Rattle.fsb_encode.specs.declared.request.Request.{Request}
-use Rattle.fsb_trace.specs.Deferral.{due_at}
-use Rattle.fsb_trace.specs.Winner.{begins_at}
-use Rattle.fsb_trace.specs.declared.who.Who.TheVariants.{Priority}
-use Rattle.fsb_timely.specs.Starts.{due_number, reply_to, would_begin}
-use Rattle.fsb_bridge.specs.Deferrals.{with_reply}
+use Rattle.fsb_timely.specs.Starts.{due_number, would_begin}
 use Rattle.fsb_trace.specs.Agree.{AgreeTo}
 use Rattle.fsb_count.specs.Clocks.{all_where, count_where}
 use Rattle.fsb_trace.specs.Outcome.{is_deferral}
-use Rattle.fsb_trace.specs.Requests.{live_count, live_request_of}
+use Rattle.fsb_trace.specs.Requests.{live_count}
 use Rattle.fsb_trace.specs.Snoop.{snoop_end_of}
 use Rattle.fsb_trace.proofs.Interface.{AgreeTo-sym, snoop_end_of-stays}
 use Rattle.fsb_laws.proofs.Interface.{one_more}
 use Rattle.fsb_timely.specs.Grants.{snooped_at}
 use Rattle.fsb_timely.specs.Growth.{GrowsTo}
-use Rattle.fsb_timely.specs.Moments.{number_of_turn, turns_in}
 use Rattle.fsb_timely.specs.Past.{SnoopEnd}
 use Rattle.fsb_timely.specs.Runs.{Run, past_of, past_to, run_to}
 use Rattle.fsb_timely.proofs.Interface.{length-moments, moments-grow, past-before, snoop-tied, tied-snoop}
@@ -27,7 +20,7 @@ use Rattle.fsb_tied.proofs.Interface.{asked-at, deferred-held, held-plain, snoop
 use Rattle.fsb_run_laws.specs.Reaches.{Reaches}
 use Rattle.fsb_bridge.specs.declared.deferral.Waiting.{Waiting}
 use Rattle.fsb_bridge.specs.DeferralList.{StandsFor, waiting_at}
-use Rattle.fsb_bridge.proofs.Interface.{AreEntriesOf-IsEntryOf, IsEntryOf, IsEntryOf-StandsFor, Matched}
+use Rattle.fsb_bridge.proofs.Interface.{IsEntryOf, IsEntryOf-StandsFor}
 use Rattle.fsb_bridge_run.specs.DeferralSteps.{after_beginning, after_reply, reply_begun}
 use Rattle.fsb_bridge_run.specs.RunDeferrals.{FindsDeferrals, HasDeferrals, ShowsDeferrals, turns_of}
 use Rattle.fsb_bridge_run.proofs.Alike.{stands-kept, waiting_at-same}
@@ -37,9 +30,7 @@ use Rattle.fsb_bridge_run.proofs.RunLists.{found-whole, own-turns, take-agrees}
 use Rattle.fsb_bridge_run.proofs.WaitingSteps.{deferred-waiting}
 
 pub agree-grown : (r s : Run) → GrowsTo r s → AgreeTo (length r.trace) r.trace s.trace
-agree-grown r s grows =
-    subst (λ w. AgreeTo (length r.trace) r.trace w) (sym grows.next.more_trace)
-    (one_more r.trace grows.next.sample).agree
+agree-grown r s grows = grind (arith, one_more)
 
 snooped-grown : (r s : Run) (t : ℕ) → GrowsTo r s → t < length r.trace
     → snooped_at (past_of r) t ≡ snooped_at (past_of s) t
@@ -53,19 +44,14 @@ pub turns-grown : (r s : Run) (i t : ℕ) → GrowsTo r s → snoop_end_of r.tra
     → slice_index (turns_of r) i ≡ slice_index (turns_of s) i
 turns-grown r s i t grows e l =
     let there = snoop_end_of-stays (length r.trace) r.trace s.trace i t (agree-grown r s grows) l e in
-    let old = snoop-tied r i t e in
-    let new = snoop-tied s i t there in
-    let one : Some old.0 ≡ Some new.0 = sym old.1.there ∙ snooped-grown r s t grows l ∙ new.1.there in
-    let same : old.0 ≡ new.0 = cc in
-    old.1.turn ∙ ap (λ end. number_of_turn end.turn) same ∙ sym new.1.turn
+    grind (arith, snoop-tied, snooped-grown)
 
 shown-grown : (r s : Run) (list : List Waiting) → GrowsTo r s → ShowsDeferrals list r (length r.trace)
     → ShowsDeferrals list s (length r.trace)
 shown-grown r s list grows has =
     let n = length r.trace in
     let whole : take n r.trace ≡ r.trace = take_all n r.trace (omega arith) in
-    let cut : take n s.trace ≡ r.trace =
-    ap (take n) grows.next.more_trace ∙ take-append-le n r.trace _ (omega arith) ∙ whole in
+    let cut : take n s.trace ≡ r.trace = grind (arith, take-append-le) in
     let here : StandsFor list r.trace (turns_of r) n = subst (λ w. StandsFor list w (turns_of r) n) whole has in
     subst (λ w. StandsFor list w (turns_of s) n) (sym cut)
     (stands-kept n r.trace r.trace (turns_of r) (turns_of s) n list
@@ -83,18 +69,12 @@ begun-grown r s d grows last =
     let size = length-moments r (length r.trace) in
     let moments : take (d + 1) (past_of r).moments ≡ take (d + 1) (past_of s).moments =
     sym (ap (take (d + 1)) (moments-grow r s grows) ∙ take-append-le (d + 1) (past_of r).moments _ (omega arith)) in
-    λ i. elim (begins_at (trace i) d Priority) [
-      | true ↦ option_map reply_to (option_and_then (live_request_of (trace i))
-          (due_at (trace i) (turns_in (moments i)) d))
-      | false ↦ None
-    ]
+    grind arith
 
 after-grown : (r s : Run) (n : ℕ) (list : List Waiting) → GrowsTo r s → n ≡ length r.trace
     → after_beginning r n list ≡ after_beginning s n list
 unfolding after_beginning
-after-grown r s zero list grows last = refl
-after-grown r s (suc d) list grows last =
-    ap (λ o. after_reply o true list) (begun-grown r s d grows (omega arith))
+after-grown r s n list h1 h2 = grind (arith, begun-grown)
 
 pub list-grown : (r s : Run) (list : List Waiting) → GrowsTo r s → HasDeferrals list r (length r.trace)
     → HasDeferrals list s (length r.trace)
@@ -111,23 +91,11 @@ none-waits turns = refl
 
 pub list-first : (r : Run) → HasDeferrals [] r 0
 unfolding after_beginning
-list-first r = record {
-  shown = [];
-  shows = AreEntriesOf-IsEntryOf (waiting_at [] (turns_of r) 0) [] [] (turns_of r) 0
-      (subst (Matched (IsEntryOf [] (turns_of r) 0) []) (sym (none-waits (turns_of r))) tt);
-  begun = refl;
-}
-
-reply-length : (o : Option Request) (begun : Bool) (list : List Waiting)
-    → length (after_reply o begun list) ≡ length list
-unfolding after_reply
-reply-length None begun list = refl
-reply-length (Some reply) begun list = length-map list (with_reply reply.did begun)
+list-first r = grind (arith, none-waits)
 
 beginning-length : (r : Run) (n : ℕ) (list : List Waiting) → length (after_beginning r n list) ≡ length list
-unfolding after_beginning
-beginning-length r zero list = refl
-beginning-length r (suc d) list = reply-length (reply_begun r d) true list
+unfolding after_beginning after_reply
+beginning-length r n list = grind (arith, length-map)
 
 -- the list is as long as there are requests that wait
 pub list-length : (r : Run) (n : ℕ) (list : List Waiting) → Reaches r n → HasDeferrals list r n

@@ -1,6 +1,6 @@
 -- What a timely run says of its deferrals at a clock is what the list says.
 use Rattle.std.proofs.Common.{ℕ, ◌+◌, ◌<◌, ◌≤◌, ◌≡◌, true, List, Option, Some, None, is_some, length, take}
-use Rattle.std.proofs.Common.{if◌then◌else◌, refl, sym, ap, ◌∙◌, arith}
+use Rattle.std.proofs.Common.{if◌then◌else◌, refl, sym, ◌∙◌, arith}
 use Rattle.std.specs.Option.{option_and_then, option_map}
 use Rattle.std.proofs.lemmas.List.{length-take-le}
 use Rattle.fsb_count.proofs.Interface.{nth_where-found}
@@ -13,8 +13,8 @@ use Rattle.fsb_trace.specs.Outcome.{response_clock_of}
 use Rattle.fsb_trace.specs.Requests.{have_same_id, live_request_of}
 use Rattle.fsb_trace.specs.Winner.{begins_at}
 use Rattle.fsb_trace.specs.declared.who.Who.TheVariants.{Priority}
-use Rattle.fsb_trace.proofs.Interface.{AgreeTo-sym, live_request_of-stays, response_clock_of-stays, snoop_end_of-clock}
-use Rattle.fsb_trace.proofs.Interface.{snoop_end_of-stays}
+use Rattle.fsb_trace.proofs.Interface.{AgreeTo-sym, live_request_of-stays, response_clock_of-stays}
+use Rattle.fsb_trace.proofs.Interface.{snoop_end_of-clock, snoop_end_of-stays}
 use Rattle.fsb_timely.specs.Moments.{choice_at, effective_choice, is_in_window, turns_in}
 use Rattle.fsb_timely.specs.Runs.{Run, moments_below, past_of, past_to, run_to}
 use Rattle.fsb_timely.specs.Starts.{due_number, reply_to, would_begin}
@@ -33,7 +33,7 @@ use Rattle.fsb_bridge_run.proofs.Alike.{SameDeferrals, stands-kept, waits-same}
 use Rattle.fsb_bridge_run.proofs.DueReplies.{cut-same}
 use Rattle.fsb_bridge_run.proofs.OwnIds.{own-ids}
 use Rattle.fsb_bridge_run.proofs.PriorityReplies.{begun-if}
-use Rattle.fsb_bridge_run.proofs.LaterTraces.{cut-goes-on, trace-order}
+use Rattle.fsb_bridge_run.proofs.LaterTraces.{trace-order}
 use Rattle.fsb_bridge_run.proofs.RunLists.{own-turns, take-agrees}
 use Rattle.fsb_bridge_run.proofs.Waiting.{waits-parts}
 
@@ -111,8 +111,7 @@ pending-listed r n line list h finds =
 
 pub covered : (bridge : Option Window) (line : ℕ) → is_in_window bridge line ≡ is_covered bridge line
 unfolding is_in_window
-covered None line = refl
-covered (Some window) line = refl
+covered bridge line = grind arith
 
 pub choice-listed : (r : Run) (n q : ℕ) (request : Request) (list : List Waiting) → Reaches r (n + 1)
     → FindsDeferrals list r n → request_at (run_to r n).trace q ≡ Some request
@@ -120,9 +119,7 @@ pub choice-listed : (r : Run) (n q : ℕ) (request : Request) (list : List Waiti
     ≡ effective (choice_at (run_to r n).choices (run_to r n).trace q) request (is_covered r.plan.bridge request.line)
     (is_waited_for request.line list)
 unfolding effective_choice
-choice-listed r n q request list h finds e =
-    rw (e, effective_choice) (λ i. effective (choice_at (run_to r n).choices (run_to r n).trace q) request
-    (covered r.plan.bridge request.line i) (pending-listed r n request.line list h finds i))
+choice-listed r n q request list h finds e = grind (arith, covered, pending-listed)
 
 -- the same list stands with the turns of the run up to n
 pub finds-cut : (r : Run) (n : ℕ) (list : List Waiting) → Reaches r (n + 1) → FindsDeferrals list r n
@@ -149,16 +146,10 @@ due-in r n w turns list h k stands = due_deferral-StandsFor list w turns n (trac
 pub due-listed : (r : Run) (n : ℕ) (list : List Waiting) → Reaches r (n + 1) → FindsDeferrals list r n
     → IsThatOf (run_to r n).trace (due_deferral n list) (due_number (run_to r n) (past_to (past_of r) n) n)
 unfolding due_number
-due-listed r n list h finds =
-    let long = h.long in
-    let turns = turns_in (past_to (past_of r) n).moments in
-    let short : Reaches r n = record { timely = h.timely; bounds = h.bounds; long = omega arith } in
-    due-in r n (run_to r n).trace turns list short
-    (cut-goes-on r n turns h (cut-same r n h.timely (omega arith))).same (finds-cut r n list h finds)
+due-listed r n list h finds = grind (arith, due-in, cut-same, finds-cut)
 
 pub any-by : (w : Trace) (o : Option Deferral) (p : Option ℕ) → IsThatOf w o p → is_some p ≡ is_some o
-any-by w None p e = ap is_some e
-any-by w (Some d) p e = ap is_some e.1
+any-by w o p h1 = grind arith
 
 pub any-listed : (r : Run) (n : ℕ) (list : List Waiting) → Reaches r (n + 1) → FindsDeferrals list r n
     → is_some (due_number (run_to r n) (past_to (past_of r) n) n) ≡ is_some (due_deferral n list)
@@ -168,21 +159,15 @@ any-listed r n list h finds =
 
 pub reply-by : (w : Trace) (o : Option Deferral) (p : Option ℕ) → IsThatOf w o p
     → option_map reply_to (option_and_then (live_request_of w) p) ≡ option_map (λ d. reply_to d.request) o
-reply-by w None p e = ap (λ x. option_map reply_to (option_and_then (live_request_of w) x)) e
-reply-by w (Some d) p e =
-    ap (λ x. option_map reply_to (option_and_then (live_request_of w) x)) e.1 ∙ ap (option_map reply_to) e.2.request
+reply-by w o p h1 = grind arith
 
 pub would-listed : (r : Run) (n : ℕ) (list : List Waiting) → Reaches r (n + 1) → FindsDeferrals list r n
     → would_begin (run_to r n) (past_to (past_of r) n) n Priority
     ≡ option_map (λ deferral. reply_to deferral.request) (due_deferral n list)
 unfolding would_begin
-would-listed r n list h finds =
-    reply-by (run_to r n).trace (due_deferral n list) (due_number (run_to r n) (past_to (past_of r) n) n)
-    (due-listed r n list h finds)
+would-listed r n list h finds = grind (arith, reply-by, due-listed)
 
 pub begun-listed : (r : Run) (n : ℕ) (list : List Waiting) → Reaches r (n + 1) → FindsDeferrals list r n
     → reply_begun r n ≡ (if begins_at (run_to r n).trace n Priority
     then option_map (λ deferral. reply_to deferral.request) (due_deferral n list) else None)
-begun-listed r n list h finds =
-    begun-if r n (option_map (λ deferral. reply_to deferral.request) (due_deferral n list))
-    (would-listed r n list h finds)
+begun-listed r n list h finds = grind (arith, begun-if, would-listed)

@@ -1,8 +1,7 @@
 -- Lists of the clocks that pass a test, and lists that are matched with them.
-use Rattle.std.proofs.Common.{ℕ, zero, suc, ◌+◌, ◌<◌, ◌≡◌, ◌≢◌, Bool, true, false, List, [], ◌∷◌, ◌++◌, length, map}
-use Rattle.std.proofs.Common.{refl, sym, ap, subst, ◌∙◌, arith, inl, inr, add-zero}
+use Rattle.std.proofs.Common.{ℕ, zero, suc, ◌+◌, ◌<◌, ◌≡◌, ◌≢◌, Bool, true, List, [], ◌∷◌, ◌++◌, length, map, refl}
+use Rattle.std.proofs.Common.{sym, ap, ◌∙◌, arith, add-zero}
 use Rattle.std.specs.Prelude.{⊤}
-use Rattle.std.proofs.lemmas.Bool.{cases_lt, false_from_ne_true}
 use Rattle.fsb_count.specs.Clocks.{all_where}
 use Rattle.fsb_count.proofs.Interface.{all_where-failed, all_where-passed}
 use Rattle.fsb_bridge.proofs.Interface.{Matched}
@@ -11,17 +10,14 @@ use Rattle.fsb_bridge.proofs.Interface.{Matched}
 pub all_where-below : (p q : ℕ → Bool) (n : ℕ) → ((k : ℕ) → k < n → p k ≡ q k) → all_where p n ≡ all_where q n
 unfolding all_where
 all_where-below p q zero h = refl
-all_where-below p q (suc n) h =
-    rw (all_where-below p q n (λ k l. h k (omega arith)), h n (omega arith)) refl
+all_where-below p q (suc n) h = grind (arith, all_where-below p q n)
 
 -- more clocks, of which none passes, change nothing
 all_where-past : (p : ℕ → Bool) (a m : ℕ) → ((k : ℕ) → p k ≡ true → k < a) → all_where p (a + m) ≡ all_where p a
 all_where-past p a zero low = ap (all_where p) (add-zero a)
 all_where-past p a (suc m) low =
     let next : a + suc m ≡ a + m + 1 = omega arith in
-    ap (all_where p) next
-    ∙ all_where-failed p (a + m) (false_from_ne_true (p (a + m)) (λ t. let l = low (a + m) t in omega arith))
-    ∙ all_where-past p a m low
+    grind (arith, all_where-failed, all_where-past p a m low)
 
 -- so where all that pass lie below both, both have the same
 pub all_where-bounds : (p : ℕ → Bool) (a b : ℕ) → ((k : ℕ) → p k ≡ true → k < a) → ((k : ℕ) → p k ≡ true → k < b)
@@ -34,10 +30,7 @@ all_where-bounds p a b low below =
 pub all_where-added : (p q : ℕ → Bool) (n i : ℕ) → i < n → ((k : ℕ) → p k ≡ true → k < i) → q i ≡ true
     → ((k : ℕ) → k ≢ i → q k ≡ p k) → all_where q n ≡ all_where p n ++ i ∷ []
 all_where-added p q n i l low here same =
-    let upto : (k : ℕ) → q k ≡ true → k < i + 1 = λ k t. elim (cases_lt k (i + 1)) [
-      | inl less ↦ less
-      | inr more ↦ let m = low k (sym (same k (λ e. omega arith)) ∙ t) in omega arith
-    ] in
+    let upto : (k : ℕ) → q k ≡ true → k < i + 1 = grind arith in
     let within : (k : ℕ) → q k ≡ true → k < n = λ k t. let m = upto k t in omega arith in
     let before : (k : ℕ) → p k ≡ true → k < n = λ k t. let m = low k t in omega arith in
     all_where-bounds q n (i + 1) within upto ∙ all_where-passed q i here
@@ -63,8 +56,7 @@ all_where-pass p (suc n) = by (p n) refl (all_where-pass p n)
     append-none (m ∷ ns) = ap (λ xs. m ∷ xs) (append-none ns)
 
     by : (b : Bool) → p n ≡ b → AllPass p (all_where p n) → AllPass p (all_where p (suc n))
-    by true t all = rw (all_where, t) (pass-more p (all_where p n) n all t)
-    by false f all = rw (all_where, f) (subst (AllPass p) (sym (append-none (all_where p n))) all)
+    by b h1 h2 = grind (arith, pass-more, append-none)
 
 -- matched lists stay matched in what follows for each pair whose number passes
 pub Matched-into : {X : Type 0} (R S : X → ℕ → Type 0) (p : ℕ → Bool) (xs : List X) (ns : List ℕ) → AllPass p ns

@@ -1,9 +1,8 @@
 -- In a timely run the requests that wait for their replies have IDs of their own.
-use Rattle.std.proofs.Common.{ℕ, zero, suc, ◌+◌, ◌<◌, ◌≤◌, ◌≡◌, true, false, not, Option, Some, None, length, sym, ap}
-use Rattle.std.proofs.Common.{◌∙◌, arith, inl, inr}
+use Rattle.std.proofs.Common.{ℕ, zero, suc, ◌+◌, ◌<◌, ◌≤◌, ◌≡◌, true, false, Option, Some, length, sym, ap, ◌∙◌}
+use Rattle.std.proofs.Common.{arith, inl, inr}
 use Rattle.std.specs.Option.{option_and_then}
-use Rattle.std.proofs.lemmas.Bool.{and_from, and_left, and_right, both_ways, cases_Bool, cases_order, eq-eqb, eqb-true}
-use Rattle.std.proofs.lemmas.Bool.{false_from_ne_true, lt-ltb}
+use Rattle.std.proofs.lemmas.Bool.{and_from, both_ways, cases_Bool, cases_order, eq-eqb, eqb-true, false_from_ne_true}
 use Rattle.fsb_count.specs.Options.{is_before, is_some_and}
 use Rattle.fsb_count.proofs.Interface.{is_before-from, is_before-parts}
 use Rattle.fsb_encode.specs.declared.request.Request.{Request}
@@ -52,21 +51,7 @@ pub deferred-at : (r : Run) (t i : ℕ) → Timely r → WantsLawfully r → sno
     → is_settled_deferred r.trace (turns_of r) i ≡ true → IsDeferredAt r t i
 unfolding is_settled_deferred is_some_and
 deferred-at r t i h wants e settled =
-    let tied = snoop-tied r i t e in
-    let k = snooped-by r t i tied.0 tied.1 in
-    let a = asked-at r t i tied.0 h wants k in
-    let deferred : is_deferral tied.0.outcome ≡ true = sym (ap (λ o. is_some_and o is_deferral) tied.1.outcome)
-    ∙ settled in
-    record {
-      end = tied.0;
-      snooped = k;
-      deferred = deferred;
-      request = a.request;
-      begun = a.begun;
-      decoded = a.decoded;
-      asked = live_request_of-at r.trace i tied.0.first a.request tied.1.first a.decoded;
-      plain = held-plain a.request.kind (deferred-held r t i tied.0 a.request h k a.decoded deferred);
-    }
+    grind (arith, snoop-tied, snooped-by, asked-at, live_request_of-at, held-plain, deferred-held)
 
 -- while no reply to it has its snoop end, a request that was Deferred is not finished
 unfinished : (r : Run) (c n t i : ℕ) → Timely r → c < length r.trace → (d : IsDeferredAt r t i) → d.end.first + 3 ≤ c
@@ -112,10 +97,7 @@ still-outstanding r c n t i h l d early low none =
     let live = live-at v i q clock in
     let there = sym (request_at-agree (c + 1) w v q agree (omega arith)) ∙ d.decoded in
     let awaits = unfinished r c n t i h l d (omega arith) low none in
-    and_from _ _ (and_from _ _ (and_from _ _ (and_from _ _ live.asks (lt-ltb q n (omega arith)))
-    (ap not (ap (λ o. is_some_and o (λ x. is_reply_kind x.kind)) there ∙ d.plain)))
-    (ap not (and_left _ _ live.kept)))
-    (ap not (and_right _ _ (ap (λ x. is_before (last_clock_of v x) n) live.number ∙ awaits)))
+    grind arith
 
 pub same-ids : (a b : Option Request) (x y : Request) → a ≡ Some x → b ≡ Some y → x.did ≡ y.did
     → have_same_id a b ≡ true
@@ -201,9 +183,7 @@ ids-of a b x y e f same = eqb-true x.did y.did (rw (e, f) at same)
 pub same-dids : (a a' b b' : Option Request) (x y : Request) → a ≡ a' → b ≡ Some x → b' ≡ Some y
     → have_same_id a b ≡ true → have_same_id a' b' ≡ true → x.did ≡ y.did
 unfolding have_same_id is_some_and
-same-dids None a' b b' x y s e f one two = absurd (let no : ⊥ = cc in no)
-same-dids (Some z) a' b b' x y s e f one two =
-    sym (eqb-true z.did x.did (rw e at one)) ∙ eqb-true z.did y.did (rw (← s, f) at two)
+same-dids a a' b b' x y h1 h2 h3 h4 h5 = grind arith
 
 pub own-ids : (r : Run) (n c : ℕ) → Reaches r n → c ≤ n → HaveOwnIds r.trace (turns_of r) c
 own-ids r n c h low = record {

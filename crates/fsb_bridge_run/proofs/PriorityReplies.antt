@@ -1,7 +1,7 @@
 -- The replies of a timely run are what the priority agent begins.
 use Rattle.std.proofs.Common.{ℕ, suc, ◌+◌, ◌≡◌, true, false, ◌&&◌, Option, Some, None, if◌then◌else◌, refl, sym, ap}
-use Rattle.std.proofs.Common.{subst, ◌∙◌, arith, inl, inr}
-use Rattle.std.proofs.lemmas.Bool.{and_parts, cases_Bool}
+use Rattle.std.proofs.Common.{subst, ◌∙◌, arith}
+use Rattle.std.proofs.lemmas.Bool.{and_parts}
 use Rattle.fsb_count.specs.Options.{is_some_and}
 use Rattle.fsb_encode.specs.declared.request.Request.{Request}
 use Rattle.fsb_signal.specs.declared.lines.TheConstants.Lines.{ADS}
@@ -10,7 +10,7 @@ use Rattle.fsb_trace.specs.At.{request_at}
 use Rattle.fsb_trace.specs.Requests.{is_reply}
 use Rattle.fsb_trace.specs.Winner.{begins_at, is_agent, is_same_agent, winner_at}
 use Rattle.fsb_trace.specs.declared.who.Who.{Who}
-use Rattle.fsb_trace.specs.declared.who.Who.TheVariants.{Symmetric, Priority}
+use Rattle.fsb_trace.specs.declared.who.Who.TheVariants.{Priority}
 use Rattle.fsb_trace.proofs.Interface.{line_at-agree, request_at-agree, winner_at-agree}
 use Rattle.fsb_timely.specs.Runs.{Run, past_of, past_to, run_to}
 use Rattle.fsb_timely.specs.Starts.{request_begun, would_begin}
@@ -22,8 +22,7 @@ use Rattle.fsb_bridge_run.proofs.RepliesAt.{reply_at-from, reply_at-off}
 
 agent-is : (who : Who) → is_agent (Some who) Priority ≡ true → who ≡ Priority
 unfolding is_agent is_some_and is_same_agent
-agent-is (Symmetric a) e = absurd (let no : ⊥ = cc in no)
-agent-is Priority e = refl
+agent-is who h1 = grind arith
 
 -- where the priority agent begins a request, it is what the agent would begin
 pub begun-priority : (r : Run) (n : ℕ) → Reaches r (n + 2) → begins_at r.trace n Priority ≡ true
@@ -61,21 +60,6 @@ reply-priority r n h =
     ∙ reply-is r n h.timely (wants-lawfully r h.bounds) h.bounds.few_ahead (omega arith)
     ∙ sym (λ i. ads i && is_agent (winner i) Priority)
 
-begins-cut : (r : Run) (n : ℕ) → Reaches r (n + 1)
-    → begins_at r.trace n Priority ≡ begins_at (run_to r n).trace n Priority
-unfolding begins_at
-begins-cut r n h =
-    let w = r.trace in
-    let v = (run_to r n).trace in
-    let long = h.long in
-    let agree = run_to-agrees r n (omega arith) in
-    let ads = line_at-agree ADS (n + 1) w v n agree (omega arith) in
-    let winner = winner_at-agree (n + 1) w v n agree (omega arith) in
-    λ i. ads i && is_agent (winner i) Priority
-
-shorter : (r : Run) (n : ℕ) → Reaches r (n + 2) → Reaches r (n + 1)
-shorter r n h = let long = h.long in record { timely = h.timely; bounds = h.bounds; long = omega arith }
-
 pub begun-off : (r : Run) (n : ℕ) → begins_at (run_to r n).trace n Priority ≡ false → reply_begun r n ≡ None
 unfolding reply_begun
 begun-off r n e = rw (reply_begun, e) refl
@@ -88,46 +72,31 @@ begun-on r n e = rw (reply_begun, e) refl
 -- where a reply begins, the priority agent begins what it would begin
 pub begun-parts : (r : Run) (n : ℕ) (x : Request) → reply_begun r n ≡ Some x
     → would_begin (run_to r n) (past_to (past_of r) n) n Priority ≡ Some x
-begun-parts r n x e =
-    elim (cases_Bool (begins_at (run_to r n).trace n Priority)) [
-      | inl t ↦ sym (begun-on r n t) ∙ e
-      | inr f ↦
-          let off = begun-off r n f in
-          let no : None ≡ Some x = sym off ∙ e in
-          absurd (let wrong : ⊥ = cc in wrong)
-    ]
+begun-parts r n x e = grind (arith, begun-on, begun-off)
 
 -- a reply begins as its two clocks show it, once both are there
 pub reply-shown : (r : Run) (n : ℕ) → Reaches r (n + 2) → reply_at r.trace n ≡ reply_begun r n
+unfolding begins_at
 reply-shown r n h =
-    let w = r.trace in
-    let same = reply-priority r n h in
-    let cut = begins-cut r n (shorter r n h) in
-    elim (cases_Bool (begins_at w n Priority)) [
-      | inl t ↦
-          let parts = and_parts (line_at ADS w n) (is_reply (request_at w n)) (same ∙ t) in
-          reply_at-from w n parts.0 parts.1 ∙ begun-priority r n h t ∙ sym (begun-on r n (sym cut ∙ t))
-      | inr f ↦ reply_at-off w n (same ∙ f) ∙ sym (begun-off r n (sym cut ∙ f))
-    ]
+    grind (
+      arith,
+      reply-priority,
+      run_to-agrees,
+      line_at-agree,
+      winner_at-agree,
+      reply_at-from,
+      begun-priority,
+      begun-on,
+      reply_at-off,
+      begun-off,
+    )
 
 -- and it is the priority agent's request
 pub reply-request : (r : Run) (n : ℕ) → Reaches r (n + 2)
     → reply_at r.trace n ≡ (if begins_at r.trace n Priority then request_at r.trace n else None)
-reply-request r n h =
-    let w = r.trace in
-    let same = reply-priority r n h in
-    elim (cases_Bool (begins_at w n Priority)) [
-      | inl t ↦
-          let parts = and_parts (line_at ADS w n) (is_reply (request_at w n)) (same ∙ t) in
-          rw t (reply_at-from w n parts.0 parts.1)
-      | inr f ↦ rw f (reply_at-off w n (same ∙ f))
-    ]
+reply-request r n h = grind (arith, reply-priority, reply_at-from, reply_at-off)
 
 pub begun-if : (r : Run) (n : ℕ) (o : Option Request)
     → would_begin (run_to r n) (past_to (past_of r) n) n Priority ≡ o
     → reply_begun r n ≡ (if begins_at (run_to r n).trace n Priority then o else None)
-begun-if r n o e =
-    elim (cases_Bool (begins_at (run_to r n).trace n Priority)) [
-      | inl t ↦ rw t (begun-on r n t ∙ e)
-      | inr f ↦ rw f (begun-off r n f)
-    ]
+begun-if r n o e = grind (arith, begun-on, begun-off)

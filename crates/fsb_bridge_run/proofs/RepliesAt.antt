@@ -1,6 +1,5 @@
 -- The reply that begins at a clock.
-use Rattle.std.proofs.Common.{ℕ, ◌+◌, ◌<◌, arith, ◌≡◌, Bool, true, false, ◌&&◌, Option, Some, None, refl, ap, ◌∙◌}
-use Rattle.std.proofs.lemmas.Bool.{and_parts, both_ways}
+use Rattle.std.proofs.Common.{ℕ, ◌+◌, ◌<◌, arith, ◌≡◌, true, false, ◌&&◌, Some, None, refl}
 use Rattle.fsb_count.specs.Options.{is_some_and}
 use Rattle.fsb_encode.specs.declared.request.Request.{Request}
 use Rattle.fsb_signal.specs.declared.lines.TheConstants.Lines.{ADS}
@@ -11,18 +10,10 @@ use Rattle.fsb_trace.proofs.Interface.{line_at-agree, request_at-agree}
 use Rattle.fsb_trace.specs.Requests.{is_reply}
 use Rattle.fsb_bridge_run.specs.DeferralSteps.{reply_at}
 
-some-by : (b : Bool) (o : Option Request) (x : Request) → elim b [ true ↦ o | false ↦ None ] ≡ Some x
-    → (b ≡ true) × (o ≡ Some x)
-some-by true o x e = (refl, e)
-some-by false o x e = absurd (let no : ⊥ = cc in no)
-
 pub reply_at-parts : (w : Trace) (q : ℕ) (x : Request) → reply_at w q ≡ Some x
     → (line_at ADS w q ≡ true) × (is_reply (request_at w q) ≡ true) × (request_at w q ≡ Some x)
 unfolding reply_at
-reply_at-parts w q x e =
-    let k = some-by (line_at ADS w q && is_reply (request_at w q)) (request_at w q) x e in
-    let p = and_parts (line_at ADS w q) (is_reply (request_at w q)) k.0 in
-    (p.0, p.1, k.1)
+reply_at-parts w q x e = grind arith
 
 pub reply_at-from : (w : Trace) (q : ℕ) → line_at ADS w q ≡ true → is_reply (request_at w q) ≡ true
     → reply_at w q ≡ request_at w q
@@ -39,14 +30,8 @@ none-is = refl
 
 pub reply_at-none : (w : Trace) (q : ℕ) → reply_at w q ≡ None → line_at ADS w q ≡ true
     → is_reply (request_at w q) ≡ true → ⊥
-reply_at-none w q e ads reply =
-    let there = reply_at-from w q ads reply in
-    let none : request_at w q ≡ None = cc in
-    both_ways (is_reply (request_at w q)) (ap is_reply none ∙ none-is) reply
+reply_at-none w q e ads reply = grind (arith, reply_at-from, none-is)
 
 pub reply_at-agree : (n : ℕ) (w v : Trace) (q : ℕ) → AgreeTo n w v → q + 1 < n → reply_at w q ≡ reply_at v q
 unfolding reply_at
-reply_at-agree n w v q a l =
-    let ads = line_at-agree ADS n w v q a (omega arith) in
-    let request = request_at-agree n w v q a l in
-    λ i. elim (ads i && is_reply (request i)) [ true ↦ request i | false ↦ None ]
+reply_at-agree n w v q a l = grind (arith, line_at-agree, request_at-agree)

@@ -1,8 +1,7 @@
 -- The snoop end of a reply, in a trace that has the deferrals of a run so far: which request it answers.
-use Rattle.std.proofs.Common.{ℕ, ◌+◌, ◌<◌, ◌≤◌, ◌≡◌, true, false, List, Some, length, sym, ap, subst, ◌∙◌, arith, inl}
-use Rattle.std.proofs.Common.{inr}
+use Rattle.std.proofs.Common.{ℕ, ◌+◌, ◌<◌, ◌≤◌, ◌≡◌, true, false, List, Some, length, sym, ap, ◌∙◌, arith}
 use Rattle.std.specs.Option.{option_and_then, option_map}
-use Rattle.std.proofs.lemmas.Bool.{and_from, and_parts, cases_lt, false_from_ne_true}
+use Rattle.std.proofs.lemmas.Bool.{and_from, and_parts, false_from_ne_true}
 use Rattle.fsb_count.specs.Options.{is_before}
 use Rattle.fsb_count.proofs.Interface.{first_where-at, is_before-parts}
 use Rattle.fsb_encode.specs.declared.request.Request.{Request}
@@ -41,26 +40,8 @@ pub record TakesDeferral (w : Trace) (turns : List ℕ) (n i : ℕ) (reply : Req
   pub asked : live_request_of w i ≡ Some reply
   pub behind : number < i
 
-first-behind : (w : Trace) (i j p q : ℕ) → live_clock_of w i ≡ Some q → live_clock_of w j ≡ Some p → p < q → j < i
-first-behind w i j p q e f less =
-    elim (cases_lt j i) [
-      | inl l ↦ l
-      | inr l ↦ elim (cases_lt i j) [
-        | inl more ↦ let rise = live_clock_of-rises w i j q p more e f in absurd (omega arith)
-        | inr same ↦
-            let one : i ≡ j = omega arith in
-            let there : live_clock_of w i ≡ Some p = subst (λ x. live_clock_of w x ≡ Some p) (sym one) f in
-            let at : p ≡ q = cc in
-            absurd (omega arith)
-      ]
-    ]
-
 pub not-itself : (c : ℕ) → is_before (Some c) c ≡ false
-not-itself c = false_from_ne_true (is_before (Some c) c) (λ t.
-    let x = is_before-parts (Some c) c t in
-    let below = x.2 in
-    let same : c ≡ x.0 = (let e = x.1 in cc) in
-    omega arith)
+not-itself c = grind (arith, is_before-parts)
 
 -- a live reply that begins at q is the reply to the request that it answers, in such a trace too
 replied-in : (r : Run) (n q : ℕ) (w : Trace) (d : AnswersDue r q) → AgreeTo n r.trace w → q + 4 ≤ n
@@ -83,11 +64,8 @@ replied-in r n q w d a above live within ads =
 pub takes-in : (r : Run) (n i q : ℕ) (w : Trace) (turns : List ℕ) (reply : Request) → Reaches r n
     → SameDeferrals n r.trace w (turns_of r) turns → ReplyEnds w n i q reply → TakesDeferral w turns n i reply
 takes-in r n i q w turns reply h k ends =
-    let long = h.long in
     let a = k.agree in
     let c = snoop_end_of-clock w i n ends.reached in
-    let one = c.is_clock in
-    let two = ends.first in
     let same : c.clock ≡ q = cc in
     let above : q + 4 ≤ n = let m = c.above in omega arith in
     let live = live-at w i q ends.first in
@@ -95,8 +73,6 @@ takes-in r n i q w turns reply h k ends =
     let decoded = request_at-agree n r.trace w q a (omega arith) ∙ ends.decoded in
     let d = answers-due r q h.timely (wants-lawfully r h.bounds) h.bounds.few_ahead (omega arith) ads
     (ap is_reply decoded ∙ is_reply-some reply ∙ ends.replies) in
-    let gap = d.gap in
-    let after = d.after in
     let number = replied-in r n q w d a above (live-of w i q ends.first) live.within ads ∙ ap Some live.number in
     let reached = ap (option_and_then (snoop_end_of w)) number ∙ ends.reached in
     let snoop = snoop_end_of-stays n r.trace w d.number d.snoop a (omega arith) d.is_snoop in
@@ -105,13 +81,4 @@ takes-in r n i q w turns reply h k ends =
     let waiting = waits-from w turns n d.number d.snoop settled snoop (omega arith)
     (ap (λ o. is_before o n) reached ∙ not-itself n) in
     let p = waits-parts w turns n d.number waiting in
-    let is = p.is_snoop in
-    let there : p.snoop ≡ d.snoop = cc in
-    let low = p.above in
-    record {
-      number = d.number;
-      waiting = waiting;
-      answers = number;
-      asked = live_request_of-at w i q reply ends.first ends.decoded;
-      behind = first-behind w i d.number p.clock q ends.first p.is_clock (omega arith);
-    }
+    grind (arith, live_request_of-at, live_clock_of-rises)

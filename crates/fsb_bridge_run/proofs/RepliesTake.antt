@@ -1,8 +1,7 @@
 -- The snoop end of a reply is for the deferral that its ID has in the list.
-use Rattle.std.proofs.Common.{ℕ, ◌+◌, ◌<◌, ◌≡◌, true, false, List, Option, Some, None, is_some, refl, sym, ap, subst}
-use Rattle.std.proofs.Common.{◌∙◌, arith}
+use Rattle.std.proofs.Common.{ℕ, ◌+◌, ◌<◌, ◌≡◌, true, false, List, Option, Some, is_some, sym, ap, subst, ◌∙◌, arith}
 use Rattle.std.specs.Option.{option_and_then, option_map_or}
-use Rattle.std.proofs.lemmas.Bool.{and_from, and_parts, eq-eqb, eqb-true, false_from_ne_true}
+use Rattle.std.proofs.lemmas.Bool.{and_from, and_parts, false_from_ne_true}
 use Rattle.fsb_count.specs.Options.{is_at, is_before, is_some_and}
 use Rattle.fsb_count.proofs.Interface.{first_where-at, is_at-from, is_at-some}
 use Rattle.fsb_encode.specs.declared.request.Request.{Request}
@@ -40,11 +39,7 @@ use Rattle.fsb_bridge_run.proofs.Waiting.{reply-parts, waits-from, waits-parts}
 -- two requests with the ID of a third one have one ID
 same-third : (a b c : Option Request) → have_same_id a b ≡ true → have_same_id a c ≡ true → have_same_id b c ≡ true
 unfolding have_same_id is_some_and
-same-third None b c e f = absurd (let no : ⊥ = cc in no)
-same-third (Some x) None c e f = absurd (let no : ⊥ = cc in no)
-same-third (Some x) (Some y) None e f = absurd (let no : ⊥ = cc in no)
-same-third (Some x) (Some y) (Some z) e f =
-    eq-eqb y.did z.did (sym (eqb-true x.did y.did e) ∙ eqb-true x.did z.did f)
+same-third a b c h1 h2 = grind arith
 
 -- no earlier request is Deferred and answered by the reply
 no-other : (r : Run) (n i q k : ℕ) (w : Trace) (turns : List ℕ) (reply : Request) → Reaches r n
@@ -121,8 +116,7 @@ taken-in r n i q w turns reply list h s ends stands =
     t.asked)
 
 there-by : (w : Trace) (o : Option Deferral) (i : ℕ) → IsThatOf w o (Some i) → is_some o ≡ true
-there-by w None i e = absurd (let no : ⊥ = cc in no)
-there-by w (Some d) i e = refl
+there-by w o i h1 = grind arith
 
 -- which is there
 pub there-in : (r : Run) (n i q : ℕ) (w : Trace) (turns : List ℕ) (reply : Request) (list : List Waiting) → Reaches r n
@@ -137,8 +131,7 @@ there-in r n i q w turns reply list h s ends stands =
 pub hit-by : (w : Trace) (o : Option Deferral) (p : Option ℕ) → IsThatOf w o p
     → is_some_and p (line_at_snoop_end HIT w) ≡ option_map_or (λ deferral. deferral.shared) o false
 unfolding is_some_and
-hit-by w None p e = rw e refl
-hit-by w (Some d) p e = rw e.1 (sym e.2.shared)
+hit-by w o p h1 = grind arith
 
 -- the snoop end of a reply in a moment of the run
 pub reply-takes : (r : Run) (n : ℕ) (s : SnoopEnd) (reply : Request) (list : List Waiting) → Reaches r (n + 1)
@@ -173,7 +166,4 @@ pub hit-taken : (r : Run) (n : ℕ) (s : SnoopEnd) (reply : Request) (list : Lis
     → was_hit_before (run_to r n) (past_to (past_of r) n) n
     ≡ option_map_or (λ deferral. deferral.shared) (deferral_of_id reply.did list) false
 unfolding was_hit_before
-hit-taken r n s reply list h finds there decoded replies =
-    hit-by (run_to r n).trace (deferral_of_id reply.did list)
-    (number_served_at (run_to r n) (past_to (past_of r) n) n)
-    (reply-takes r n s reply list h finds there decoded replies)
+hit-taken r n s reply list h finds there decoded replies = grind (arith, hit-by, reply-takes)

@@ -1,7 +1,7 @@
 -- Whether a reply is under way, one clock on.
 use Rattle.std.proofs.Common.{ℕ, suc, ◌+◌, ◌<◌, ◌≤◌, ◌≡◌, true, false, not, Some, length, sym, ap, subst, ◌∙◌, arith}
 use Rattle.std.proofs.Common.{inl, inr}
-use Rattle.std.proofs.lemmas.Bool.{and_from, and_parts, both_ways, cases_lt, cases_order, false_from_ne_true, not-true}
+use Rattle.std.proofs.lemmas.Bool.{and_from, both_ways, cases_lt, cases_order, false_from_ne_true}
 use Rattle.fsb_count.specs.Options.{is_some_and}
 use Rattle.fsb_encode.specs.declared.request.Request.{Request}
 use Rattle.fsb_signal.specs.declared.lines.TheConstants.Lines.{ADS}
@@ -27,9 +27,7 @@ use Rattle.fsb_bridge_run.proofs.Waiting.{answered-from, answered-parts, reply-p
 
 no-reply : (w : Trace) (q : ℕ) → length w ≤ q + 1 → is_reply (request_at w q) ≡ true → ⊥
 unfolding is_reply is_some_and
-no-reply w q l e =
-    let none = sym (ap is_reply (request_at-last w q l)) ∙ e in
-    let no : ⊥ = cc in no
+no-reply w q l e = grind (arith, request_at-last)
 
 -- a reply shows from its second clock on
 within : (w : Trace) (i q : ℕ) → is_reply_to w i q ≡ true → q + 1 < length w
@@ -65,8 +63,7 @@ answered-before d w v i t a size snoop l none =
 
 -- a reply that begins at d is under way at the next clock
 pub begun-now : (w : Trace) (d i : ℕ) → is_reply_to w i d ≡ true → is_answered w (suc d) i ≡ true
-begun-now w d i reply = answered-from w (suc d) i d
-    (record { below = omega arith; reply = reply; kept = inr (omega arith) })
+begun-now w d i reply = grind (arith, answered-from)
 
 -- with no cancellation of a reply to it, a request has a reply under way after the clock c where it had one before
 pub begun-stays : (r : Run) (c i t : ℕ) → Reaches r (c + 1) → snoop_end_of r.trace i ≡ Some t → t < c + 1
@@ -117,9 +114,7 @@ begun-stays r c i t h snoop below none =
 
 not-live : (w : Trace) (q : ℕ) → is_cancelled w q ≡ true → is_live w q ≡ true → ⊥
 unfolding is_live
-not-live w q cancelled live =
-    let parts = and_parts (line_at ADS w q) (not (is_cancelled w q)) live in
-    both_ways (is_cancelled w q) (not-true (is_cancelled w q) parts.1) cancelled
+not-live w q cancelled live = grind arith
 
 -- a request that waits with the ID of a reply that is cancelled at c has no reply under way after c
 pub begun-dropped : (r : Run) (c i q : ℕ) (x : Request) → Reaches r (c + 1) → q + 3 ≡ c

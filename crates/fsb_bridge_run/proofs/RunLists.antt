@@ -1,5 +1,5 @@
 -- A list that has the deferrals of a run, as a clock finds it and as it leaves it.
-use Rattle.std.proofs.Common.{ℕ, ◌+◌, ◌≤◌, ◌≡◌, true, List, length, take, refl, sym, subst, arith}
+use Rattle.std.proofs.Common.{ℕ, ◌+◌, ◌≤◌, ◌≡◌, true, List, length, take, refl, subst, arith}
 use Rattle.std.proofs.lemmas.List.{length-take-le}
 use Rattle.fsb_trace.specs.Agree.{AgreeTo}
 use Rattle.fsb_trace.specs.At.{Trace}
@@ -22,9 +22,7 @@ use Rattle.fsb_bridge_run.proofs.UnderWay.{answered-same}
 use Rattle.fsb_bridge_run.proofs.Waiting.{waits-parts}
 
 pub take-agrees : (w : Trace) (n : ℕ) → n ≤ length w → AgreeTo n w (take n w)
-take-agrees w n l =
-    let size : length (take n w) ≡ n = length-take-le n w l in
-    record { left = l; right = omega arith; same = λ c m. sym (slice_get-take n w c m) }
+take-agrees w n l = grind (arith, length-take-le, slice_get-take)
 
 -- with the same turns only the samples count
 pub own-turns : (n : ℕ) (w v : Trace) (turns : List ℕ) → AgreeTo n w v → SameDeferrals n w v turns turns

@@ -1,8 +1,8 @@
 -- The request that began at the last clock of a run shows at the next one, where its words are as they must.
-use Rattle.std.proofs.Common.{ℕ, ◌+◌, ◌-◌, ◌<◌, ◌≡◌, true, false, not, List, [], ◌∷◌, Option, Some, None, length}
-use Rattle.std.proofs.Common.{nat_eq, nat_le, take, take-take, refl, sym, ap, ◌∙◌, arith, inl, inr}
+use Rattle.std.proofs.Common.{ℕ, ◌+◌, ◌-◌, ◌<◌, ◌≡◌, true, false, List, [], ◌∷◌, Option, Some, None, length, take}
+use Rattle.std.proofs.Common.{take-take, refl, sym, ap, ◌∙◌, arith}
 use Rattle.std.specs.Option.{option_and_then, option_map}
-use Rattle.std.proofs.lemmas.Bool.{and_parts, both_ways, cases_Bool, eqb-true, false_from_ne_true, le-leb, not-true}
+use Rattle.std.proofs.lemmas.Bool.{and_parts, le-leb}
 use Rattle.std.proofs.lemmas.List.{take-append-le}
 use Rattle.fsb_access.specs.declared.log.Done.{Done}
 use Rattle.fsb_count.specs.Options.{is_some_and}
@@ -15,33 +15,22 @@ use Rattle.fsb_signal.specs.declared.lines.TheConstants.Lines.{ADS}
 use Rattle.fsb_signal.specs.Samples.{line_at}
 use Rattle.fsb_trace.specs.Agree.{AgreeTo}
 use Rattle.fsb_trace.specs.At.{Trace, known_pair, known_pair_at, line_back, request_at}
-use Rattle.fsb_trace.specs.Deferral.{due_at}
-use Rattle.fsb_trace.specs.Requests.{live_request_of}
-use Rattle.fsb_trace.specs.Winner.{winner_at}
-use Rattle.fsb_trace.specs.declared.who.Who.{Who}
-use Rattle.fsb_trace.specs.declared.who.Who.TheVariants.{Symmetric, Priority}
 use Rattle.fsb_trace.proofs.Interface.{line_at-agree}
 use Rattle.fsb_timely.specs.Growth.{GrowsTo}
-use Rattle.fsb_timely.specs.Moments.{turns_in}
 use Rattle.fsb_timely.specs.Past.{Past}
 use Rattle.fsb_timely.specs.Runs.{Run, entries_to, past_of, past_to, run_to}
-use Rattle.fsb_timely.specs.Starts.{drives_ads, drives_pair, due_number, has_free_winner, has_room, is_spaced}
-use Rattle.fsb_timely.specs.Starts.{may_begin, pair_due, reply_to, request_begun, request_begun_before, starts_requests}
-use Rattle.fsb_timely.specs.Starts.{would_begin}
+use Rattle.fsb_timely.specs.Starts.{drives_ads, drives_pair, due_number, is_spaced, may_begin, pair_due}
+use Rattle.fsb_timely.specs.Starts.{request_begun, request_begun_before, starts_requests, would_begin}
 use Rattle.fsb_timely.specs.Timely.{holds_at, holds_in}
 use Rattle.fsb_timely.proofs.Interface.{past-before}
 use Rattle.fsb_lawful.specs.Beginning.{KeepsBounds}
-use Rattle.fsb_lawful.proofs.Interface.{run_to-agrees, same-beq, wants-lawfully}
+use Rattle.fsb_lawful.proofs.Interface.{run_to-agrees, wants-lawfully}
 use Rattle.fsb_bridge_run.specs.RunDeferrals.{ShowsBegun}
 use Rattle.fsb_bridge_run.proofs.GrownLists.{agree-grown}
 
 same-pair : (p q : Pair) → is_pair p q ≡ true → p ≡ q
 unfolding is_pair
-same-pair p q e =
-    let a = and_parts (nat_eq p.addr q.addr) (nat_eq p.req q.req) e in
-    let addr = eqb-true p.addr q.addr a.0 in
-    let req = eqb-true p.req q.req a.1 in
-    λ i. record { addr = addr i; req = req i }
+same-pair p q e = grind arith
 
 -- the words of a clock are those of a request that is there
 pair-there : (f : Request → Pair) (o : Option Request) (k : Option Pair)
@@ -71,57 +60,23 @@ second-words r p c e f t =
 quiet-second : (r : Run) (p : Past) (c : ℕ) → drives_ads r p c ≡ true → line_back ADS r.trace c 1 ≡ true
     → line_at ADS r.trace c ≡ false
 unfolding drives_ads may_begin is_spaced
-quiet-second r p c e t =
-    false_from_ne_true (line_at ADS r.trace c) (λ u.
-    let begins = sym (same-beq (line_at ADS r.trace c) (may_begin r p c) e) ∙ u in
-    let free = and_parts _ (has_free_winner r p c) begins in
-    let unblocked = and_parts _ _ free.0 in
-    let room = and_parts (is_spaced r c) (has_room r c) unblocked.0 in
-    let apart = and_parts (not (line_back ADS r.trace c 1)) _ room.0 in
-    both_ways (line_back ADS r.trace c 1) (not-true (line_back ADS r.trace c 1) apart.0) t)
+quiet-second r p c e t = grind arith
 
 entries-again : (c : ℕ) (log : List Done) → entries_to c (entries_to c log) ≡ entries_to c log
 unfolding entries_to
 entries-again c [] = refl
-entries-again c (done ∷ log) =
-    elim (cases_Bool (nat_le done.clock c)) [
-      | inl t ↦ rw (t, t) (ap (λ xs. done ∷ xs) (entries-again c log))
-      | inr f ↦ rw f (entries-again c log)
-    ]
-
-past-again : (p : Past) (c : ℕ) → past_to (past_to p c) c ≡ past_to p c
-unfolding past_to
-past-again p c =
-    let moments = take-again (c + 1) p.moments in
-    let log = entries-again c p.log in
-    λ i. record { plan = p.plan; moments = moments i; log = log i }
-  where
-    take-again : {X : Type 0} (n : ℕ) (xs : List X) → take n (take n xs) ≡ take n xs
-    take-again n xs = take-take n n xs (omega arith)
-
-would-same : (a b : Run) (p q : Past) (c : ℕ) (who : Who) → a.trace ≡ b.trace → p ≡ q
-    → would_begin a p c who ≡ would_begin b q c who
-unfolding would_begin due_number
-would-same a b p q c (Symmetric x) e f = λ i. would_begin a (f i) c (Symmetric x)
-would-same a b p q c Priority e f =
-    λ i. option_map reply_to (option_and_then (live_request_of (e i)) (due_at (e i) (turns_in (f i).moments) c))
+entries-again c (done ∷ log) = grind (arith, entries-again c log)
 
 begun-same : (a b : Run) (p q : Past) (c : ℕ) → a.trace ≡ b.trace → p ≡ q
     → request_begun a p c ≡ request_begun b q c
-unfolding request_begun
-begun-same a b p q c e f =
-    ap (option_and_then (would_begin a p c)) (ap (λ w. winner_at w c) e) ∙ each (winner_at b.trace c)
-  where
-    each : (o : Option Who) → option_and_then (would_begin a p c) o ≡ option_and_then (would_begin b q c) o
-    each None = refl
-    each (Some who) = would-same a b p q c who e f
+unfolding request_begun would_begin due_number
+begun-same a b p q c e f = grind arith
 
 decoded-from : (w : Trace) (d : ℕ) (q : Request) → is_lawful_request q ≡ true
     → known_pair_at w d ≡ Some (pairs_of q).0 → known_pair_at w (d + 1) ≡ Some (pairs_of q).1
     → request_at w d ≡ Some q
 unfolding request_at
-decoded-from w d q lawful e f =
-    rw (e, f) (request_of_coded q (pairs_of q).0 (pairs_of q).1 (record { lawful = lawful; clocks = refl }))
+decoded-from w d q lawful e f = grind (arith, request_of_coded)
 
 words-agree : (n : ℕ) (w v : Trace) (c : ℕ) → AgreeTo n w v → c < n → known_pair_at w c ≡ known_pair_at v c
 unfolding known_pair_at
@@ -132,7 +87,7 @@ pub shows-second : (r s : Run) → GrowsTo r s → KeepsBounds r.plan
     → ((d : ℕ) → d + 1 ≡ length r.trace → line_at ADS r.trace d ≡ true
     → (q : Request) × (request_begun_before s (past_of s) (length r.trace) ≡ Some q)
     × (known_pair_at s.trace (length r.trace) ≡ Some (pairs_of q).1)) → ShowsBegun r s
-unfolding starts_requests request_begun_before holds_at holds_in run_to
+unfolding starts_requests request_begun_before holds_at holds_in run_to past_to
 shows-second r s grows bounds there = record {
   shown = λ d at ads.
       let n = length r.trace in
@@ -144,14 +99,12 @@ shows-second r s grows bounds there = record {
       let own = and_parts (drives_ads (run_to r d) (past_to (past_of r) d) d)
       (drives_pair (run_to r d) (past_to (past_of r) d) d) (grows.timely.request_starts.at d (omega arith)) in
       let first = first-words (run_to r d) (past_to (past_of r) d) d own.1 here in
-      let trace : take (d + 1) s.trace ≡ take (d + 1) r.trace =
-      ap (take (d + 1)) grows.next.more_trace ∙ take-append-le (d + 1) r.trace _ (omega arith) in
+      let trace : take (d + 1) s.trace ≡ take (d + 1) r.trace = grind (arith, take-append-le) in
       let past : past_to (past_of s) d ≡ past_to (past_of r) d =
-      sym (past-again (past_of s) d) ∙ ap (λ p. past_to p d) (past-before r s d grows at) in
+      grind (arith, entries-again, take-take, past-before) in
       let same = begun-same (run_to s d) (run_to r d) (past_to (past_of s) d) (past_to (past_of r) d) d trace past in
       let one = second.1 in
-      let two : request_begun_before s (past_of s) n ≡ Some first.0 =
-      ap (λ k. request_begun (run_to s k) (past_to (past_of s) k) k) back ∙ same ∙ first.1 in
+      let two : request_begun_before s (past_of s) n ≡ Some first.0 = grind arith in
       let is : second.0 ≡ first.0 = cc in
       let words = words-agree (d + 1) r.trace (run_to r d).trace d cut (omega arith) in
       let lawful = (wants-lawfully r bounds).lawful d first.0 first.1 in

@@ -1,20 +1,15 @@
 -- The list of deferrals after the snoop end of a clock.
-use Rattle.std.proofs.Common.{ℕ, ◌+◌, ◌/◌, ◌<◌, ◌≤◌, ◌≡◌, true, false, List, [], ◌∷◌, ◌++◌, Option, Some, None, length}
-use Rattle.std.proofs.Common.{refl, sym, ap, subst, ◌∙◌, arith, inl, inr, if◌then◌else◌}
-use Rattle.std.specs.Option.{option_and_then, option_map}
+use Rattle.std.proofs.Common.{ℕ, ◌+◌, ◌/◌, ◌<◌, ◌≤◌, ◌≡◌, true, false, List, [], ◌∷◌, ◌++◌, Option, Some, None}
+use Rattle.std.proofs.Common.{length, refl, sym, ap, subst, ◌∙◌, arith, inl, inr}
 use Rattle.std.proofs.lemmas.Bool.{cases_Bool, false_from_ne_true}
-use Rattle.fsb_count.specs.Clocks.{count_where}
-use Rattle.fsb_count.specs.Options.{is_before, is_some_and}
+use Rattle.fsb_count.specs.Options.{is_some_and}
 use Rattle.fsb_count.proofs.Interface.{is_before-parts}
-use Rattle.fsb_encode.specs.declared.request.Kind.{Kind}
-use Rattle.fsb_encode.specs.declared.request.Kind.TheVariants.{Reply, Invalidate, Read, WriteBack, Upgrade}
 use Rattle.fsb_encode.specs.declared.request.Request.{Request}
 use Rattle.fsb_hazard.specs.Choice.{is_never_held_up}
-use Rattle.fsb_signal.specs.declared.lines.TheConstants.Lines.{ADS, HIT}
+use Rattle.fsb_signal.specs.declared.lines.TheConstants.Lines.{ADS}
 use Rattle.fsb_signal.specs.Samples.{line_at}
-use Rattle.fsb_trace.specs.Agree.{AgreeTo}
 use Rattle.fsb_trace.specs.At.{Trace, request_at}
-use Rattle.fsb_trace.specs.Deferral.{is_answered, later_of}
+use Rattle.fsb_trace.specs.Deferral.{is_answered}
 use Rattle.fsb_trace.specs.Outcome.{is_deferral, response_clock_of}
 use Rattle.fsb_trace.specs.Requests.{is_reply, is_reply_kind, line_of}
 use Rattle.fsb_trace.specs.Snoop.{line_at_snoop_end, snoop_end_of}
@@ -63,46 +58,19 @@ claimed-line r q request h begun plain ads =
     let s = get-there w q l in
     let claim : Claim = record { first = q; agent = want.0; line = s.0.addr.bits / 4 } in
     let claims : claim_at w q ≡ Some claim = rw (claim_at, agent_at, winner, line_of, s.1) refl in
-    let there : begun_at (past_of r) q ≡ Some claim =
-    begun-told r q l ∙ ap (λ b. if b then claim_at w q else None) ads ∙ claims in
+    let there : begun_at (past_of r) q ≡ Some claim = grind (arith, begun-told) in
     let k = begun-want r q claim h.timely h.bounds l there in
     let one = k.begins in
     let same : k.request ≡ request = cc in
     let named : line_of w q ≡ Some claim.line = rw (winner, line_of, s.1) refl in
     record { line = ap (λ x. Some x.line) (sym same) ∙ ap Some k.line ∙ sym named }
 
--- a request that is Deferred is no reply
-deferred-plain : (kind : Kind) → is_never_held_up kind ≡ false → is_reply_kind kind ≡ true → ⊥
-unfolding is_reply_kind
-deferred-plain Reply e f = let no : ⊥ = cc in no
-deferred-plain Invalidate e f = let no : ⊥ = cc in no
-deferred-plain Read e f = let no : ⊥ = cc in no
-deferred-plain WriteBack e f = let no : ⊥ = cc in no
-deferred-plain Upgrade e f = let no : ⊥ = cc in no
-
 -- the request whose snoop end is the clock responds later, and has no reply yet
 late-response : (r : Run) (c i x : ℕ) → Reaches r (c + 1) → snoop_end_of r.trace i ≡ Some c
     → response_clock_of r.trace i ≡ Some x → c + 2 ≤ x
 late-response r c i x h snoop response =
-    let long = h.long in
     let a = answered r.trace i x (orderly-whole r c h.timely (omega arith)) response in
-    let gap = a.before in
-    let is_snoop = a.is_snoop in
-    let same : a.snoop ≡ c = cc in
-    omega arith
-
-no-answer : (a : Option ℕ) (c : ℕ) → is_before a c ≡ false → None ≡ (if is_before a c then a else None)
-no-answer a c off = rw off refl
-
-made-answered : (r : Run) (c i : ℕ) → Reaches r (c + 1) → snoop_end_of r.trace i ≡ Some c
-    → None ≡ response_before r.trace c i
-unfolding response_before
-made-answered r c i h snoop =
-    no-answer (response_clock_of r.trace i) c (false_from_ne_true (is_before (response_clock_of r.trace i) c) (λ t.
-    let x = is_before-parts (response_clock_of r.trace i) c t in
-    let below = x.2 in
-    let late = late-response r c i x.0 h snoop x.1 in
-    omega arith))
+    grind arith
 
 made-begun : (r : Run) (c i : ℕ) → Reaches r (c + 1) → snoop_end_of r.trace i ≡ Some c
     → false ≡ is_answered r.trace c i
@@ -119,26 +87,9 @@ made-begun r c i h snoop =
 made-entry : (r : Run) (c i : ℕ) (s : SnoopEnd) (request : Request) → Reaches r (c + 1)
     → IsSnoopedHere r c i s request → begun_of r s.first ≡ Some request → is_reply_kind request.kind ≡ false
     → IsEntryOf r.trace (turns_of r) c (deferral_made r.trace c s request) i
-unfolding deferral_made request_number_of requests_below line_at_snoop_end is_some_and live_line_of
+unfolding deferral_made request_number_of requests_below line_at_snoop_end is_some_and live_line_of response_before
 made-entry r c i s request h here begun plain =
-    let w = r.trace in
-    let k = here.snooped in
-    let first = k.tied.first in
-    let above = k.above in
-    let long = h.long in
-    let claimed = claimed-line r s.first request
-    (record { timely = h.timely; bounds = h.bounds; long = omega arith }) begun plain k.ads in
-    record {
-      deferral = record {
-        number = ap (option_map (count_where (line_at ADS w))) first;
-        request = live_request_of-at w i s.first request first here.decoded;
-        shared = sym (ap (λ o. is_some_and o (line_at HIT w)) k.tied.reached);
-      };
-      line = claimed.line ∙ sym (ap (option_and_then (line_of w)) first);
-      later = sym (ap later_of k.tied.turn);
-      answered = made-answered r c i h k.tied.reached;
-      begun = made-begun r c i h k.tied.reached;
-    }
+    grind (arith, claimed-line, live_request_of-at, is_before-parts, late-response, made-begun)
 
 pub after_snoop_end-none : (r : Run) (c : ℕ) (list : List Waiting) → snooped_at (past_of r) c ≡ None
     → after_snoop_end r c list ≡ list
@@ -175,38 +126,26 @@ after-plain w c s request list e f = rw (after_snoop_end_of, e, f) refl
 -- the reply whose snoop end is the clock: which request it answers
 takes-deferral : (r : Run) (c i : ℕ) (s : SnoopEnd) (reply : Request) → Reaches r (c + 1) → IsSnoopedHere r c i s reply
     → is_reply_kind reply.kind ≡ true → TakesDeferral r.trace (turns_of r) c i reply
-takes-deferral r c i s reply h here replies =
-    let long = h.long in
-    let short : Reaches r c = record { timely = h.timely; bounds = h.bounds; long = omega arith } in
-    let itself : AgreeTo c r.trace r.trace = record { left = omega arith; right = omega arith; same = λ d l. refl } in
-    takes-in r c i s.first r.trace (turns_of r) reply short
-    (record { agree = itself; same = λ k t e l. refl })
-    (record {
-      reached = here.snooped.tied.reached;
-      first = here.snooped.tied.first;
-      decoded = here.decoded;
-      replies = replies;
-    })
+takes-deferral r c i s reply h here replies = grind (arith, takes-in)
 
 snoop-some : (r : Run) (c i : ℕ) (s : SnoopEnd) (request : Request) (list : List Waiting) → Reaches r (c + 1)
     → IsSnoopedHere r c i s request → begun_of r s.first ≡ Some request
     → StandsFor list r.trace (turns_of r) c
     → Matched (IsEntryOf r.trace (turns_of r) c) (after_snoop_end_of r.trace c s request list)
     (waiting_at r.trace (turns_of r) (c + 1))
+unfolding is_reply_kind
 snoop-some r c i s request list h here begun stands =
     let w = r.trace in
     let turns = turns_of r in
     let R : Waiting → ℕ → Type 0 = IsEntryOf w turns c in
     let entries = IsEntryOf-StandsFor list w turns c stands in
-    let held : is_deferral s.outcome ≡ true → is_never_held_up request.kind ≡ false =
-    λ deferred. deferred-held r c i s request h.timely here.snooped here.decoded deferred in
+    let held : is_deferral s.outcome ≡ true → is_never_held_up request.kind ≡ false = grind (arith, deferred-held) in
     elim (cases_Bool (is_reply_kind request.kind)) [
       | inl reply ↦
           let t = takes-deferral r c i s request h here reply in
           let left = waiting_without-reply list w turns c t.number i request (own-ids r (c + 1) c h (omega arith))
           stands t.waiting t.answers t.asked in
-          let kept : is_deferral s.outcome ≡ false = false_from_ne_true (is_deferral s.outcome) (λ deferred.
-          deferred-plain request.kind (held deferred) reply) in
+          let kept : is_deferral s.outcome ≡ false = grind arith in
           subst (λ xs. Matched R xs (waiting_at w turns (c + 1))) (sym (after-reply w c s request list reply))
           (subst (Matched R (waiting_without request.did list))
           (sym (replied-waiting r c i t.number s request h here kept t.waiting t.answers))
@@ -235,11 +174,7 @@ snoop-entries r c list h stands = by (snooped_at (past_of r) c) refl
     by : (o : Option SnoopEnd) → snooped_at (past_of r) c ≡ o
         → Matched (IsEntryOf r.trace (turns_of r) c) (after_snoop_end r c list)
         (waiting_at r.trace (turns_of r) (c + 1))
-    by None e =
-        subst (λ xs. Matched (IsEntryOf r.trace (turns_of r) c) xs (waiting_at r.trace (turns_of r) (c + 1)))
-        (sym (after_snoop_end-none r c list e))
-        (subst (Matched (IsEntryOf r.trace (turns_of r) c) list) (sym (quiet-waiting r c e))
-        (IsEntryOf-StandsFor list r.trace (turns_of r) c stands))
+    by None e = grind (arith, after_snoop_end-none, quiet-waiting, IsEntryOf-StandsFor)
     by (Some s) e =
         let tied = tied-snoop r c s e in
         let k = snooped-by r c tied.0 s tied.1 in

@@ -2,8 +2,8 @@
 -- clock does
 -- to it comes to the same, whether the reply that begins is told before the rest or behind it.
 use Rattle.std.proofs.Common.{ℕ, ◌+◌, ◌≡◌, Bool, true, false, List, [], ◌∷◌, ◌++◌, map, Option, Some, None, nat_eq}
-use Rattle.std.proofs.Common.{refl, sym, ap, subst, ◌∙◌, arith, inl, inr, add-one}
-use Rattle.std.proofs.lemmas.Bool.{both_ways, cases_Bool, eq-eqb, eqb-true, false_from_ne_true}
+use Rattle.std.proofs.Common.{refl, sym, ap, subst, ◌∙◌, arith, inr, add-one}
+use Rattle.std.proofs.lemmas.Bool.{both_ways, eqb-true, false_from_ne_true}
 use Rattle.fsb_encode.specs.declared.request.Request.{Request}
 use Rattle.fsb_trace.specs.At.{Trace, request_at}
 use Rattle.fsb_trace.specs.Deferral.{is_answered}
@@ -13,19 +13,19 @@ use Rattle.fsb_trace.specs.Snoop.{snoop_end_of}
 use Rattle.fsb_trace.proofs.Interface.{live_request_of-at}
 use Rattle.fsb_timely.specs.Grants.{snooped_at}
 use Rattle.fsb_timely.specs.Past.{SnoopEnd}
-use Rattle.fsb_timely.specs.Runs.{Run, past_of, requests_below}
+use Rattle.fsb_timely.specs.Runs.{Run, past_of}
 use Rattle.fsb_timely.specs.Starts.{reply_to}
 use Rattle.fsb_timely.proofs.Interface.{tied-snoop}
 use Rattle.fsb_lawful.proofs.Interface.{wants-lawfully}
-use Rattle.fsb_coherent.specs.Awaits.{cancelled_in, responded_in}
+use Rattle.fsb_coherent.specs.Awaits.{cancelled_in}
 use Rattle.fsb_tied.proofs.Interface.{cancels, snooped-by}
 use Rattle.fsb_run_laws.specs.Reaches.{Reaches}
 use Rattle.fsb_bridge.specs.declared.deferral.Waiting.{Waiting}
-use Rattle.fsb_bridge.specs.Deferrals.{is_of_id, with_answer, with_reply}
-use Rattle.fsb_bridge.proofs.Interface.{rest, rest_found, rest_more}
+use Rattle.fsb_bridge.specs.Deferrals.{with_reply}
+use Rattle.fsb_bridge.proofs.Interface.{rest, rest_more}
 use Rattle.fsb_bridge_run.specs.DeferralSteps.{after_beginning, after_cancellation, after_clock, after_reply}
 use Rattle.fsb_bridge_run.specs.DeferralSteps.{after_response, after_snoop_end, after_snoop_end_of, deferral_made}
-use Rattle.fsb_bridge_run.specs.DeferralSteps.{reply_at, reply_begun, was_deferred}
+use Rattle.fsb_bridge_run.specs.DeferralSteps.{reply_at, reply_begun}
 use Rattle.fsb_bridge_run.specs.RunDeferrals.{FindsDeferrals, HasDeferrals, turns_of}
 use Rattle.fsb_bridge_run.proofs.BegunReplies.{BegunFor, begun-for, begun-waits}
 use Rattle.fsb_bridge_run.proofs.DueReplies.{answers-due, due-waits}
@@ -50,48 +50,7 @@ map-append f (x ∷ xs) ys = ap (λ zs. f x ∷ zs) (map-append f xs ys)
 rest-map : {X : Type 0} (p : X → Bool) (f : X → X) (xs : List X) → ((x : X) → p (f x) ≡ p x)
     → rest p (map f xs) ≡ map f (rest p xs)
 rest-map p f [] same = refl
-rest-map p f (x ∷ xs) same =
-    elim (cases_Bool (p x)) [
-      | inl t ↦ rest_found p (f x) (map f xs) (same x ∙ t) ∙ sym (ap (map f) (rest_found p x xs t))
-      | inr off ↦
-          rest_more p (f x) (map f xs) (same x ∙ off) ∙ ap (λ ys. f x ∷ ys) (rest-map p f xs same)
-          ∙ sym (ap (map f) (rest_more p x xs off))
-    ]
-
--- a mark of a reply changes neither the ID nor the number of a deferral
-marked-id : (did d : ℕ) (b : Bool) (e : Waiting) → is_of_id did (with_reply d b e) ≡ is_of_id did e
-marked-id did d b e =
-    elim (cases_Bool (nat_eq e.deferral.request.did d)) [ inl t ↦ rw t refl | inr f ↦ rw f refl ]
-
-answer-marked : (number clock d : ℕ) (b : Bool) (e : Waiting)
-    → with_answer number clock (with_reply d b e) ≡ with_reply d b (with_answer number clock e)
-answer-marked number clock d b e =
-    elim (cases_Bool (nat_eq e.deferral.request.did d)) [
-      | inl t ↦ elim (cases_Bool (nat_eq e.deferral.number number)) [
-        | inl u ↦ rw (t, u, t) refl
-        | inr g ↦ rw (t, g, t) refl
-      ]
-      | inr f ↦ elim (cases_Bool (nat_eq e.deferral.number number)) [
-        | inl u ↦ rw (f, u, f) refl
-        | inr g ↦ rw (f, g, f) refl
-      ]
-    ]
-
-both-marked : (c d : ℕ) (a b : Bool) (e : Waiting) → nat_eq c d ≡ false
-    → with_reply c a (with_reply d b e) ≡ with_reply d b (with_reply c a e)
-both-marked c d a b e other =
-    elim (cases_Bool (nat_eq e.deferral.request.did c)) [
-      | inl t ↦ elim (cases_Bool (nat_eq e.deferral.request.did d)) [
-        | inl u ↦
-            let same : c ≡ d = sym (eqb-true e.deferral.request.did c t) ∙ eqb-true e.deferral.request.did d u in
-            absurd (both_ways (nat_eq c d) other (eq-eqb c d same))
-        | inr g ↦ rw (g, t, g) refl
-      ]
-      | inr f ↦ elim (cases_Bool (nat_eq e.deferral.request.did d)) [
-        | inl u ↦ rw (u, f, u) refl
-        | inr g ↦ rw (g, f, g) refl
-      ]
-    ]
+rest-map p f (x ∷ xs) same = grind (arith, rest_more, rest-map p f xs same)
 
 -- a mark before the snoop end of a clock, where a deferral that is made keeps without it
 snoop-marked : (r : Run) (n d : ℕ) (b : Bool) (list : List Waiting)
@@ -110,28 +69,11 @@ snoop-marked r n d b list made = by (snooped_at (past_of r) n) refl
     by-kind : (s : SnoopEnd) (request : Request) → snooped_at (past_of r) n ≡ Some s
         → request_at w s.first ≡ Some request
         → after_snoop_end_of w n s request (map g list) ≡ map g (after_snoop_end_of w n s request list)
-    by-kind s request e f =
-        elim (cases_Bool (is_reply_kind request.kind)) [
-          | inl reply ↦
-              after-reply w n s request (map g list) reply
-              ∙ rest-map (is_of_id request.did) g list (λ x. marked-id request.did d b x)
-              ∙ sym (ap (map g) (after-reply w n s request list reply))
-          | inr plain ↦ elim (cases_Bool (is_deferral s.outcome)) [
-            | inl deferred ↦
-                after-deferral w n s request (map g list) plain deferred
-                ∙ ap (λ x. map g list ++ x ∷ []) (sym (made s request e f plain deferred))
-                ∙ sym (map-append g list (deferral_made w n s request ∷ []))
-                ∙ sym (ap (map g) (after-deferral w n s request list plain deferred))
-            | inr kept ↦
-                after-plain w n s request (map g list) plain kept
-                ∙ sym (ap (map g) (after-plain w n s request list plain kept))
-          ]
-        ]
+    by-kind s request e f = grind (arith, after-reply, rest-map, after-deferral, map-append, after-plain)
 
     by-request : (s : SnoopEnd) → snooped_at (past_of r) n ≡ Some s → (o : Option Request) → request_at w s.first ≡ o
         → after_snoop_end r n (map g list) ≡ map g (after_snoop_end r n list)
-    by-request s e None f =
-        after_snoop_end-lost r n (map g list) s e f ∙ sym (ap (map g) (after_snoop_end-lost r n list s e f))
+    by-request s e None f = grind (arith, after_snoop_end-lost)
     by-request s e (Some request) f =
         after_snoop_end-some r n (map g list) s request e f ∙ by-kind s request e f
         ∙ sym (ap (map g) (after_snoop_end-some r n list s request e f))
@@ -141,12 +83,6 @@ snoop-marked r n d b list made = by (snooped_at (past_of r) n) refl
     by None e = after_snoop_end-none r n (map g list) e ∙ sym (ap (map g) (after_snoop_end-none r n list e))
     by (Some s) e = by-request s e (request_at w s.first) refl
 
-made-unmarked : (w : Trace) (n d : ℕ) (s : SnoopEnd) (request : Request)
-    → with_reply d false (deferral_made w n s request) ≡ deferral_made w n s request
-unfolding deferral_made
-made-unmarked w n d s request =
-    elim (cases_Bool (nat_eq request.did d)) [ inl t ↦ rw t refl | inr f ↦ rw f refl ]
-
 made-other : (w : Trace) (n d : ℕ) (s : SnoopEnd) (request : Request) → nat_eq request.did d ≡ false
     → with_reply d true (deferral_made w n s request) ≡ deferral_made w n s request
 unfolding deferral_made
@@ -155,37 +91,14 @@ made-other w n d s request f = rw f refl
 -- the cancellation may come before the snoop end or behind it
 cancelled-first : (r : Run) (n : ℕ) (list : List Waiting)
     → after_snoop_end r n (after_cancellation r n list) ≡ after_cancellation r n (after_snoop_end r n list)
-unfolding after_cancellation after_reply
-cancelled-first r n list = by (cancelled_in (past_of r) n) refl
-  where
-    by-reply : (q : ℕ) → cancelled_in (past_of r) n ≡ Some q → (o : Option Request) → reply_at r.trace q ≡ o
-        → after_snoop_end r n (after_cancellation r n list) ≡ after_cancellation r n (after_snoop_end r n list)
-    by-reply q e None f = rw (after_cancellation, e, f) refl
-    by-reply q e (Some reply) f =
-        rw (after_cancellation, e, f) (snoop-marked r n reply.did false list (λ s request there decoded plain deferred.
-        made-unmarked r.trace n reply.did s request))
-
-    by : (o : Option ℕ) → cancelled_in (past_of r) n ≡ o
-        → after_snoop_end r n (after_cancellation r n list) ≡ after_cancellation r n (after_snoop_end r n list)
-    by None e = rw (after_cancellation, e) refl
-    by (Some q) e = by-reply q e (reply_at r.trace q) refl
+unfolding after_cancellation after_reply deferral_made
+cancelled-first r n list = grind (arith, snoop-marked)
 
 -- a mark before the response, or behind it
 response-marked : (r : Run) (n d : ℕ) (b : Bool) (list : List Waiting)
     → after_response r n (map (with_reply d b) list) ≡ map (with_reply d b) (after_response r n list)
 unfolding after_response
-response-marked r n d b list = by (responded_in (past_of r) n) refl
-  where
-    by : (o : Option ℕ) → responded_in (past_of r) n ≡ o
-        → after_response r n (map (with_reply d b) list) ≡ map (with_reply d b) (after_response r n list)
-    by None e = rw (after_response, e) refl
-    by (Some q) e =
-        elim (cases_Bool (was_deferred (past_of r) n q)) [
-          | inl t ↦
-              rw (after_response, e, t) (map-commutes (with_answer (requests_below r.trace q) n) (with_reply d b) list
-              (λ x. answer-marked (requests_below r.trace q) n d b x))
-          | inr f ↦ rw (after_response, e, f) refl
-        ]
+response-marked r n d b list = grind (arith, map-commutes)
 
 -- a mark before the cancellation, where the two are for replies with other IDs
 cancelled-marked : (r : Run) (n d : ℕ) (list : List Waiting)
@@ -193,19 +106,7 @@ cancelled-marked : (r : Run) (n d : ℕ) (list : List Waiting)
     → nat_eq reply.did d ≡ false)
     → after_cancellation r n (map (with_reply d true) list) ≡ map (with_reply d true) (after_cancellation r n list)
 unfolding after_cancellation after_reply
-cancelled-marked r n d list other = by (cancelled_in (past_of r) n) refl
-  where
-    by-reply : (q : ℕ) → cancelled_in (past_of r) n ≡ Some q → (o : Option Request) → reply_at r.trace q ≡ o
-        → after_cancellation r n (map (with_reply d true) list) ≡ map (with_reply d true) (after_cancellation r n list)
-    by-reply q e None f = rw (after_cancellation, e, f) refl
-    by-reply q e (Some reply) f =
-        rw (after_cancellation, e, f) (map-commutes (with_reply reply.did false) (with_reply d true) list
-        (λ x. both-marked reply.did d false true x (other q reply e f)))
-
-    by : (o : Option ℕ) → cancelled_in (past_of r) n ≡ o
-        → after_cancellation r n (map (with_reply d true) list) ≡ map (with_reply d true) (after_cancellation r n list)
-    by None e = rw (after_cancellation, e) refl
-    by (Some q) e = by-reply q e (reply_at r.trace q) refl
+cancelled-marked r n d list other = grind (arith, map-commutes)
 
 -- it is not the one to which a reply is cancelled
 begun-uncancelled : (r : Run) (n q : ℕ) (reply dropped : Request) → Reaches r (n + 1) → BegunFor r n reply
@@ -223,8 +124,7 @@ begun-uncancelled r n q reply dropped h b cancelled begins = false_from_ne_true 
     let shown = d.shown in
     let decoded = parts.2 in
     let same : reply_to d.request ≡ dropped = cc in
-    let did : b.request.did ≡ d.request.did =
-    sym b.did ∙ sym (eqb-true dropped.did reply.did t) ∙ sym (ap (λ x. x.did) same) in
+    let did : b.request.did ≡ d.request.did = grind arith in
     let due = due-waits r q n d (omega arith) (omega arith) in
     let first = b.due.gap in
     let last = b.due.after in

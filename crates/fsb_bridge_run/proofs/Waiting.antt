@@ -1,9 +1,8 @@
 -- What it says that a live request waits for its reply, and that a reply to it is under way.
-use Rattle.std.proofs.Common.{ℕ, ◌+◌, ◌<◌, ◌≤◌, ◌≡◌, Bool, true, false, not, ◌&&◌, ◌||◌, List, Some, nat_le, nat_lt}
-use Rattle.std.proofs.Common.{refl, sym, ap, ◌∙◌, ◌⊎◌, Option, arith, inl, inr}
+use Rattle.std.proofs.Common.{ℕ, ◌+◌, ◌<◌, ◌≤◌, ◌≡◌, Bool, true, false, not, ◌&&◌, ◌||◌, List, Some, nat_le, ◌∙◌, ◌⊎◌}
+use Rattle.std.proofs.Common.{Option, arith, inl, inr}
 use Rattle.std.specs.Option.{option_and_then}
-use Rattle.std.proofs.lemmas.Bool.{and_from, and_parts, both_ways, cases_lt, false_from_ne_true, le-leb, leb-true}
-use Rattle.std.proofs.lemmas.Bool.{lt-leb, lt-ltb, le-ltb, not-true}
+use Rattle.std.proofs.lemmas.Bool.{and_from, and_parts, le-leb}
 use Rattle.fsb_count.specs.Options.{is_before}
 use Rattle.fsb_count.proofs.Interface.{any_where-at, any_where-found, is_before-from, is_before-parts}
 use Rattle.fsb_signal.specs.declared.lines.TheConstants.Lines.{ADS}
@@ -12,12 +11,10 @@ use Rattle.fsb_trace.specs.At.{Trace, request_at}
 use Rattle.fsb_trace.specs.Deferral.{answers, is_answered}
 use Rattle.fsb_trace.specs.Flight.{has_ended, is_dropped, is_in_flight, is_reply_to, reply_number_of}
 use Rattle.fsb_trace.specs.Outcome.{is_settled_deferred, response_clock_of}
-use Rattle.fsb_trace.specs.Requests.{have_same_id, is_cancelled, is_live, is_reply, live_clock_of, live_count}
-use Rattle.fsb_trace.specs.Requests.{live_request_of}
+use Rattle.fsb_trace.specs.Requests.{have_same_id, is_live, is_reply, live_clock_of, live_count, live_request_of}
 use Rattle.fsb_trace.specs.Snoop.{snoop_end_of}
 use Rattle.fsb_trace.proofs.Interface.{live_below_count, snoop_end_of-clock}
 use Rattle.fsb_bridge.specs.DeferralList.{waits}
-use Rattle.fsb_lawful.proofs.Interface.{and4}
 
 -- a reply to live request i has its snoop end below c
 abbrev pub is_replied : Trace → ℕ → ℕ → Bool
@@ -25,10 +22,7 @@ is_replied w c i = is_before (option_and_then (snoop_end_of w) (reply_number_of 
 
 -- what is not before a clock is not before an earlier one
 pub earlier : (o : Option ℕ) (q c : ℕ) → q ≤ c → is_before o c ≡ false → is_before o q ≡ false
-earlier o q c l none = false_from_ne_true (is_before o q) (λ t.
-    let x = is_before-parts o q t in
-    let below = x.2 in
-    both_ways (is_before o c) none (is_before-from o x.0 c x.1 (omega arith)))
+earlier o q c l none = grind (arith, is_before-parts, is_before-from)
 
 -- live request i waits for its reply at c: its snoop end, its first clock, that it is Deferred, and that no reply to it
 -- has its own snoop end
@@ -50,23 +44,13 @@ waits-parts w turns c i e =
     let b = and_parts (is_settled_deferred w turns i) (is_before (snoop_end_of w i) c) a.0 in
     let s = is_before-parts (snoop_end_of w i) c b.1 in
     let k = snoop_end_of-clock w i s.0 s.1 in
-    record {
-      snoop = s.0;
-      is_snoop = s.1;
-      below = s.2;
-      clock = k.clock;
-      is_clock = k.is_clock;
-      above = k.above;
-      deferred = b.0;
-      unreplied = not-true replied a.1;
-    }
+    grind arith
 
 pub waits-from : (w : Trace) (turns : List ℕ) (c i t : ℕ) → is_settled_deferred w turns i ≡ true
     → snoop_end_of w i ≡ Some t → t < c
     → is_replied w c i ≡ false → waits w turns c i ≡ true
 unfolding waits
-waits-from w turns c i t deferred e l none =
-    and_from _ _ (and_from _ _ deferred (is_before-from (snoop_end_of w i) t c e l)) (ap not none)
+waits-from w turns c i t deferred e l none = grind (arith, is_before-from)
 
 pub waits-live : (w : Trace) (turns : List ℕ) (c i : ℕ) → waits w turns c i ≡ true → i < live_count w
 waits-live w turns c i e = let k = waits-parts w turns c i e in live_below_count w i k.clock k.is_clock
@@ -75,37 +59,9 @@ waits-live w turns c i e = let k = waits-parts w turns c i e in live_below_count
 unfoldable pub under_way : Trace → ℕ → ℕ → ℕ → Bool
 under_way w c i q = is_reply_to w i q && (is_live w q || nat_le c (q + 3))
 
-flight-form : (c d e : Bool)
-    → ((((true && true) && not (c && d)) && not ((true && not c) && e)) || (true && not c)) ≡ ((true && not c) || not d)
-flight-form true true e = refl
-flight-form true false e = refl
-flight-form false d true = refl
-flight-form false d false = refl
-
-under-form : (reply a b c d e f : Bool) → (reply ≡ true → a ≡ true) → b ≡ true → f ≡ not d
-    → (reply && ((((a && b) && not (c && d)) && not ((a && not c) && e)) || (a && not c)))
-    ≡ (reply && ((a && not c) || f))
-under-form false a b c d e f h k m = refl
-under-form true a b c d e f h k m = rw (h refl, k, m) (flight-form c d e)
-
-not-less : (a b : ℕ) → nat_le b a ≡ not (nat_lt a b)
-not-less a b =
-    elim (cases_lt a b) [
-      | inl l ↦ rw (lt-ltb a b l, lt-leb b a l) refl
-      | inr l ↦ rw (le-ltb a b l, le-leb b a l) refl
-    ]
-
-reply-asks : (w : Trace) (i q : ℕ) → is_reply_to w i q ≡ true → line_at ADS w q ≡ true
-unfolding is_reply_to
-reply-asks w i q e =
-    (and4 (line_at ADS w q) (is_reply (request_at w q)) (have_same_id (request_at w q) (live_request_of w i))
-    (is_before (response_clock_of w i) q) e).0
-
 answers-form : (w : Trace) (c i q : ℕ) → q < c → answers w c i q ≡ under_way w c i q
-unfolding answers under_way is_in_flight is_dropped has_ended is_live
-answers-form w c i q l =
-    under-form (is_reply_to w i q) (line_at ADS w q) (nat_lt q c) (is_cancelled w q) (nat_lt (q + 3) c) _
-    (nat_le c (q + 3)) (reply-asks w i q) (lt-ltb q c l) (not-less (q + 3) c)
+unfolding answers under_way is_in_flight is_dropped has_ended is_live is_reply_to
+answers-form w c i q l = grind arith
 
 -- a reply to live request i that begins at q
 pub record IsReplyTo (w : Trace) (i q : ℕ) : Type 0 where
@@ -118,17 +74,11 @@ pub record IsReplyTo (w : Trace) (i q : ℕ) : Type 0 where
 
 pub reply-parts : (w : Trace) (i q : ℕ) → is_reply_to w i q ≡ true → IsReplyTo w i q
 unfolding is_reply_to
-reply-parts w i q e =
-    let a = and4 (line_at ADS w q) (is_reply (request_at w q)) (have_same_id (request_at w q) (live_request_of w i))
-    (is_before (response_clock_of w i) q) e in
-    let r = is_before-parts (response_clock_of w i) q a.3 in
-    record { asks = a.0; replies = a.1; same_id = a.2; response = r.0; is_response = r.1; after = r.2 }
+reply-parts w i q e = grind (arith, is_before-parts)
 
 pub reply-from : (w : Trace) (i q : ℕ) → IsReplyTo w i q → is_reply_to w i q ≡ true
 unfolding is_reply_to
-reply-from w i q k =
-    and_from _ _ (and_from _ _ (and_from _ _ k.asks k.replies) k.same_id)
-    (is_before-from (response_clock_of w i) k.response q k.is_response k.after)
+reply-from w i q k = grind (arith, is_before-from)
 
 -- and is under way at c: it is live, or c lies no further behind than its address error
 pub record IsUnderWay (w : Trace) (c i q : ℕ) : Type 0 where
@@ -137,30 +87,14 @@ pub record IsUnderWay (w : Trace) (c i q : ℕ) : Type 0 where
   pub kept : (is_live w q ≡ true) ⊎ (c ≤ q + 3)
 
 pub either : (a b : Bool) → (a || b) ≡ true → (a ≡ true) ⊎ (b ≡ true)
-either true b e = inl refl
-either false b e = inr e
+either a b h1 = grind arith
 
 pub either-from : (a b : Bool) → (a ≡ true) ⊎ (b ≡ true) → (a || b) ≡ true
-either-from true b h = refl
-either-from false b (inl e) = absurd (let no : ⊥ = cc in no)
-either-from false b (inr e) = e
+either-from a b h1 = grind arith
 
 pub answered-parts : (w : Trace) (c i : ℕ) → is_answered w c i ≡ true → (q : ℕ) × IsUnderWay w c i q
 unfolding is_answered under_way
-answered-parts w c i e =
-    let a = any_where-found (answers w c i) c e in
-    let q : ℕ = a.0 in
-    let b = and_parts (is_reply_to w i q) (is_live w q || nat_le c (q + 3)) (sym (answers-form w c i q a.1) ∙ a.2) in (
-      q,
-      record {
-        below = a.1;
-        reply = b.0;
-        kept = elim (either (is_live w q) (nat_le c (q + 3)) b.1) [
-          | inl t ↦ inl t
-          | inr t ↦ inr (leb-true c (q + 3) t)
-        ];
-      },
-    )
+answered-parts w c i e = grind (arith, any_where-found, answers-form)
 
 pub answered-from : (w : Trace) (c i q : ℕ) → IsUnderWay w c i q → is_answered w c i ≡ true
 unfolding is_answered under_way

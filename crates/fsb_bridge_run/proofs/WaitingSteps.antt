@@ -40,19 +40,7 @@ waits-on : (w : Trace) (turns : List ℕ) (c i : ℕ) → waits w turns c i ≡ 
     → ((j : ℕ) → reply_number_of w i ≡ Some j → snoop_end_of w j ≡ Some c → ⊥) → waits w turns (c + 1) i ≡ true
 waits-on w turns c i e none =
     let a = waits-parts w turns c i e in
-    let o = option_and_then (snoop_end_of w) (reply_number_of w i) in
-    let below = a.below in
-    waits-from w turns (c + 1) i a.snoop a.deferred a.is_snoop (omega arith) (false_from_ne_true (is_before o (c + 1))
-    (λ t.
-    let x = is_before-parts o (c + 1) t in
-    let upto = x.2 in
-    let j = and-then (snoop_end_of w) (reply_number_of w i) x.0 x.1 in
-    elim (cases_lt x.0 c) [
-      | inl less ↦ both_ways (is_before o c) a.unreplied (is_before-from o x.0 c x.1 less)
-      | inr more ↦
-          let same : x.0 ≡ c = omega arith in
-          none j.0 j.1 (subst (λ k. snoop_end_of w j.0 ≡ Some k) same j.2)
-    ]))
+    grind (arith, waits-from, is_before-parts, is_before-from)
 
 -- a request that is Deferred at the clock waits from then on
 pub waits-new : (r : Run) (c i : ℕ) → Reaches r (c + 1) → snoop_end_of r.trace i ≡ Some c
@@ -100,11 +88,7 @@ quiet-waiting r c quiet =
     (λ e. waits-on w turns c i e (λ j f g. none j g)))
   where
     none : (j : ℕ) → snoop_end_of r.trace j ≡ Some c → ⊥
-    none j e =
-        let tied = snoop-tied r j c e in
-        let there = tied.1.there in
-        let no : None ≡ Some tied.0 = sym quiet ∙ there in
-        cc
+    none j e = grind (arith, snoop-tied)
 
 -- live request i, whose snoop end is the clock, and its request
 pub record IsSnoopedHere (r : Run) (c i : ℕ) (s : SnoopEnd) (request : Request) : Type 0 where
@@ -126,8 +110,7 @@ plain-on r c i k s request here plain e =
     let reply = is-replied w k j number in
     let parts = reply-parts w k reply.clock reply.reply in
     let same = one_end w c j i snoop here.snooped.tied.reached in
-    let first : live_clock_of w i ≡ Some reply.clock =
-    subst (λ x. live_clock_of w x ≡ Some reply.clock) same reply.first in
+    let first : live_clock_of w i ≡ Some reply.clock = grind arith in
     let is = here.snooped.tied.first in
     let clock : reply.clock ≡ s.first = cc in
     let replies = subst (λ x. is_reply (request_at w x) ≡ true) clock parts.replies in
@@ -140,13 +123,7 @@ other-before : (r : Run) (c i k : ℕ) (s : SnoopEnd) → IsSnooped r c i s → 
 other-before r c i k s here other e =
     let w = r.trace in
     let a = waits-parts w (turns_of r) (c + 1) k e in
-    let upto = a.below in
-    elim (cases_lt a.snoop c) [
-      | inl less ↦ waits-before w (turns_of r) c k a.snoop e a.is_snoop less
-      | inr more ↦
-          let same : a.snoop ≡ c = omega arith in
-          absurd (other (one_end w c k i (subst (λ x. snoop_end_of w k ≡ Some x) same a.is_snoop) here.tied.reached))
-    ]
+    grind (arith, waits-before, one_end)
 
 -- that one waits only if it is Deferred
 itself-deferred : (r : Run) (c i k : ℕ) (s : SnoopEnd) → IsSnooped r c i s → k ≡ i
@@ -161,14 +138,7 @@ pub plain-waiting : (r : Run) (c i : ℕ) (s : SnoopEnd) (request : Request) →
     → is_reply_kind request.kind ≡ false → is_deferral s.outcome ≡ false
     → waiting_at r.trace (turns_of r) (c + 1) ≡ waiting_at r.trace (turns_of r) c
 unfolding waiting_at
-plain-waiting r c i s request here plain kept =
-    let w = r.trace in
-    let turns = turns_of r in
-    all_where-below (waits w turns (c + 1)) (waits w turns c) (live_count w) (λ k l.
-    same-both (waits w turns (c + 1) k) (waits w turns c k)
-    (λ e. other-before r c i k s here.snooped
-    (λ same. both_ways (is_deferral s.outcome) kept (itself-deferred r c i k s here.snooped same e)) e)
-    (λ e. plain-on r c i k s request here plain e))
+plain-waiting r c i s request here plain kept = grind (arith, other-before, itself-deferred, plain-on)
 
 -- where it is Deferred, it comes behind those that wait
 pub deferred-waiting : (r : Run) (c i : ℕ) (s : SnoopEnd) (request : Request) → Reaches r (c + 1)
@@ -176,15 +146,7 @@ pub deferred-waiting : (r : Run) (c i : ℕ) (s : SnoopEnd) (request : Request) 
     → waiting_at r.trace (turns_of r) (c + 1) ≡ waiting_at r.trace (turns_of r) c ++ i ∷ []
 unfolding waiting_at
 deferred-waiting r c i s request h here plain deferred =
-    let w = r.trace in
-    let turns = turns_of r in
-    let reached = here.snooped.tied.reached in
-    all_where-added (waits w turns c) (waits w turns (c + 1)) (live_count w) i
-    (live_below_count w i s.first here.snooped.tied.first)
-    (λ k e. low k e)
-    (waits-new r c i h reached (settled-here r c i s here.snooped ∙ deferred))
-    (λ k other. same-both (waits w turns (c + 1) k) (waits w turns c k)
-    (other-before r c i k s here.snooped other) (plain-on r c i k s request here plain))
+    grind (arith, all_where-added, live_below_count, low, waits-new, settled-here, other-before, plain-on)
   where
     low : (k : ℕ) → waits r.trace (turns_of r) c k ≡ true → k < i
     low k e =
@@ -236,9 +198,7 @@ pub replied-waiting : (r : Run) (c i j : ℕ) (s : SnoopEnd) (reply : Request) �
 unfolding waiting_at waiting_besides
 replied-waiting r c i j s reply h here kept waiting number =
     let w = r.trace in
-    let turns = turns_of r in
-    all_where-below (waits w turns (c + 1)) (λ k. waits w turns c k && not (nat_eq k j)) (live_count w) (λ k l.
-    same-both (waits w turns (c + 1) k) (waits w turns c k && not (nat_eq k j)) (there k) (back k))
+    grind (arith, there, back)
   where
     there : (k : ℕ) → waits r.trace (turns_of r) (c + 1) k ≡ true
         → (waits r.trace (turns_of r) c k && not (nat_eq k j)) ≡ true

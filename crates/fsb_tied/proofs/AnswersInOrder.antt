@@ -54,10 +54,6 @@ pub record AnswersInOrder (p : Past) (m : ℕ) : Type 0 where
   pub moves : (t u n : ℕ) (s : SnoopEnd) → snooped_at p t ≡ Some s → does_move s.outcome ≡ true → u < m → n < m
       → responded_in p u ≡ Some s.first → is_end_at p n s.first ≡ true → u < n
 
-one-snoop : (r : Run) (t u : ℕ) (s e : SnoopEnd) → snooped_at (past_of r) t ≡ Some s → snooped_at (past_of r) u ≡ Some e
-    → s.first ≡ e.first → t ≡ u
-one-snoop r t u s e f g same = grind (arith, tied-snoop, one-begins)
-
 has-snoop : (r : Run) (t q : ℕ) → Timely r → t < length r.trace → responded_in (past_of r) t ≡ Some q
     → HasSnoop (past_of r) t q
 has-snoop r t q h l e =
@@ -120,10 +116,6 @@ in-turn r t u n s e h f g l m k =
     let low : end.0 < n = end.2 in
     any_where-at (λ x. is_end_at (past_of r) x s.first) n end.0 low
     (number-ended r i end.0 s.first (omega arith) o (record { end = end.1; first = a.1.first }))
-
-one-response : (r : Run) (t u q : ℕ) → Timely r → t < length r.trace → u < length r.trace
-    → responded_in (past_of r) t ≡ Some q → responded_in (past_of r) u ≡ Some q → t ≡ u
-one-response r t u q h l m e f = grind (arith, responded-number, one-begins)
 
 one-end : (r : Run) (t u q : ℕ) → Timely r → t < length r.trace → u < length r.trace
     → is_end_at (past_of r) t q ≡ true → is_end_at (past_of r) u q ≡ true → t ≡ u
@@ -188,4 +180,15 @@ moves-on r t u n s h e moves l m f g =
 -- those of a timely run do, at all its clocks
 pub answers-in-order : (r : Run) → Timely r → AnswersInOrder (past_of r) (length r.trace)
 answers-in-order r h =
-    grind (arith, one-snoop, has-snoop, has-response, in-turn, one-response, one-end, one-at-end, moves-on)
+    grind (
+      arith,
+      tied-snoop,
+      one-begins,
+      has-snoop,
+      has-response,
+      in-turn,
+      responded-number,
+      one-end,
+      one-at-end,
+      moves-on,
+    )

@@ -1,15 +1,14 @@
 -- The request that begins at a clock, and the one that is cancelled there, come in order.
-use Rattle.std.proofs.Common.{ℕ, ◌+◌, ◌<◌, ◌≤◌, ◌≡◌, true, false, Option, Some, length, refl, sym, ap, subst, ◌∙◌}
-use Rattle.std.proofs.Common.{arith}
+use Rattle.std.proofs.Common.{ℕ, ◌+◌, ◌<◌, ◌≤◌, ◌≡◌, true, false, Some, length, refl, sym, ap, subst, ◌∙◌, arith}
 use Rattle.std.specs.Option.{option_and_then}
 use Rattle.std.proofs.lemmas.Bool.{both_ways, false_from_ne_true}
 use Rattle.fsb_count.specs.Options.{is_some_and}
 use Rattle.fsb_count.proofs.Interface.{any_where-off, is_at-some}
 use Rattle.fsb_line.specs.Line.{OpenRequest}
 use Rattle.fsb_line.specs.Links.{is_linked}
-use Rattle.fsb_timely.specs.Grants.{begun_at, snooped_at}
+use Rattle.fsb_timely.specs.Grants.{begun_at}
 use Rattle.fsb_timely.specs.Moments.{is_snoop_of}
-use Rattle.fsb_timely.specs.Past.{Claim, SnoopEnd}
+use Rattle.fsb_timely.specs.Past.{Claim}
 use Rattle.fsb_timely.specs.Runs.{Run, past_of}
 use Rattle.fsb_timely.specs.Timely.{Timely}
 use Rattle.fsb_timely.specs.Wants.{is_asked_for, owed}
@@ -34,14 +33,9 @@ pub uncancelled-below : (r : Run) (n q : ℕ) → n ≤ length r.trace → n ≤
 unfolding is_cancelled_below
 uncancelled-below r n q l low = grind (arith, any_where-off, cancels, is_at-some)
 
-snoop-late : (r : Run) (t q : ℕ) (o : Option SnoopEnd) → snooped_at (past_of r) t ≡ o → t ≤ q + 3
-    → is_some_and o (is_snoop_of q) ≡ false
-unfolding is_some_and is_snoop_of
-snoop-late r t q o h1 h2 = grind (arith, snooped-in)
-
 pub unsnooped-below : (r : Run) (n q : ℕ) → n ≤ q + 3 → is_snooped_below (past_of r) n q ≡ false
-unfolding is_snooped_below
-unsnooped-below r n q low = grind (arith, any_where-off, snoop-late)
+unfolding is_snooped_below is_some_and is_snoop_of
+unsnooped-below r n q low = grind (arith, any_where-off, snooped-in)
 
 -- the request for the line that begins at n
 is-begun : (r : Run) (n : ℕ) (claim : Claim) → Timely r → KeepsBounds r.plan → n < length r.trace

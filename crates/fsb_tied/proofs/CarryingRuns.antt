@@ -1,6 +1,6 @@
 -- In a timely run the link of a snoop end carries data exactly where the end that is awaited after it brings data.
-use Rattle.std.proofs.Common.{ℕ, ◌≡◌, Bool, true, false, not, ◌&&◌, ◌||◌, if◌then◌else◌, nat_eq, List, Option, Some}
-use Rattle.std.proofs.Common.{None, is_some, refl, sym, ap, ◌∙◌, arith}
+use Rattle.std.proofs.Common.{ℕ, ◌≡◌, Bool, true, false, not, ◌&&◌, if◌then◌else◌, nat_eq, List, Option, Some, None}
+use Rattle.std.proofs.Common.{is_some, refl, sym, ap, ◌∙◌, arith}
 use Rattle.std.proofs.lemmas.Bool.{both_ways}
 use Rattle.std.specs.Option.{option_and_then, option_map}
 use Rattle.fsb_count.specs.Options.{is_some_and}
@@ -21,7 +21,7 @@ use Rattle.fsb_trace.proofs.Interface.{snoop_end_of-clock}
 use Rattle.fsb_timely.specs.Grants.{snooped_at}
 use Rattle.fsb_timely.specs.Hits.{is_dirty}
 use Rattle.fsb_timely.specs.Moments.{claim_at, gives_line, grant_for, grant_of, is_upgraded, live_claim_of}
-use Rattle.fsb_timely.specs.Moments.{makes_grant, served_number, wins_race, grant_to, is_owner_request, is_shared_at}
+use Rattle.fsb_timely.specs.Moments.{served_number, wins_race, grant_to, is_owner_request, is_shared_at}
 use Rattle.fsb_timely.specs.Past.{Claim, Grant, Past, SnoopEnd}
 use Rattle.fsb_timely.specs.Runs.{Run, past_of, past_to}
 use Rattle.fsb_timely.specs.Snoops.{is_dirty_elsewhere}
@@ -52,25 +52,10 @@ unfolding awaited_by
 written-await s awaited e h =
     written-parts s awaited (is_written s.outcome) refl s.claim refl (let h' = rw (e, awaited_by) at h in h')
 
-gives-by : (p : Past) (w : Trace) (i q t : ℕ) (outcome : Outcome) (grant : Grant) (b : Bool)
-    → gives_line p w q t outcome ≡ b
-    → grant_of p w i q t outcome ≡ Some grant → gives_line p w q t outcome ≡ true
-unfolding grant_of
-gives-by p w i q t outcome grant b h1 h2 = grind arith
-
-won-race : (p : Past) (t : ℕ) (outcome : Outcome) (o : Option Claim) → is_some_and o (wins_race p t outcome) ≡ true
-    → is_upgraded outcome ≡ true
-unfolding is_some_and wins_race
-won-race p t outcome o h1 = grind arith
-
-gives-parts : (p : Past) (w : Trace) (q t : ℕ) (outcome : Outcome) → gives_line p w q t outcome ≡ true
-    → (is_some_and (request_at w q) (λ x. makes_grant x.kind outcome) || is_upgraded outcome) ≡ true
-unfolding gives_line
-gives-parts p w q t outcome e = grind (arith, won-race)
-
 gives-made : (r : Run) (t : ℕ) (s : SnoopEnd) (grant : Grant) → snooped_at (past_of r) t ≡ Some s → s.grant ≡ Some grant
     → Gives (request_at r.trace s.first) s.turn s.outcome
-gives-made r t s grant e f = grind (arith, tied-snoop, gives-parts, gives-by, turn-kept)
+unfolding gives_line is_some_and wins_race grant_of
+gives-made r t s grant e f = grind (arith, tied-snoop, turn-kept)
 
 -- a grant of a request that is no reply is to its own claim
 own-parts : (p : Past) (w : Trace) (q t : ℕ) (outcome : Outcome) (claim : Claim) (grant : Grant) (b : Bool)
@@ -124,14 +109,9 @@ request-plain : (o : Option Request) (kind : Kind) → option_map (λ (x : Reque
 unfolding is_reply is_some_and
 request-plain o kind h1 h2 = grind arith
 
--- a line is handed over with HITM# alone
-by-turn : (turn : Turn) (o : Option Request) → outcome_by_turn turn o ≡ Handed → ⊥
-unfolding outcome_by_turn outcome_by_kind
-by-turn turn o h1 = grind arith
-
 with-hitm : (handed : Bool) (turn : Turn) (o : Option Request) → outcome_under handed turn o ≡ Handed → handed ≡ true
-unfolding outcome_under
-with-hitm handed turn o h1 = grind (arith, by-turn)
+unfolding outcome_under outcome_by_turn outcome_by_kind
+with-hitm handed turn o h1 = grind arith
 
 found-owner : (p : Past) (a line c : ℕ) (o : Option ℕ) → owner_at p a line c ≡ o → is_dirty_elsewhere p a line c ≡ true
     → is_some o ≡ true

@@ -1,6 +1,6 @@
 -- The links of a line that are left, from that of one snoop end on.
-use Rattle.std.proofs.Common.{ℕ, zero, suc, ◌<◌, ◌≡◌, true, false, List, [], ◌∷◌, ◌++◌, Option, Some, refl, ap, subst}
-use Rattle.std.proofs.Common.{arith, inl, inr}
+use Rattle.std.proofs.Common.{ℕ, zero, suc, ◌<◌, ◌≡◌, true, false, List, [], ◌∷◌, ◌++◌, Some, refl, ap, subst, arith}
+use Rattle.std.proofs.Common.{inl, inr}
 use Rattle.std.proofs.lemmas.Bool.{cases_lt}
 use Rattle.std.specs.Option.{option_map_or}
 use Rattle.fsb_line.specs.declared.link.Link.{Link}
@@ -18,11 +18,6 @@ link_of p line t s awaited =
 abbrev pub links_at : Past → ℕ → ℕ → ℕ → List Link
 links_at p line n t = option_map_or (link_left p line n t) (snooped_at p t) []
 
-gone : (p : Past) (line n t : ℕ) (o : Option SnoopEnd) → ((s : SnoopEnd) → o ≡ Some s → is_ended p n s.first ≡ true)
-    → option_map_or (link_left p line n t) o [] ≡ []
-unfolding link_left
-gone p line n t o h1 = grind arith
-
 pub at-gone : (p : Past) (line n t : ℕ) (s : SnoopEnd) → snooped_at p t ≡ Some s → is_ended p n s.first ≡ true
     → links_at p line n t ≡ []
 unfolding link_left
@@ -32,9 +27,9 @@ at-gone p line n t s e ended = rw (e, ended) refl
 pub none-left : (p : Past) (line n t : ℕ)
     → ((u : ℕ) (s : SnoopEnd) → u < t → snooped_at p u ≡ Some s → is_ended p n s.first ≡ true)
     → links_left p line n t ≡ []
-unfolding links_left
+unfolding links_left link_left
 none-left p line n zero ended = refl
-none-left p line n (suc t) ended = grind (arith, gone, none-left p line n t)
+none-left p line n (suc t) ended = grind (arith, none-left p line n t)
 
 pub at-there : (p : Past) (line n t : ℕ) (s : SnoopEnd) (awaited : Awaited) → snooped_at p t ≡ Some s
     → is_ended p n s.first ≡ false → awaited_by s ≡ Some awaited → awaited.line ≡ line

@@ -89,14 +89,10 @@ retry-outcome r n i s claim k c e =
     let made = outcome-shown r n i s c.request k c.decoded ∙ ap (λ x. outcome_under handed x (Some c.request)) e in
     elim (retried-by handed c.request) [ inl one ↦ inl (made ∙ one) | inr one ↦ inr (made ∙ one) ]
 
-written-fits : (outcome : Outcome) → fits_write_back outcome ≡ true → outcome ≡ Written
-unfolding fits_write_back
-written-fits outcome h1 = grind arith
-
 held-fits : (kind : Kind) (outcome : Outcome) → fits_kind kind outcome ≡ true → outcome ≢ Written
     → is_never_held_up kind ≡ false
-unfolding fits_kind
-held-fits kind outcome h1 h2 = grind (arith, written-fits)
+unfolding fits_kind fits_write_back
+held-fits kind outcome h1 h2 = grind arith
 
 -- a request that is neither handed over, retried nor a write-back finds no deferral on its line
 pub given-free : (r : Run) (n i : ℕ) (s : SnoopEnd) (claim : Claim) → Timely r → KeepsBounds r.plan

@@ -1,11 +1,9 @@
 -- An agent that holds a line is one of four.
-use Rattle.std.proofs.Common.{ℕ, zero, suc, ◌-◌, ◌<◌, ◌≤◌, ◌≡◌, Bool, true, false, Option, Some, length, nat_lt, refl}
-use Rattle.std.proofs.Common.{sym, ap, subst, ◌∙◌, arith, inl, inr, add-one}
-use Rattle.std.specs.Option.{option_map}
+use Rattle.std.proofs.Common.{ℕ, zero, suc, ◌-◌, ◌<◌, ◌≤◌, ◌≡◌, Bool, true, false, Some, length, nat_lt, refl, sym}
+use Rattle.std.proofs.Common.{ap, subst, ◌∙◌, arith, inl, inr, add-one}
 use Rattle.std.proofs.lemmas.Bool.{cases_Bool, false_from_ne_true}
 use Rattle.fsb_signal.specs.declared.lines.TheConstants.Lines.{ADS, BPRI, LOCK}
 use Rattle.fsb_signal.specs.Samples.{line_at}
-use Rattle.fsb_trace.specs.declared.who.Who.{Who}
 use Rattle.fsb_trace.specs.declared.who.Who.TheVariants.{Symmetric}
 use Rattle.fsb_trace.specs.At.{Trace}
 use Rattle.fsb_trace.specs.Winner.{Requesters, agent_in_order, first_asking, last_if_asking, requesters_before}
@@ -19,25 +17,16 @@ use Rattle.fsb_timely.proofs.Interface.{holds_line-says}
 use Rattle.fsb_lawful.proofs.Interface.{granted-by}
 use Rattle.fsb_tied.proofs.Beginnings.{claimed}
 
-last-asking : (w : Trace) (d a : ℕ) (o : Option Who) → last_if_asking w d o ≡ Some (Symmetric a)
-    → o ≡ Some (Symmetric a)
-unfolding last_if_asking
-last-asking w d a o h1 = grind arith
-
 in-order : (first n : ℕ) → agent_in_order first n < 4
 unfolding agent_in_order
 in-order first n = omega arith
 
-symmetric-four : (w : Trace) (d a first : ℕ)
-    → option_map Symmetric (first_asking w d first) ≡ Some (Symmetric a) → a < 4
-unfolding first_asking
-symmetric-four w d a first e = grind (arith, in-order)
-
 by-four : (w : Trace) (d a : ℕ) (requesters : Requesters) (lock priority : Bool) → line_at LOCK w d ≡ lock
     → line_at BPRI w d ≡ priority → ((b : ℕ) → requesters.0 ≡ Some (Symmetric b) → b < 4)
     → winner_by w d requesters ≡ Some (Symmetric a) → a < 4
+unfolding last_if_asking first_asking
 by-four w d a requesters lock priority h1 h2 h3 h4 =
-    grind (arith, last-asking, winner_by-locked, winner_by-priority, symmetric-four, winner_by-symmetric)
+    grind (arith, winner_by-locked, winner_by-priority, in-order, winner_by-symmetric)
 
 after-four : (w : Trace) (c a : ℕ) (requesters : Requesters) (low : Bool) → nat_lt c 2 ≡ low
     → ((b : ℕ) → requesters.0 ≡ Some (Symmetric b) → b < 4) → winner_after w c requesters ≡ Some (Symmetric a)

@@ -37,16 +37,11 @@ use Rattle.fsb_tied.proofs.Owing.{cancelled-below}
 given_if : {Y : Type 0} → (ℕ → Option Y) → (ℕ → Bool) → ℕ → Option Y
 given_if give test n = if test n then give n else None
 
-given-step : {Y : Type 0} (give : ℕ → Option Y) (test : ℕ → Bool) (x : ℕ) (xs : List ℕ) (b : Bool) (o : Option Y)
-    → test x ≡ b → give x ≡ o → filter_map give (filter test xs) ≡ filter_map (given_if give test) xs
-    → filter_map give (filter test (x ∷ xs)) ≡ filter_map (given_if give test) (x ∷ xs)
-unfolding given_if
-given-step give test x xs b o h1 h2 h3 = grind arith
-
 given-passing : {Y : Type 0} (give : ℕ → Option Y) (test : ℕ → Bool) (xs : List ℕ)
     → filter_map give (filter test xs) ≡ filter_map (given_if give test) xs
+unfolding given_if
 given-passing give test [] = refl
-given-passing give test (x ∷ xs) = grind (arith, given-step, given-passing give test xs)
+given-passing give test (x ∷ xs) = grind (arith, given-passing give test xs)
 
 given-there : {Y : Type 0} (give : ℕ → Option Y) (test : ℕ → Bool) (q : ℕ) (y : Y) → test q ≡ true → give q ≡ Some y
     → given_if give test q ≡ Some y

@@ -1,6 +1,6 @@
 -- The bytes of a line in the replay of a log: what the stores on it make of them.
-use Rattle.std.proofs.Common.{◌≡◌, ℕ, zero, suc, ◌+◌, ◌*◌, ◌/◌, ◌%◌, ◌<◌, ◌≤◌, true, Bool, ◌&&◌, not, if◌then◌else◌}
-use Rattle.std.proofs.Common.{◌≢◌, List, [], ◌∷◌, map, fold, slice_index, refl, ap, ◌∙◌, arith, add-zero}
+use Rattle.std.proofs.Common.{◌≡◌, ℕ, zero, suc, ◌+◌, ◌*◌, ◌/◌, ◌%◌, ◌<◌, true, Bool, ◌&&◌, not, if◌then◌else◌, List}
+use Rattle.std.proofs.Common.{[], ◌∷◌, map, fold, slice_index, refl, ap, ◌∙◌, arith, add-zero}
 use Rattle.std.proofs.lemmas.Bool.{and_parts}
 use Rattle.std.specs.Prelude.{nat_eq}
 use Rattle.std.specs.List.{filter, list_all}
@@ -55,12 +55,6 @@ line-put memory addr size value =
     (byte-put memory (bytes_at memory (addr / 32 * 32) 32) addr size value k
     (byte-read memory (addr / 32 * 32) 32 k l)))
 
--- and in those of another line
-line-beside : (memory : ByteMemory) (addr size value line : ℕ) → addr / 32 ≢ line → addr % 32 + size ≤ 32
-    → line_bytes (put_value memory addr size value) line ≡ line_bytes memory line
-unfolding line_bytes
-line-beside memory addr size value line other within = grind (arith, bytes_at-beside)
-
 -- the entry stores into the line
 unfoldable pub stores_into : ℕ → Done → Bool
 stores_into line done = not (is_load done.access) && nat_eq (accessed_line done.access) line
@@ -77,8 +71,8 @@ line-served : (state : ReplayState) (agent value line : ℕ) (access : Access)
     then bytes_at (put_value (slice_index (line_bytes state.memory line)) (addr_of access % 32)
     (size_of access) value) 0 32
     else line_bytes state.memory line)
-unfolding is_load
-line-served state agent value line access h1 h2 = grind (arith, line-put, line-beside)
+unfolding is_load line_bytes
+line-served state agent value line access h1 h2 = grind (arith, line-put, bytes_at-beside)
 
 -- The bytes of a line after entries are served one after the other: those of before, with the stores on the line made
 -- in their order.

@@ -9,7 +9,6 @@ use Rattle.fsb_access.specs.declared.access.Access.{Access}
 use Rattle.fsb_access.specs.declared.item.Item.{Item}
 use Rattle.fsb_access.specs.declared.log.Done.{Done}
 use Rattle.fsb_access.specs.ScriptOrder.{InOrder, Step, accesses_from, accesses_of, script_of, step_of, steps_from}
-use Rattle.fsb_access.specs.ScriptOrder.{steps_of_item}
 use Rattle.fsb_script.specs.Bounds.{is_lawful_item, is_lawful_script}
 use Rattle.fsb_tied.proofs.LineBytes.{is_placed}
 
@@ -38,15 +37,11 @@ steps-placed : (item part : ℕ) (accesses : List Access) → list_all is_lawful
 steps-placed item part [] h = refl
 steps-placed item part (access ∷ accesses) h = grind (arith, steps-placed item (part + 1) accesses)
 
-item-placed : (cache number : ℕ) (item : Item) → is_lawful_item cache item ≡ true
-    → list_all is_placed_step (steps_of_item number item) ≡ true
-item-placed cache number item h1 = grind (arith, steps-placed)
-
 items-placed : (cache number : ℕ) (items : List Item) → list_all (is_lawful_item cache) items ≡ true
     → list_all is_placed_step (accesses_from number items) ≡ true
 items-placed cache number [] h = refl
 items-placed cache number (item ∷ items) h =
-    grind (arith, both-all, item-placed, items-placed cache (number + 1) items)
+    grind (arith, both-all, steps-placed, items-placed cache (number + 1) items)
 
 script-placed : (cache a n : ℕ) (scripts : List (List Item)) → list_all (is_lawful_script cache) scripts ≡ true
     → list_all is_placed_step (accesses_of (take n (script_of scripts a))) ≡ true

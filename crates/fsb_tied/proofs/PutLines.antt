@@ -12,26 +12,16 @@ use Rattle.fsb_timely.specs.Runs.{Run, past_of}
 use Rattle.fsb_timely.specs.Transfers.{settled_of}
 use Rattle.fsb_tied.specs.RunBytes.{is_put_below, number_put_below}
 
-same-before : (o : Option ℕ) (n : ℕ) → (o ≡ Some n → ⊥) → is_before o (n + 1) ≡ is_before o n
-unfolding is_before is_some_and
-same-before o n h1 = grind arith
-
 -- live request i, with this end, is for the line and memory takes its data
 abbrev pub takes_line : Run → ℕ → ℕ → Bool
 takes_line r line i =
     is_some_and (live_claim_of r.trace i) (λ claim. nat_eq claim.line line)
     && is_some_and (settled_of r (past_of r) i) does_take
 
--- where no request puts the line at n, what is put below n + 1 is what is put below n
-same-put : (r : Run) (line n i : ℕ) → (end_of r.trace i ≡ Some n → takes_line r line i ≡ true → ⊥)
-    → is_put_below r (past_of r) line (n + 1) i ≡ is_put_below r (past_of r) line n i
-unfolding is_put_below
-same-put r line n i none = grind (arith, same-before)
-
 pub number-stays : (r : Run) (line n : ℕ) → ((i : ℕ) → end_of r.trace i ≡ Some n → takes_line r line i ≡ true → ⊥)
     → number_put_below r line (n + 1) ≡ number_put_below r line n
-unfolding number_put_below
-number-stays r line n none = grind (arith, same-put)
+unfolding number_put_below is_put_below is_before is_some_and
+number-stays r line n none = grind arith
 
 last-is : (test : ℕ → Bool) (count i : ℕ) → i < count → test i ≡ true → ((j : ℕ) → i < j → test j ≡ false)
     → last_where test count ≡ Some i

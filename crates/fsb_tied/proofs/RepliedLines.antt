@@ -124,14 +124,10 @@ owns-as : (request : Request) (kind : Kind) → request.kind ≡ kind → is_rep
 unfolding is_owner_request is_some_and is_owning is_reply_kind purpose_at purpose_of
 owns-as request kind h1 h2 s h3 = grind arith
 
-kind-reply : (kind : Kind) → is_reply_kind kind ≡ true → kind ≡ Reply
-unfolding is_reply_kind
-kind-reply kind h1 = grind arith
-
 reply-request : (o : Option Request) → is_reply o ≡ true → (request : Request) × (o ≡ Some request)
     × (request.kind ≡ Reply)
-unfolding is_reply is_some_and
-reply-request o h1 = grind (arith, kind-reply)
+unfolding is_reply is_some_and is_reply_kind
+reply-request o h1 = grind arith
 
 reply-kept : (o : Option Request) (request : Request) → o ≡ Some request → request.kind ≡ Reply
     → is_always_kept o ≡ true

@@ -5,7 +5,6 @@ use Rattle.std.specs.Option.{option_and_then}
 use Rattle.std.proofs.lemmas.Bool.{and_from, and_parts, eq-eqb, false_from_ne_true}
 use Rattle.fsb_count.specs.Options.{is_at, is_some_and}
 use Rattle.fsb_count.proofs.Interface.{first_where-at, is_at-from, is_at-some}
-use Rattle.fsb_encode.specs.declared.request.Kind.{Kind}
 use Rattle.fsb_encode.specs.declared.request.Request.{Request}
 use Rattle.fsb_signal.specs.declared.lines.TheConstants.Lines.{ADS}
 use Rattle.fsb_signal.specs.Samples.{line_at}
@@ -55,14 +54,10 @@ reply-unclaimed r q h wants few l ads replies =
     let winner = winner_at-agree (suc q + 1) w v q agree (omega arith) in
     unclaimed-by w q (winner_at w q) refl (ap (λ o. is_agent o Priority) winner ∙ agent)
 
-reply-kind-gives : (kind : Kind) (outcome : Outcome) → is_reply_kind kind ≡ true → makes_grant kind outcome ≡ true
-unfolding is_reply_kind makes_grant
-reply-kind-gives kind outcome h1 = grind arith
-
 reply-gives : (p : Past) (w : Trace) (q t : ℕ) (outcome : Outcome) (o : Option Request) → request_at w q ≡ o
     → is_reply o ≡ true → gives_line p w q t outcome ≡ true
-unfolding gives_line is_reply is_some_and
-reply-gives p w q t outcome o h1 h2 = grind (arith, reply-kind-gives)
+unfolding gives_line is_reply is_some_and is_reply_kind makes_grant
+reply-gives p w q t outcome o h1 h2 = grind arith
 
 grant-by : (p : Past) (w : Trace) (i q t j : ℕ) (outcome : Outcome) (claim : Claim) → gives_line p w q t outcome ≡ true
     → served_number w (turns_in p.moments) i ≡ Some j → live_claim_of w j ≡ Some claim

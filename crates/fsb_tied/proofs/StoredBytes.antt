@@ -45,15 +45,12 @@ is_still (IsDeferred a kind shared) = true
 is_still IsReplied = true
 is_still Responds = false
 
-storeless-one : (x : MemoryLine) (e : Event) (bytes : Bytes) → is_still e ≡ true → stored x e bytes ≡ bytes
-unfolding stored
-storeless-one x e bytes h1 = grind arith
-
 -- events that make no store
 pub storeless : (x : MemoryLine) (es : List Event) (bytes : Bytes) → list_all is_still es ≡ true
     → stored_by_all x es bytes ≡ bytes
+unfolding stored
 storeless x [] bytes h = refl
-storeless x (e ∷ es) bytes h = grind (arith, storeless-one, storeless (after x e) es (stored x e bytes))
+storeless x (e ∷ es) bytes h = grind (arith, storeless (after x e) es (stored x e bytes))
 
 -- the accesses of entries store what these entries store
 pub accesses-store : (x : MemoryLine) (entries : List Done) (bytes : Bytes)

@@ -1,16 +1,13 @@
 -- An agent that has a line ready awaits no link of it.
-use Rattle.std.proofs.Common.{ℕ, zero, suc, ◌<◌, ◌≤◌, ◌≡◌, Bool, true, false, ◌||◌, List, [], ◌∷◌, ◌++◌, Option, Some}
-use Rattle.std.proofs.Common.{None, length, refl, sym, ap, subst, ◌∙◌, arith, inl, inr}
+use Rattle.std.proofs.Common.{ℕ, zero, suc, ◌<◌, ◌≤◌, ◌≡◌, true, false, ◌||◌, List, [], ◌∷◌, ◌++◌, Option, Some, None}
+use Rattle.std.proofs.Common.{length, refl, sym, ap, subst, ◌∙◌, arith, inl, inr}
 use Rattle.std.proofs.lemmas.Bool.{both_ways, cases_lt, eq-eqb, or_left, or_right}
-use Rattle.std.specs.Option.{option_and_then, option_map, option_map_or}
+use Rattle.std.specs.Option.{option_and_then, option_map_or}
 use Rattle.fsb_count.specs.Clocks.{last_where}
 use Rattle.fsb_count.specs.Options.{is_some_and}
 use Rattle.fsb_encode.specs.declared.request.Kind.TheVariants.{WriteBack}
-use Rattle.fsb_encode.specs.declared.request.Request.{Request}
-use Rattle.fsb_hazard.specs.declared.choice.Turn.{Turn}
 use Rattle.fsb_line.specs.declared.link.Link.{Link}
 use Rattle.fsb_line.specs.Links.{is_linked}
-use Rattle.fsb_trace.specs.declared.outcome.Outcome.TheVariants.{Written}
 use Rattle.fsb_trace.specs.Outcome.{outcome_by_kind}
 use Rattle.fsb_trace.specs.Requests.{is_write_back_kind}
 use Rattle.fsb_timely.specs.Grants.{grant_at, has_arrived, holds_line, is_claim_of, is_ended, is_evicted, is_granted}
@@ -32,31 +29,17 @@ use Rattle.fsb_tied.proofs.Chains.{links_at}
 use Rattle.fsb_tied.proofs.InTurn.{ended-in-turn, ended-later}
 use Rattle.fsb_tied.proofs.ServedAccesses.{grant-first, granted-parts}
 
--- what is written back is a write-back
-kept-kind : (o : Option Request) → outcome_by_kind o ≡ Written → option_map (λ (x : Request). x.kind) o ≡ Some WriteBack
-unfolding outcome_by_kind
-kept-kind o h1 = grind arith
-
-turn-kind : (turn : Turn) (o : Option Request) → outcome_by_turn turn o ≡ Written
-    → option_map (λ (x : Request). x.kind) o ≡ Some WriteBack
-unfolding outcome_by_turn
-turn-kind turn o h1 = grind (arith, kept-kind)
-
-written-kind : (handed : Bool) (turn : Turn) (o : Option Request) → outcome_under handed turn o ≡ Written
-    → option_map (λ (x : Request). x.kind) o ≡ Some WriteBack
-unfolding outcome_under
-written-kind handed turn o h1 = grind (arith, turn-kind)
-
 -- who writes a line back loses it
 written-lost : (r : Run) (a line t : ℕ) (s : SnoopEnd) (awaited : Awaited) → snooped_at (past_of r) t ≡ Some s
     → ByWriteBack s awaited
     → awaited.agent ≡ a → awaited.line ≡ line → is_lost (past_of r) a line t ≡ true
-unfolding is_lost is_written_back is_snooped is_claim_of is_some_and is_write_back_kind
+unfolding is_lost is_written_back is_snooped is_claim_of is_some_and is_write_back_kind outcome_under
+    outcome_by_turn outcome_by_kind
 written-lost r a line t s awaited e b agent names =
     let p : Past = past_of r in
     let tied = tied-snoop r t s e in
     let made = sym (outcome-made r t s e) ∙ b.written in
-    let kind : s.kind ≡ Some WriteBack = grind (arith, written-kind) in
+    let kind : s.kind ≡ Some WriteBack = grind arith in
     or_left (is_evicted p a line t || is_some_and (snooped_at p t)
     (is_snooped (is_claim_of a line) is_write_back_kind)) (is_taken_away p a line t)
     (or_right (is_evicted p a line t)
@@ -86,10 +69,6 @@ same-grant : (p : Past) (t : ℕ) (s : SnoopEnd) (grant : Grant) → snooped_at 
     → s.grant ≡ Some grant
 unfolding grant_at
 same-grant p t s grant e f = sym (ap (option_and_then (λ (x : SnoopEnd). x.grant)) e) ∙ f
-
-ready-parts : (p : Past) (a line m : ℕ) → is_ready p a line m ≡ true → IsReady p a line m
-unfolding has_arrived latest_grant
-ready-parts p a line m e = grind (arith, some-and, last_where-found, granted-parts, same-grant)
 
 -- none of its links is the agent's
 record HasReady (r : Run) (a line m : ℕ) : Type 0 where
@@ -169,25 +148,18 @@ unfolding links_left
 unlinked-all p a line m zero none = refl
 unlinked-all p a line m (suc b) none = grind (arith, linked-append, unlinked-all p a line m b)
 
--- a snoop end leaves a link of the agent only where its end is awaited by it
-unlinked-end : (p : Past) (a line m t : ℕ) (s : SnoopEnd) (o : Option Awaited) → awaited_by s ≡ o
-    → is_ended p m s.first ≡ false
-    → ((awaited : Awaited) → o ≡ Some awaited → awaited.agent ≡ a → awaited.line ≡ line → ⊥)
-    → is_linked a (link_left p line m t s) ≡ false
-unfolding link_left link_for
-unlinked-end p a line m t s o h1 h2 h3 = grind arith
-
 unlinked-at : (r : Run) (a line m t : ℕ) (o : Option SnoopEnd) → HasReady r a line m → t < m
     → snooped_at (past_of r) t ≡ o
     → is_linked a (option_map_or (link_left (past_of r) line m t) o []) ≡ false
-unfolding link_left
-unlinked-at r a line m t o h1 h2 h3 = grind (arith, unlinked-end, awaited-done)
+unfolding link_left link_for
+unlinked-at r a line m t o h1 h2 h3 = grind (arith, awaited-done)
 
 -- who holds a line that is ready for it awaits no link of it
 pub unlinked : (r : Run) (a line m : ℕ) → Timely r → m ≤ length r.trace → holds_line (past_of r) a line m ≡ true
     → is_ready (past_of r) a line m ≡ true → is_linked a (chain_below (past_of r) line m) ≡ false
-unfolding chain_below
-unlinked r a line m h l holds ready = grind (arith, ready-parts, unlinked-all, unlinked-at)
+unfolding chain_below has_arrived latest_grant
+unlinked r a line m h l holds ready =
+    grind (arith, some-and, last_where-found, granted-parts, same-grant, unlinked-all, unlinked-at)
 
 -- so it does where its latest grant ended before
 pub arrived-ready : (p : Past) (a line m c : ℕ) → c ≤ m → has_arrived p a line m c ≡ true → is_ready p a line m ≡ true

@@ -1,8 +1,5 @@
 -- What an agent wants suits what it has, and lies in a cache set of which it has asked for no line.
-use Rattle.std.proofs.Common.{ℕ, ◌≡◌, ◌⊎◌, Bool, true, false, ◌&&◌, List, [], Option, Some, None, refl, inl, inr}
-use Rattle.std.proofs.Common.{arith}
-use Rattle.std.specs.List.{find}
-use Rattle.std.specs.Option.{option_map}
+use Rattle.std.proofs.Common.{ℕ, ◌≡◌, ◌⊎◌, Bool, true, false, ◌&&◌, List, Option, Some, None, refl, inl, inr, arith}
 use Rattle.std.proofs.lemmas.Bool.{and_from, and_parts, both_ways, false_from_ne_true, not-true}
 use Rattle.fsb_encode.specs.declared.request.Kind.{Kind}
 use Rattle.fsb_encode.specs.declared.request.Request.{Request}
@@ -12,7 +9,7 @@ use Rattle.fsb_trace.specs.Requests.{is_write_back_kind}
 use Rattle.fsb_timely.specs.Past.{Owing, Past}
 use Rattle.fsb_timely.specs.Grants.{holds_line, is_exclusive, is_rival}
 use Rattle.fsb_timely.specs.Hits.{is_dirty, is_met}
-use Rattle.fsb_timely.specs.Scripts.{Need, needs_from, window}
+use Rattle.fsb_timely.specs.Scripts.{Need}
 use Rattle.fsb_timely.specs.Wants.{is_asked_for, is_missing, is_same_set, kind_needed, may_upgrade, owed}
 use Rattle.fsb_timely.specs.Wants.{request_of_kind, victim_of, want_for, want_of, write_back_of}
 use Rattle.fsb_timely.proofs.Interface.{find-passes, missing-parts}
@@ -77,15 +74,10 @@ want-for p a c need (Some victim) e missing =
       drops = inr v.1;
     })
 
-want-if : (p : Past) (a c : ℕ) (request : Request) (o : Option Need)
-    → find (is_missing p a c (owed p a c)) (needs_from [] (window p a c)) ≡ o
-    → option_map (want_for p a c (owed p a c)) o ≡ Some request → IsWanting p a c request
-want-if p a c request o h1 h2 = grind (arith, find-passes, want-for)
-
 -- what an agent wants suits what it has
 pub want-is : (p : Past) (a c : ℕ) (request : Request) → want_of p a c ≡ Some request → IsWanting p a c request
 unfolding want_of
-want-is p a c request e = grind (arith, want-if)
+want-is p a c request e = grind (arith, find-passes, want-for)
 
 -- a request that asks for a write-back is one
 pub write-back-kind : (kind : Kind) → purpose_of kind ≡ Some purposes.WriteBack → is_write_back_kind kind ≡ true
