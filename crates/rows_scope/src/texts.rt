@@ -25,7 +25,7 @@ pub(crate) const CLOCK: &str =
     "a clock number, as 1200, or a time with its unit, as 285ns (s, ms, us, ns, ps, fs), may stand there";
 
 /// Command lines that are refused, each with its status and its text.
-const REFUSED: [(&str, &str); 80] = [
+const REFUSED: [(&str, &str); 82] = [
     (
         "foo|a.vcd",
         "2 error: unrecognized subcommand 'foo'\nthe commands: lines, check, pick, rule; each has --help\n",

@@ -1,12 +1,12 @@
 -- The best scopes, where each is asked by its own variables.
-use Rattle.std.proofs.Common.{◌≡◌, ◌∙◌, ℕ, ◌+◌, ◌<◌, Bool, true, false, nat_eq, nat_le, nat_lt, cond, not, ◌&&◌, count_by, map, take, get_or, length, List, [], ◌∷◌, Option, Some, None, is_some, refl, ap, sym, arith, rules, BTreeMap, Vec, Global}
+use Rattle.std.proofs.Common.{◌≡◌, ◌∙◌, ℕ, ◌+◌, ◌<◌, Bool, nat_le, cond, ◌&&◌, count_by, map, take, get_or, length, List, [], ◌∷◌, refl, ap, sym, arith, BTreeMap, Vec, Global}
 use Rattle.std.proofs.lemmas.List.{take_more}
 use Rattle.std.proofs.lemmas.List.Elements.{filter_agree}
 use Rattle.std.proofs.lemmas.List.Folds.{list_all-append}
 use Rattle.std.specs.List.{filter, fold, list_all}
 use Rattle.scope_pick.specs.declared.wires.Named.{Named}
 use Rattle.scope_pick.specs.Groups.{in_scope, group_at, AreGroups}
-use Rattle.scope_pick.specs.Scopes.{lines, is_head, found_in}
+use Rattle.scope_pick.specs.Scopes.{lines, is_head}
 use Rattle.scope_pick.proofs.Within.{head-within, found-within}
 use Rattle.scope_wiring.specs.Candidates.{heads, is_found, found_count, is_greatest, found_counts, best_among}
 

@@ -10,8 +10,8 @@ use crate::meaning::{Meaning, meaning_of};
 use crate::taps::{bit_tap, tap_named, tap_of};
 use crate::text::LineOption;
 use scope_pick::{
-    Bit, Header, Named, Range, Variable, base_of, bit_at, bit_in, bits, found_in, is_listed, line_named,
-    line_width,
+    Bit, Header, Named, Range, Variable, base_of, bit_at, bit_in, bits, found_in, is_listed,
+    line_named, line_width,
 };
 use std::alloc::{AllocError, Global};
 use vcd_way::Tap;
@@ -235,13 +235,7 @@ fn wire_in(
         line_named(&variable.name),
     ) {
         Some(wire) => Some(wire),
-        None => bit_wire(
-            bits,
-            names,
-            settled,
-            scope,
-            bit_at(header, index, variable),
-        ),
+        None => bit_wire(bits, names, settled, scope, bit_at(header, index, variable)),
     }
 }
 

@@ -1,4 +1,4 @@
-use Rattle.std.proofs.Common.{◌≡◌, true, nat_le, arith, refl}
+use Rattle.std.proofs.Common.{arith}
 use Rattle.scope_wiring.specs.Candidates.{is_greatest}
 use Rattle.scope_wiring.proofs.Best.{greatest-more}
 use Rattle.scope_wiring.proofs.candidates.greatest.Goals as goal
