@@ -1,15 +1,15 @@
 -- The request that begins is what its agent wants, and has the ID of that want.
-use Rattle.std.proofs.Common.{ℕ, ◌+◌, ◌<◌, ◌≤◌, ◌≡◌, Bool, true, false, Some, length, refl, sym, ap, ◌∙◌, arith}
+use Rattle.std.proofs.Common.{ℕ, ◌+◌, ◌<◌, ◌≤◌, ◌≡◌, Bool, Some, length, refl, sym, ap, ◌∙◌, arith}
 use Rattle.fsb_signal.specs.declared.lines.TheConstants.Lines.{ADS}
 use Rattle.fsb_signal.specs.Samples.{line_at}
 use Rattle.fsb_encode.specs.declared.request.Request.{Request}
 use Rattle.fsb_trace.specs.At.{Trace}
-use Rattle.fsb_timely.specs.Moments.{begun_with, claim_at, moment_at, owing_for}
+use Rattle.fsb_timely.specs.Moments.{begun_with, moment_at, owing_for}
 use Rattle.fsb_timely.specs.Past.{Owing, Past}
 use Rattle.fsb_timely.specs.Runs.{moments_below, past_of, past_with, Run, run_to}
 use Rattle.fsb_timely.specs.Wants.{free_id, owed, want_of}
 use Rattle.fsb_timely.proofs.Interface.{Alike, moment-at, owed-same}
-use Rattle.fsb_lawful.proofs.Interface.{map-some, want-few}
+use Rattle.fsb_lawful.proofs.Interface.{want-few}
 use Rattle.fsb_tied.proofs.Interface.{begun-want}
 use Rattle.fsb_run_laws.specs.Reaches.{Reaches}
 use Rattle.fsb_run_laws.specs.RunSteps.{owing_begun}
@@ -18,20 +18,14 @@ use Rattle.fsb_run_laws.proofs.OwedRequests.{begun-field, owing-claim}
 -- the past below a clock is that of the whole run so far
 below-alike : (r : Run) (n : ℕ) → n ≤ length r.trace → Alike n (past_with r (moments_below r n) n) (past_of r)
 unfolding past_of
-below-alike r n l = record {
-  same_plan = refl;
-  same_moments = λ t m. moment-at r n t m ∙ sym (moment-at r (length r.trace) t (omega arith));
-}
+below-alike r n l = grind (arith, moment-at)
 
 -- a request that begins has the free ID
 begun-free : (p : Past) (w : Trace) (n : ℕ) (owing : Owing) (b : Bool) → line_at ADS w n ≡ b
     → begun_with p w n ≡ Some owing
     → owing.did ≡ free_id owing.claim.agent (owed p owing.claim.agent n)
 unfolding begun_with owing_for
-begun-free p w n owing false e f = absurd (let no : ⊥ = (let f' = rw (e, begun_with) at f in cc) in no)
-begun-free p w n owing true e f =
-    let k = map-some (owing_for p n) (claim_at w n) owing (let f' = rw (e, begun_with) at f in f') in
-    sym (ap (λ (o : Owing). o.did) k.2) ∙ ap (λ (o : Owing). free_id o.claim.agent (owed p o.claim.agent n)) k.2
+begun-free p w n owing b h1 h2 = grind arith
 
 pub begun-wanted : (r : Run) (n : ℕ) (owing : Owing) → Reaches r (n + 1) → owing_begun (past_of r) n ≡ Some owing
     → (request : Request) × (want_of (past_of r) owing.claim.agent n ≡ Some request) × (owing.did ≡ request.did)

@@ -1,9 +1,9 @@
 -- A line that is brought is one that the request whose end it is was granted; a reply serves what was Deferred.
-use Rattle.std.proofs.Common.{ℕ, ◌+◌, ◌<◌, ◌≤◌, ◌≡◌, Bool, true, not, ◌&&◌, ◌||◌, Some, None, length, nat_eq, refl, sym}
+use Rattle.std.proofs.Common.{ℕ, ◌+◌, ◌<◌, ◌≤◌, ◌≡◌, Bool, true, not, ◌&&◌, ◌||◌, Some, None, length, nat_eq, refl}
 use Rattle.std.proofs.Common.{ap, ◌∙◌, arith}
 use Rattle.std.specs.List.{list_any}
 use Rattle.std.specs.Option.{option_and_then}
-use Rattle.std.proofs.lemmas.Bool.{and_from, and_parts, eq-eqb, eqb-true}
+use Rattle.std.proofs.lemmas.Bool.{and_from, and_parts, eq-eqb}
 use Rattle.fsb_count.specs.Clocks.{first_where}
 use Rattle.fsb_count.specs.Options.{is_some_and}
 use Rattle.fsb_count.proofs.Interface.{any_where-at, any_where-found, first_where-at, first_where-found}
@@ -18,7 +18,7 @@ use Rattle.fsb_coherent.specs.Facts.{IsRepliedOn}
 use Rattle.fsb_coherent.proofs.Interface.{any-from, any-there}
 use Rattle.fsb_lawful.proofs.Interface.{and-then, some-and}
 use Rattle.fsb_tied.proofs.Interface.{answers-in-order, any-of, clock-facts, grant-first, granted-parts, is-found}
-use Rattle.fsb_tied.proofs.Interface.{none-before, reply-end-at, same-both}
+use Rattle.fsb_tied.proofs.Interface.{none-before, reply-end-at}
 use Rattle.fsb_run_laws.specs.Brought.{brings, is_bringing, ServesDeferred}
 use Rattle.fsb_run_laws.specs.Reaches.{Reaches}
 
@@ -32,32 +32,6 @@ snoop-below r n t s h l e =
     let first : first_where test (n + 1) ≡ Some t = first_where-at test (n + 1) t (omega arith) (is-found p t s e)
     (λ k low. none-before p (length r.trace) t k s (answers-in-order r h.timely) e low) in
     ap (option_and_then (snooped_at p)) first ∙ e
-
-brought-then : (r : Run) (a n : ℕ) (need : Need) → Reaches r (n + 1) → is_brought (past_of r) a n need ≡ true
-    → list_any (brings (past_of r) a n need) (ended_requests (past_of r) n) ≡ true
-unfolding is_brought brings_at brings is_end_at grant_at is_some_and is_bringing
-brought-then r a n need h e =
-    let p : Past = past_of r in
-    let long = h.long in
-    let t = any_where-found (brings_at p a n need) (n + 1) e in
-    let low : t.0 < n + 1 = t.1 in
-    let parts = and_parts (is_granted p a need.line t.0)
-    (is_some_and (grant_at p t.0) (λ x. is_end_at p n x.first && (x.owns || not need.alone))) t.2 in
-    let g = granted-parts p a need.line t.0 parts.0 in
-    let s : SnoopEnd = g.0 in
-    let grant : Grant = g.1 in
-    let there : snooped_at p t.0 ≡ Some s = g.2 in
-    let made : s.grant ≡ Some grant = g.3 in
-    let at : grant_at p t.0 ≡ Some grant = ap (option_and_then (λ (x : SnoopEnd). x.grant)) there ∙ made in
-    let ends = and_parts (is_end_at p n grant.first) (grant.owns || not need.alone) (rw at at parts.1) in
-    let first = grant-first r a need.line t.0 s grant (omega arith) there made parts.0 in
-    let below = snoop-below r n t.0 s h (omega arith) there in
-    let passes : is_bringing a need grant ≡ true =
-    and_from _ _ (and_from _ _ (eq-eqb grant.agent a g.4) (eq-eqb grant.line need.line g.5)) ends.1 in
-    any-of (brings p a n need) grant.first (ended_requests p n) ends.0
-    (ap (brings p a n need) first
-    ∙ ap (λ o. is_some_and (option_and_then (λ (x : SnoopEnd). x.grant) o) (is_bringing a need)) below
-    ∙ ap (λ o. is_some_and o (is_bringing a need)) made ∙ passes)
 
 then-brought : (r : Run) (a n : ℕ) (need : Need) → Reaches r (n + 1)
     → list_any (brings (past_of r) a n need) (ended_requests (past_of r) n) ≡ true
@@ -78,27 +52,23 @@ then-brought r a n need h e =
     let found = first_where-found test (n + 1) t.0 t.1 in
     let low : t.0 < n + 1 = found.0 in
     let there : snooped_at p t.0 ≡ Some s.0 = t.2 in
-    let own : s.0.first ≡ q = eqb-true s.0.first q
-    (sym (ap (λ o. is_some_and o (is_snoop_of q)) there) ∙ found.1) in
+    let own : s.0.first ≡ q = grind arith in
     let parts = and_parts (nat_eq grant.agent a && nat_eq grant.line need.line) (grant.owns || not need.alone) g.2 in
     let at : grant_at p t.0 ≡ Some grant = ap (option_and_then (λ (x : SnoopEnd). x.grant)) there ∙ s.2 in
-    let granted : is_granted p a need.line t.0 ≡ true =
-    ap (λ o. is_some_and o (λ (x : Grant). nat_eq x.agent a && nat_eq x.line need.line)) at ∙ parts.0 in
+    let granted : is_granted p a need.line t.0 ≡ true = grind arith in
     let first = grant-first r a need.line t.0 s.0 grant (omega arith) there s.2 granted ∙ own in
-    let ends : is_end_at p n grant.first ≡ true =
-    ap (λ k. list_any (nat_eq k) (ended_requests p n)) first ∙ listed in
+    let ends : is_end_at p n grant.first ≡ true = grind arith in
     let brought : is_some_and (grant_at p t.0) (λ x. is_end_at p n x.first && (x.owns || not need.alone)) ≡ true =
-    ap (λ o. is_some_and o (λ (x : Grant). is_end_at p n x.first && (x.owns || not need.alone))) at
-    ∙ and_from (is_end_at p n grant.first) (grant.owns || not need.alone) ends parts.1 in
+    grind arith in
     any_where-at (brings_at p a n need) (n + 1) t.0 low
     (and_from (is_granted p a need.line t.0)
     (is_some_and (grant_at p t.0) (λ x. is_end_at p n x.first && (x.owns || not need.alone))) granted brought)
 
 pub brought-told : (r : Run) (a n : ℕ) (need : Need) → Reaches r (n + 1)
     → is_brought (past_of r) a n need ≡ list_any (brings (past_of r) a n need) (ended_requests (past_of r) n)
+unfolding is_brought brings_at brings is_end_at grant_at is_some_and is_bringing
 brought-told r a n need h =
-    same-both (is_brought (past_of r) a n need) (list_any (brings (past_of r) a n need) (ended_requests (past_of r) n))
-    (brought-then r a n need h) (then-brought r a n need h)
+    grind (arith, any_where-found, granted-parts, grant-first, snoop-below, any-of, then-brought)
 
 -- a reply's grant is for the deferral of its line
 pub replied-on : (r : Run) (n : ℕ) (s : SnoopEnd) (grant : Grant) → Reaches r (n + 1)
@@ -114,20 +84,4 @@ pub serves-deferred : (r : Run) (n : ℕ) (s : SnoopEnd) (grant : Grant) → sno
 unfolding grant_to
 serves-deferred r n s grant there none made =
     let k = reply-end-at r grant.line n s grant there none made refl in
-    let d = k.put_off in
-    record {
-      number = k.number;
-      reached = k.snooped.tied.reached;
-      served = k.served;
-      serves = k.serves;
-      clock = k.clock;
-      before = k.before;
-      served_there = d.snooped.tied.reached;
-      end = d.end;
-      there = d.snooped.tied.there;
-      deferred = d.deferred;
-      claim = d.claim;
-      claims = d.claims;
-      agent = ap (λ (g : Grant). g.agent) k.made;
-      line = d.names;
-    }
+    grind arith

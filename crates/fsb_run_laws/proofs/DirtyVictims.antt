@@ -1,23 +1,19 @@
 -- The victim of an agent for a line is the rival of the line on which the agent is dirty.
-use Rattle.std.proofs.Common.{ℕ, ◌≡◌, true, false, not, Option, Some, None, nat_eq, refl, ap, inl, inr}
-use Rattle.std.proofs.lemmas.Bool.{and_from, both_ways, cases_Bool, eqb-true}
+use Rattle.std.proofs.Common.{ℕ, ◌≡◌, true, false, Option, Some, None, nat_eq, refl, ap, inl, inr, arith}
+use Rattle.std.proofs.lemmas.Bool.{both_ways, cases_Bool, eqb-true}
 use Rattle.fsb_timely.specs.Grants.{is_rival}
 use Rattle.fsb_timely.specs.Hits.{is_dirty}
 use Rattle.fsb_timely.specs.Past.{Past}
 use Rattle.fsb_timely.specs.Runs.{past_of, Run}
 use Rattle.fsb_timely.specs.Wants.{is_same_set, victim_of}
-use Rattle.fsb_tied.proofs.Interface.{a-victim, dirty-held, no-victim, one-slot, rival-set, rival-sym, same-set}
-use Rattle.fsb_tied.proofs.Interface.{same-set-sym}
+use Rattle.fsb_tied.proofs.Interface.{a-victim, dirty-held, no-victim, one-slot, rival-sym}
 use Rattle.fsb_run_laws.specs.Reaches.{Reaches}
 
 -- two rivals of a line that differ are rivals
 rivals : (p : Past) (line w v : ℕ) → is_rival p w line ≡ true → is_rival p v line ≡ true → nat_eq w v ≡ false
     → is_rival p w v ≡ true
 unfolding is_rival is_same_set
-rivals p line w v e f differs =
-    let one = same-set-sym p w line (rival-set p w line e) in
-    let two = same-set-sym p v line (rival-set p v line f) in
-    and_from _ _ (same-set p line w v one two) (ap not differs)
+rivals p line w v e f differs = grind arith
 
 -- a dirty rival of a line is its victim
 pub victim-from : (r : Run) (a line v n : ℕ) → Reaches r n → is_rival (past_of r) v line ≡ true

@@ -1,16 +1,14 @@
 -- The state that a grant gives.
-use Rattle.std.proofs.Common.{ℕ, ◌+◌, ◌<◌, ◌≡◌, Bool, true, false, not, ◌&&◌, ◌||◌, if◌then◌else◌, Some, refl, sym, ap}
-use Rattle.std.proofs.Common.{◌∙◌, arith}
+use Rattle.std.proofs.Common.{ℕ, ◌+◌, ◌<◌, ◌≡◌, true, false, Some, sym, ap, ◌∙◌, arith}
 use Rattle.std.proofs.lemmas.Bool.{both_ways, false_from_ne_true, ltb-true}
 use Rattle.fsb_count.specs.Options.{is_some_and}
 use Rattle.fsb_count.proofs.Interface.{nat_lt-more}
-use Rattle.fsb_line.specs.declared.state.Mesi.TheVariants.{Shared, Exclusive, Modified}
 use Rattle.fsb_timely.specs.Past.{Grant, Past}
-use Rattle.fsb_timely.specs.Grants.{grant_at, holds_line, is_ended, is_exclusive, is_granted, is_sole_grant}
+use Rattle.fsb_timely.specs.Grants.{grant_at, is_ended, is_granted, is_sole_grant}
 use Rattle.fsb_timely.specs.Runs.{past_of, Run}
 use Rattle.fsb_timely.proofs.Interface.{holds_line-more, is_exclusive-more}
 use Rattle.fsb_coherent.specs.Facts.{ClockFacts}
-use Rattle.fsb_coherent.specs.Relation.{is_dirty_below, is_dirtying, is_stored_below}
+use Rattle.fsb_coherent.specs.Relation.{is_dirtying, is_stored_below}
 use Rattle.fsb_coherent.proofs.Interface.{dirty-more, ended-later, granted-now, stored-parts}
 use Rattle.fsb_tied.proofs.Interface.{clock-facts}
 use Rattle.fsb_run_laws.specs.Reaches.{Reaches}
@@ -29,25 +27,9 @@ none-stored p a line n grant h t there = false_from_ne_true _ (λ stored.
     both_ways (is_ended p (n + 1) grant.first)
     (ap (λ (g : Grant). is_ended p (n + 1) g.first) (sym same) ∙ now.unended) ended)
 
-by-grant : (owns shared : Bool)
-    → state_of_tests true (owns || not shared) ((owns || not shared) && (owns || false))
-    ≡ (if owns then Modified else (if shared then Shared else Exclusive))
-unfolding state_of_tests
-by-grant true shared = refl
-by-grant false true = refl
-by-grant false false = refl
-
 pub state-granted : (r : Run) (a line n : ℕ) (grant : Grant) → Reaches r (n + 1)
     → is_granted (past_of r) a line n ≡ true
     → grant_at (past_of r) n ≡ Some grant → state_below (past_of r) a line (n + 1) ≡ state_granted grant
-unfolding state_below state_granted is_sole_grant is_dirtying is_some_and
+unfolding state_below state_granted is_sole_grant is_dirtying is_some_and state_of_tests
 state-granted r a line n grant h t there =
-    let p = past_of r in
-    let long = h.long in
-    let facts = clock-facts r line n h.timely h.bounds (omega arith) in
-    let held : holds_line p a line (n + 1) ≡ true = holds_line-more p a line n ∙ rw t refl in
-    let own : is_exclusive p a line (n + 1) ≡ (grant.owns || not grant.shared) =
-    is_exclusive-more p a line n ∙ rw (t, there) refl in
-    let dirty : is_dirty_below p a line (n + 1) ≡ ((grant.owns || not grant.shared) && (grant.owns || false)) =
-    dirty-more p a line n ∙ rw (t, there, none-stored p a line n grant facts t there) refl in
-    (λ i. state_of_tests (held i) (own i) (dirty i)) ∙ by-grant grant.owns grant.shared
+    grind (arith, clock-facts, holds_line-more, is_exclusive-more, dirty-more, none-stored)

@@ -1,9 +1,9 @@
 -- The last clock at which a request is outstanding shows in the samples up to it.
 use Rattle.std.proofs.Common.{ℕ, ◌+◌, ◌<◌, ◌≤◌, ◌≡◌, true, Some, length, sym, ap, ◌∙◌, inl, inr, arith}
 use Rattle.std.specs.Option.{option_and_then}
-use Rattle.std.proofs.lemmas.Bool.{and_from, and_parts, cases_Bool}
+use Rattle.std.proofs.lemmas.Bool.{and_parts, cases_Bool}
 use Rattle.fsb_count.specs.Options.{is_before}
-use Rattle.fsb_count.proofs.Interface.{is_before-from, is_before-parts}
+use Rattle.fsb_count.proofs.Interface.{is_before-parts}
 use Rattle.fsb_trace.specs.Agree.{AgreeTo}
 use Rattle.fsb_trace.specs.At.{Trace}
 use Rattle.fsb_trace.specs.Flight.{is_finished, last_clock_of, reply_end_of, reply_number_of}
@@ -36,17 +36,7 @@ has-end w i x o e =
     let k = end_after_clock w i x o e in
     let p = end_of-response w i x e in
     let a = has_answer w p.0 i (o.timely i p.0 p.1) in
-    record {
-      clock = k.0;
-      is_clock = k.1;
-      early = k.2;
-      response = p.0;
-      is_response = p.1;
-      upto = p.2;
-      snoop = a.snoop;
-      is_snoop = a.is_snoop;
-      before = a.before;
-    }
+    grind arith
 
 -- an end below n stays, and so does whether its request is Deferred
 end-carried : (n : ℕ) (a b : Trace) (i x : ℕ) → AgreeTo n a b → Orderly a → end_of a i ≡ Some x → x < n
@@ -118,15 +108,10 @@ finished-carried n a b q agree o within e =
     let x = is_before-parts (last_clock_of a i) n parts.1 in
     let k = last-carried n a b i x.0 agree o x.1 x.2 in
     let clock = live_clock_of-number a q within parts.0 in
-    let is = k.is_clock in
     let same : k.clock ≡ q = cc in
-    let early = k.early in
-    let below = x.2 in
     let there = live_clock_of-stays n a b i q agree (omega arith) clock in
     let number : live_number_of b q ≡ i = (live-at b i q there).number in
-    and_from (is_live b q) (is_before (last_clock_of b (live_number_of b q)) n)
-    (sym (is_live-agree n a b q agree (omega arith)) ∙ parts.0)
-    (ap (λ j. is_before (last_clock_of b j) n) number ∙ is_before-from (last_clock_of b i) x.0 n k.last below)
+    grind (arith, is_live-agree)
 
 -- what is finished began six clocks before at least
 pub finished-late : (w : Trace) (n q : ℕ) → AgreeTo n w w → Orderly w → q < length w → is_finished w n q ≡ true
@@ -138,8 +123,4 @@ finished-late w n q agree o within e =
     let x = is_before-parts (last_clock_of w i) n parts.1 in
     let k = last-carried n w w i x.0 agree o x.1 x.2 in
     let clock = live_clock_of-number w q within parts.0 in
-    let is = k.is_clock in
-    let same : k.clock ≡ q = cc in
-    let early = k.early in
-    let below = x.2 in
-    omega arith
+    grind arith

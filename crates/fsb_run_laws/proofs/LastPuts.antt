@@ -1,6 +1,6 @@
 -- The last request that put a line into memory, one clock further.
 use Rattle.std.proofs.Common.{ℕ, ◌+◌, ◌≡◌, true, false, Some, arith}
-use Rattle.std.proofs.lemmas.Bool.{and_from, and_parts, both_ways, false_from_ne_true}
+use Rattle.std.proofs.lemmas.Bool.{and_parts, false_from_ne_true}
 use Rattle.fsb_count.specs.Options.{is_before}
 use Rattle.fsb_count.proofs.Interface.{is_before-from, is_before-parts}
 use Rattle.fsb_trace.specs.Response.{end_of}
@@ -11,14 +11,6 @@ use Rattle.fsb_tied.proofs.Interface.{ended-before, number-put, number-stays, or
 use Rattle.fsb_run_laws.specs.Reaches.{Reaches}
 use Rattle.fsb_run_laws.proofs.LastClocks.{has-end}
 
--- a request that takes the line, and ends at n, has put it below n + 1
-takes-put : (r : Run) (line n i : ℕ) → end_of r.trace i ≡ Some n → takes_line r line i ≡ true
-    → is_put_below r (past_of r) line (n + 1) i ≡ true
-unfolding is_put_below
-takes-put r line n i e takes =
-    and_from (takes_line r line i) (is_before (end_of r.trace i) (n + 1)) takes
-    (is_before-from (end_of r.trace i) n (n + 1) e (omega arith))
-
 put-takes : (r : Run) (line n i : ℕ) → is_put_below r (past_of r) line (n + 1) i ≡ true → takes_line r line i ≡ true
 unfolding is_put_below
 put-takes r line n i put = (and_parts (takes_line r line i) (is_before (end_of r.trace i) (n + 1)) put).0
@@ -26,9 +18,8 @@ put-takes r line n i put = (and_parts (takes_line r line i) (is_before (end_of r
 pub put-stays : (r : Run) (line n : ℕ)
     → ((i : ℕ) → end_of r.trace i ≡ Some n → is_put_below r (past_of r) line (n + 1) i ≡ false)
     → number_put_below r line (n + 1) ≡ number_put_below r line n
-put-stays r line n none =
-    number-stays r line n (λ i e takes.
-    both_ways (is_put_below r (past_of r) line (n + 1) i) (none i e) (takes-put r line n i e takes))
+unfolding is_put_below
+put-stays r line n none = grind (arith, number-stays, is_before-from)
 
 pub put-new : (r : Run) (line n i : ℕ) → Reaches r (n + 1) → end_of r.trace i ≡ Some n
     → is_put_below r (past_of r) line (n + 1) i ≡ true → number_put_below r line (n + 1) ≡ Some i

@@ -1,9 +1,8 @@
 -- Which requests stop being outstanding at a clock, by its moment.
-use Rattle.std.proofs.Common.{ℕ, ◌+◌, ◌<◌, ◌≤◌, ◌≡◌, true, false, not, ◌&&◌, [], Some, None, length, nat_eq, refl, sym}
-use Rattle.std.proofs.Common.{ap, subst, ◌∙◌, inl, inr, arith}
+use Rattle.std.proofs.Common.{ℕ, ◌+◌, ◌<◌, ◌≤◌, ◌≡◌, true, false, not, ◌&&◌, [], Some, None, length, nat_eq, refl}
+use Rattle.std.proofs.Common.{sym, ap, subst, ◌∙◌, inl, inr, arith}
 use Rattle.std.specs.List.{list_any}
-use Rattle.std.specs.Option.{option_and_then}
-use Rattle.std.proofs.lemmas.Bool.{and_parts, both_ways, cases_Bool, eq-eqb, eqb-true, false_from_ne_true}
+use Rattle.std.proofs.lemmas.Bool.{and_parts, both_ways, cases_Bool, eqb-true, false_from_ne_true}
 use Rattle.fsb_count.specs.Options.{is_at, is_some_and}
 use Rattle.fsb_count.proofs.Interface.{is_at-from, is_at-some}
 use Rattle.fsb_signal.specs.declared.lines.TheConstants.Lines.{AERR}
@@ -81,31 +80,10 @@ pub ends-with : (r : Run) (n q : ℕ) (s : SnoopEnd) → Reaches r (n + 1) → i
     → snoop_end_below (past_of r) (n + 1) q ≡ Some s → EndsWith r n q s
 ends-with r n q s h e below =
     let w = r.trace in
-    let long = h.long in
     let l : n < length w = omega arith in
     let k = ended-number r n q h.timely l e in
     let m = has-end w k.0 n (orderly-whole r n h.timely l) k.1.end in
-    let before = m.before in
-    let upto = m.upto in
-    let tied = snoop-tied r k.0 m.snoop m.is_snoop in
-    let snooped = snooped-by r m.snoop k.0 tied.0 tied.1 in
-    let there = snoop-below r n m.snoop tied.0 h (omega arith) tied.1.there in
-    let one = tied.1.first in
-    let two = k.1.first in
-    let first : tied.0.first ≡ q = cc in
-    let found : snoop_end_below (past_of r) (n + 1) q ≡ Some tied.0 =
-    subst (λ x. snoop_end_below (past_of r) (n + 1) x ≡ Some tied.0) first there in
-    let same : tied.0 ≡ s = cc in
-    record {
-      number = k.0;
-      end = k.1.end;
-      first = k.1.first;
-      response = m.response;
-      is_response = m.is_response;
-      upto = m.upto;
-      clock = m.snoop;
-      snooped = subst (IsSnooped r m.snoop k.0) same snooped;
-    }
+    grind (arith, snoop-tied, snooped-by, snoop-below)
 
 -- a request that ends at n stops being outstanding there, unless it is Deferred
 pub ends-last : (r : Run) (n q : ℕ) (s : SnoopEnd) → Reaches r (n + 1) → is_end_at (past_of r) n q ≡ true
@@ -164,14 +142,12 @@ reply-ends-last r n q s grant h e below none made =
     let after = reply.after in
     let m = has-end w k.number n (orderly-whole r n h.timely (omega arith)) k.end in
     let early = m.early in
-    let there : live_clock_of w k.number ≡ Some reply.clock =
-    subst (λ x. live_clock_of w x ≡ Some reply.clock) number first in
+    let there : live_clock_of w k.number ≡ Some reply.clock = grind arith in
     let is = m.is_clock in
     let clock : m.clock ≡ reply.clock = cc in
     let deferred = told-same r n a.clock j reply.response d.end h d.snooped reply.is_response (omega arith)
     ∙ d.deferred in
-    let last : last_clock_of w j ≡ Some n =
-    last_clock_of-deferred w j deferred ∙ ap (option_and_then (end_of w)) a.reply ∙ ap (end_of w) number ∙ k.end in
+    let last : last_clock_of w j ≡ Some n = grind (arith, last_clock_of-deferred) in
     let begins = (claimed w d.end.first d.claim (sym d.snooped.tied.claim ∙ d.claims)).0 in (
       d.claim,
       ap (λ (g : Grant). g.agent) a.made,
@@ -184,12 +160,7 @@ reply-ends-last r n q s grant h e below none made =
 pub cancelled-last : (r : Run) (n q : ℕ) → Reaches r (n + 1) → cancelled_in (past_of r) n ≡ Some q
     → is_last_clock r.trace n q ≡ true
 unfolding is_last_clock is_cancelled
-cancelled-last r n q h e =
-    let long = h.long in
-    let c = cancels r n q (omega arith) e in
-    let at : n ≡ q + 3 = c.0 in
-    let error : line_at AERR r.trace (q + 3) ≡ true = subst (λ k. line_at AERR r.trace k ≡ true) at c.1 in
-    rw (error, eq-eqb (q + 3) n (sym at)) refl
+cancelled-last r n q h e = grind (arith, cancels)
 
 -- where no request ends at n, none has its end there
 none-ends : (r : Run) (n i x : ℕ) → Reaches r (n + 1) → ended_requests (past_of r) n ≡ [] → end_of r.trace i ≡ Some n
@@ -219,12 +190,8 @@ none-last r n i h unended q clock at =
 none-cancelled : (r : Run) (n q : ℕ) (claim : Claim) → Reaches r (n + 1) → begun_at (past_of r) q ≡ Some claim → q < n
     → cancelled_in (past_of r) n ≡ None → line_at AERR r.trace (q + 3) ≡ true → q + 3 ≡ n → ⊥
 none-cancelled r n q claim h begun below uncancelled error at =
-    let long = h.long in
     let k = begun-want r q claim h.timely h.bounds (omega arith) begun in
-    let there : cancelled_in (past_of r) n ≡ Some q =
-    subst (λ c. cancelled_in (past_of r) c ≡ Some q) at (cancelled-at r q (omega arith) k.ads error) in
-    let same : None ≡ Some q = sym uncancelled ∙ there in
-    cc
+    grind (arith, cancelled-at)
 
 -- where none is cancelled and none ends, none stops being outstanding
 pub quiet-last : (r : Run) (n q : ℕ) (claim : Claim) → Reaches r (n + 1) → begun_at (past_of r) q ≡ Some claim

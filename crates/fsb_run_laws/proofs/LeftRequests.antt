@@ -1,9 +1,8 @@
 -- Which requests are outstanding at a clock at which they have their snoop end or stop being so, and by what they stop.
-use Rattle.std.proofs.Common.{ℕ, ◌+◌, ◌<◌, ◌≤◌, ◌≡◌, ◌⊎◌, true, false, not, ◌&&◌, ◌||◌, Option, Some, None, length}
-use Rattle.std.proofs.Common.{nat_eq, nat_lt, refl, sym, ap, subst, ◌∙◌, inl, inr, arith}
+use Rattle.std.proofs.Common.{ℕ, ◌+◌, ◌<◌, ◌≤◌, ◌≡◌, ◌⊎◌, true, false, ◌&&◌, Option, Some, None, nat_eq, refl, sym}
+use Rattle.std.proofs.Common.{ap, subst, ◌∙◌, inl, inr, arith}
 use Rattle.std.specs.Option.{option_and_then}
-use Rattle.std.proofs.lemmas.Bool.{and_parts, both_ways, cases_Bool, cases_lt, eqb-true, false_from_ne_true, le-ltb}
-use Rattle.std.proofs.lemmas.Bool.{lt-ltb, or_cases}
+use Rattle.std.proofs.lemmas.Bool.{and_parts, both_ways, cases_Bool, cases_lt, eqb-true, lt-ltb, or_cases}
 use Rattle.fsb_count.specs.Options.{is_at, is_before}
 use Rattle.fsb_count.proofs.Interface.{is_at-from, is_at-some, is_before-parts}
 use Rattle.fsb_signal.specs.declared.lines.TheConstants.Lines.{ADS, AERR}
@@ -27,7 +26,8 @@ use Rattle.fsb_timely.proofs.Interface.{one_end, snoop-tied, tied-snoop}
 use Rattle.fsb_lawful.proofs.Interface.{and-then, wants-lawfully}
 use Rattle.fsb_coherent.specs.Awaits.{cancelled_in, snoop_end_below}
 use Rattle.fsb_tied.proofs.Interface.{IsPutOff, IsSnooped, begun-want, cancelled-at, clock-facts, has-reply, live-at}
-use Rattle.fsb_tied.proofs.Interface.{live-request, number-ended, orderly-whole, reply-end-at, reply-grants, snooped-by}
+use Rattle.fsb_tied.proofs.Interface.{live-request, number-ended, orderly-whole, reply-end-at, reply-grants}
+use Rattle.fsb_tied.proofs.Interface.{snooped-by}
 use Rattle.fsb_run_laws.specs.Reaches.{Reaches}
 use Rattle.fsb_run_laws.proofs.BroughtLines.{snoop-below}
 use Rattle.fsb_run_laws.proofs.LastClocks.{has-end}
@@ -46,13 +46,10 @@ live-outstanding w n i q clock below plain late =
 cancelled-outstanding : (w : Trace) (n q : ℕ) → line_at ADS w q ≡ true → q + 3 ≡ n → line_at AERR w (q + 3) ≡ true
     → is_reply (request_at w q) ≡ false → is_outstanding w n q ≡ true
 unfolding is_outstanding is_dropped is_finished is_live is_cancelled
-cancelled-outstanding w n q ads at error plain =
-    rw (ads, lt-ltb q n (omega arith), plain, error, le-ltb (q + 3) n (omega arith)) refl
+cancelled-outstanding w n q ads at error plain = grind arith
 
 not-before : (o : Option ℕ) (n : ℕ) → ((x : ℕ) → o ≡ Some x → n ≤ x) → is_before o n ≡ false
-not-before o n late =
-    false_from_ne_true (is_before o n) (λ t. let k = is_before-parts o n t in let l = late k.0 k.1 in
-    let m = k.2 in omega arith)
+not-before o n late = grind (arith, is_before-parts)
 
 -- a request is outstanding at its last clock
 pub last-outstanding : (r : Run) (n q : ℕ) (claim : Claim) → Reaches r (n + 1) → begun_at (past_of r) q ≡ Some claim
@@ -206,13 +203,7 @@ pub replied-served : (r : Run) (n i : ℕ) (s : SnoopEnd) (grant : Grant) (h : R
     → option_and_then (live_clock_of r.trace) (served_number r.trace (turns_in (past_of r).moments) i)
     ≡ Some (replied-outstanding r n s grant h there none made).end.first
 unfolding replied-outstanding
-replied-served r n i s grant h there none made reached =
-    let w = r.trace in
-    let a = reply-end-at r grant.line n s grant there none made refl in
-    let number = one_end w n a.number i a.snooped.tied.reached reached in
-    ap (option_and_then (live_clock_of w))
-    (subst (λ x. served_number w (turns_in (past_of r).moments) x ≡ Some a.served) number a.serves)
-    ∙ a.put_off.snooped.tied.first
+replied-served r n i s grant h there none made reached = grind (arith, one_end)
 
 -- what a reply serves that ends at n is outstanding there for the last time
 pub ending-serves : (r : Run) (n q : ℕ) (s : SnoopEnd) (grant : Grant) → Reaches r (n + 1)
@@ -280,16 +271,7 @@ pub ending-served : (r : Run) (n q : ℕ) (s : SnoopEnd) (grant : Grant) (h : Re
     (served_number r.trace (turns_in (past_of r).moments) (live_number_of r.trace q))
     ≡ Some (ending-serves r n q s grant h e below none made).0.end.first
 unfolding ending-serves
-ending-served r n q s grant h e below none made =
-    let w = r.trace in
-    let turns = turns_in (past_of r).moments in
-    let k = ends-with r n q s h e below in
-    let a = reply-end-at r grant.line k.clock s grant k.snooped.tied.there none made refl in
-    let number = one_end w k.clock a.number k.number a.snooped.tied.reached k.snooped.tied.reached in
-    let is = live-at w k.number q k.first in
-    ap (option_and_then (live_clock_of w))
-    (ap (served_number w turns) is.number ∙ subst (λ x. served_number w turns x ≡ Some a.served) number a.serves)
-    ∙ a.put_off.snooped.tied.first
+ending-served r n q s grant h e below none made = grind (arith, live-at)
 
 -- a request stops being outstanding by its own end, for it is not Deferred
 pub record LeftByOwn (s : SnoopEnd) (claim : Claim) : Type 0 where
@@ -347,26 +329,18 @@ reply-leaves : (r : Run) (n i q : ℕ) (claim : Claim) → Reaches r (n + 1) →
 unfolding reply_end_of grant_to
 reply-leaves r n i q claim h begun below clock deferred last =
     let w = r.trace in
-    let long = h.long in
     let o = orderly-whole r n h.timely (omega arith) in
     let k = begun-want r q claim h.timely h.bounds (omega arith) begun in
     let p = deferred_response w i deferred in
     let own = has-end w i p.0 o p.2 in
     let tied = snoop-tied r i own.snoop own.is_snoop in
     let snooped = snooped-by r own.snoop i tied.0 tied.1 in
-    let first = tied.1.first in
     let same : tied.0.first ≡ q = cc in
     let j = and-then (end_of w) (reply_number_of w i) n (sym (last_clock_of-deferred w i deferred) ∙ last) in
     let reply = has-reply w i j.0 j.1 in
     let m = has-end w j.0 n o j.2 in
-    let begins = reply.first in
-    let clocks = m.is_clock in
     let at : m.clock ≡ reply.clock = cc in
-    let late = m.early in
-    let answers = reply.is_response in
-    let responds = p.1 in
     let there : reply.response ≡ p.0 = cc in
-    let after = reply.after in
     let put_off : IsPutOff r claim.line own.snoop i = record {
       end = tied.0;
       snooped = snooped;
@@ -377,18 +351,7 @@ reply-leaves r n i q claim h begun below clock deferred last =
     } in
     let g = reply-grants r claim.line own.snoop i j.0 m.snoop h.timely (wants-lawfully r h.bounds) h.bounds.few_ahead
     put_off j.1 m.is_snoop in
-    let gives = g.snooped.tied.first in
-    let here : g.end.first ≡ reply.clock = cc in
-    let before = m.before in
-    let upto = m.upto in
-    record {
-      first = reply.clock;
-      end = g.end;
-      ends = number-ended r j.0 n reply.clock (omega arith) o (record { end = j.2; first = reply.first });
-      snooped = subst (λ x. snoop_end_below (past_of r) (n + 1) x ≡ Some g.end) here
-          (snoop-below r n m.snoop g.end h (omega arith) g.snooped.tied.there);
-      how = inr (record { unclaimed = g.unclaimed; grant = _; grants = g.grants; agent = refl; line = refl });
-    }
+    grind (arith, number-ended, snoop-below)
 
 -- what stops being outstanding at n is cancelled there, or leaves by an end
 pub last-says : (r : Run) (n q : ℕ) (claim : Claim) → Reaches r (n + 1) → begun_at (past_of r) q ≡ Some claim

@@ -1,6 +1,6 @@
 -- The state of a line at an agent, by what happens at a clock.
-use Rattle.std.proofs.Common.{ℕ, ◌+◌, ◌≡◌, Bool, true, false, not, ◌&&◌, ◌||◌, if◌then◌else◌, nat_eq, nat_lt, List, []}
-use Rattle.std.proofs.Common.{◌∷◌, Option, Some, None, refl, ap, ◌∙◌}
+use Rattle.std.proofs.Common.{ℕ, ◌+◌, ◌≡◌, Bool, true, false, ◌&&◌, ◌||◌, if◌then◌else◌, nat_eq, nat_lt, List, []}
+use Rattle.std.proofs.Common.{◌∷◌, Option, refl, ap, ◌∙◌, arith}
 use Rattle.std.specs.List.{list_any}
 use Rattle.std.proofs.lemmas.Bool.{and_parts, or_left, or_right}
 use Rattle.fsb_count.specs.Options.{is_some_and}
@@ -8,11 +8,11 @@ use Rattle.fsb_count.proofs.Interface.{nat_lt-more}
 use Rattle.fsb_access.specs.declared.log.Done.{Done}
 use Rattle.fsb_line.specs.declared.state.Mesi.TheVariants.{Invalid, Shared, Exclusive, Modified}
 use Rattle.fsb_timely.specs.Past.{Grant, Past}
-use Rattle.fsb_timely.specs.Grants.{grant_at, holds_line, is_ended, is_evicted, is_exclusive, is_granted, is_lost}
-use Rattle.fsb_timely.specs.Grants.{is_named_by_other, is_sole_grant, is_taken_away, is_written_back, latest_grant}
+use Rattle.fsb_timely.specs.Grants.{holds_line, is_ended, is_evicted, is_exclusive, is_granted, is_lost}
+use Rattle.fsb_timely.specs.Grants.{is_named_by_other, is_taken_away, is_written_back, latest_grant}
 use Rattle.fsb_timely.specs.Hits.{is_dirty, is_hit, is_store_on, line_state_of}
 use Rattle.fsb_timely.proofs.Interface.{holds_line-more, is_exclusive-more}
-use Rattle.fsb_coherent.specs.Relation.{is_dirty_below, is_dirty_through, is_dirtying, is_stored_below}
+use Rattle.fsb_coherent.specs.Relation.{is_dirty_below, is_dirty_through, is_stored_below}
 use Rattle.fsb_coherent.proofs.Interface.{dirty-by-hits, dirty-more}
 use Rattle.fsb_run_laws.specs.RunStates.{state_below, state_of_tests, state_read, state_stored, state_through}
 use Rattle.fsb_run_laws.specs.RunStates.{stores_at}
@@ -25,16 +25,12 @@ by-tests : (held own dirty : Bool)
     ])
     ≡ state_of_tests held own dirty
 unfolding state_of_tests
-by-tests false own dirty = refl
-by-tests true false dirty = refl
-by-tests true true false = refl
-by-tests true true true = refl
+by-tests held own dirty = grind arith
 
 by-choice : (held own x y b : Bool)
     → state_of_tests held own (if b then x else y)
     ≡ (if b then state_of_tests held own x else state_of_tests held own y)
-by-choice held own x y true = refl
-by-choice held own x y false = refl
+by-choice held own x y b = grind arith
 
 pub state-by-hits : (p : Past) (a line n : ℕ)
     → line_state_of p a line n ≡ (if is_hit p a n then state_through p a line n else state_below p a line n)
@@ -45,31 +41,11 @@ state-by-hits p a line n =
     by-tests held own (is_dirty p a line n) ∙ ap (state_of_tests held own) (dirty-by-hits p a line n)
     ∙ by-choice held own (is_dirty_through p a line n) (is_dirty_below p a line n) (is_hit p a n)
 
--- what is counted up to a clock is counted below it or is of it
-split : (x y z : Bool) → (x && (y || z)) ≡ ((x && y) || (x && z))
-split true y z = refl
-split false y z = refl
-
-shuffled : (x y u v : Bool) → ((x || y) || (u || v)) ≡ ((x || u) || (y || v))
-shuffled true y u v = refl
-shuffled false true true v = refl
-shuffled false true false v = refl
-shuffled false false u v = refl
-
 any-split : (f : Done → Bool) (n : ℕ) (log : List Done)
     → list_any (λ done. f done && nat_lt done.clock (n + 1)) log
     ≡ (list_any (λ done. f done && nat_lt done.clock n) log || list_any (λ done. f done && nat_eq done.clock n) log)
 any-split f n [] = refl
-any-split f n (done ∷ log) =
-    ap (λ b. (f done && b) || list_any (λ d. f d && nat_lt d.clock (n + 1)) log) (nat_lt-more done.clock n)
-    ∙ ap (λ b. b || list_any (λ d. f d && nat_lt d.clock (n + 1)) log)
-    (split (f done) (nat_lt done.clock n) (nat_eq done.clock n))
-    ∙ ap (λ b. ((f done && nat_lt done.clock n) || (f done && nat_eq done.clock n)) || b) (any-split f n log)
-    ∙ shuffled (f done && nat_lt done.clock n) (f done && nat_eq done.clock n) _ _
-
-grouped : (x y z : Bool) → ((x && y) && z) ≡ (x && (y && z))
-grouped true y z = refl
-grouped false y z = refl
+any-split f n (done ∷ log) = grind (arith, nat_lt-more, any-split f n log)
 
 stored-more : (p : Past) (a line n q : ℕ) → is_stored_below p a line (n + 1) q
     ≡ (is_stored_below p a line n q
@@ -80,26 +56,14 @@ stored-more p a line n q = any-split (λ done. is_store_on a line done && is_end
 with-stores : (o : Option Grant) (f g : Grant → Bool)
     → is_some_and o (λ x. x.owns || (f x || g x)) ≡ (is_some_and o (λ x. x.owns || f x) || is_some_and o g)
 unfolding is_some_and
-with-stores None f g = refl
-with-stores (Some x) f g = by x.owns (f x) (g x)
-  where
-    by : (a b c : Bool) → (a || (b || c)) ≡ ((a || b) || c)
-    by true b c = refl
-    by false b c = refl
+with-stores o f g = grind arith
 
 -- what stores make of a state
 by-stores : (held own dirty stored : Bool) → (own ≡ true → held ≡ true)
     → state_of_tests held own (own && (dirty || stored))
     ≡ (if stored then state_stored (state_of_tests held own (own && dirty)) else state_of_tests held own (own && dirty))
 unfolding state_of_tests state_stored
-by-stores false own dirty true h = refl
-by-stores false own dirty false h = refl
-by-stores true false dirty true h = refl
-by-stores true false dirty false h = refl
-by-stores true true true true h = refl
-by-stores true true true false h = refl
-by-stores true true false true h = refl
-by-stores true true false false h = refl
+by-stores held own dirty stored h1 = grind arith
 
 exclusive-held : (p : Past) (a line n : ℕ) → is_exclusive p a line n ≡ true → holds_line p a line n ≡ true
 unfolding is_exclusive
@@ -121,54 +85,12 @@ state-by-stores p a line n =
     ∙ by-stores held own (is_some_and latest (λ grant. grant.owns || is_stored_below p a line n grant.first))
     (is_some_and latest (λ grant. now grant.first)) (exclusive-held p a line n)
 
--- the three tests one clock on, where the line is not granted to the agent
-held-kept : (p : Past) (a line n : ℕ) → is_granted p a line n ≡ false
-    → holds_line p a line (n + 1) ≡ (holds_line p a line n && not (is_lost p a line n))
-held-kept p a line n f =
-    holds_line-more p a line n ∙ ap (λ b. b || (holds_line p a line n && not (is_lost p a line n))) f
-
-own-kept : (p : Past) (a line n : ℕ) → is_granted p a line n ≡ false → is_exclusive p a line (n + 1)
-    ≡ (is_exclusive p a line n && (not (is_lost p a line n) && not (is_named_by_other p a line n)))
-own-kept p a line n f =
-    is_exclusive-more p a line n
-    ∙ ap (λ b. if b then is_some_and (grant_at p n) is_sole_grant
-    else (is_exclusive p a line n && (not (is_lost p a line n) && not (is_named_by_other p a line n)))) f
-
-dirty-kept : (p : Past) (a line n : ℕ) → is_granted p a line n ≡ false → is_dirty_below p a line (n + 1)
-    ≡ (is_dirty_through p a line n && (not (is_lost p a line n) && not (is_named_by_other p a line n)))
-dirty-kept p a line n f =
-    dirty-more p a line n
-    ∙ ap (λ b. if b then is_some_and (grant_at p n) (is_dirtying p a line (n + 1))
-    else (is_dirty_through p a line n && (not (is_lost p a line n) && not (is_named_by_other p a line n)))) f
-
--- the state one clock on, by what of it is lost and named
-by-loss : (held own dirty lost named : Bool)
-    → state_of_tests (held && not lost) (own && (not lost && not named)) (dirty && (not lost && not named))
-    ≡ (if lost then Invalid
-    else (if named then state_read (state_of_tests held own dirty) else state_of_tests held own dirty))
-unfolding state_of_tests state_read
-by-loss true own dirty true named = refl
-by-loss false own dirty true named = refl
-by-loss false own dirty false true = refl
-by-loss false own dirty false false = refl
-by-loss true true true false true = refl
-by-loss true true false false true = refl
-by-loss true false true false true = refl
-by-loss true false false false true = refl
-by-loss true true true false false = refl
-by-loss true true false false false = refl
-by-loss true false true false false = refl
-by-loss true false false false false = refl
-
 -- the state one clock on, where the line is not granted to the agent
 pub state-kept : (p : Past) (a line n : ℕ) → is_granted p a line n ≡ false → state_below p a line (n + 1)
     ≡ (if is_lost p a line n then Invalid
     else (if is_named_by_other p a line n then state_read (state_through p a line n) else state_through p a line n))
-unfolding state_below state_through
-state-kept p a line n f =
-    (λ i. state_of_tests (held-kept p a line n f i) (own-kept p a line n f i) (dirty-kept p a line n f i))
-    ∙ by-loss (holds_line p a line n) (is_exclusive p a line n) (is_dirty_through p a line n)
-    (is_lost p a line n) (is_named_by_other p a line n)
+unfolding state_below state_through state_of_tests state_read
+state-kept p a line n f = grind (arith, holds_line-more, is_exclusive-more, dirty-more)
 
 pub state-lost : (p : Past) (a line n : ℕ) → is_granted p a line n ≡ false → is_lost p a line n ≡ true
     → state_below p a line (n + 1) ≡ Invalid

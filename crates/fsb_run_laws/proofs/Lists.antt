@@ -1,5 +1,5 @@
 -- Lists of what some clocks give.
-use Rattle.std.proofs.Common.{ℕ, zero, suc, ◌+◌, ◌<◌, ◌≡◌, Bool, true, false, ◌&&◌, [], ◌∷◌, ◌++◌, Option, Some, None}
+use Rattle.std.proofs.Common.{ℕ, zero, suc, ◌+◌, ◌<◌, ◌≡◌, Bool, true, ◌&&◌, [], ◌∷◌, ◌++◌, Option, Some, None}
 use Rattle.std.proofs.Common.{if◌then◌else◌, refl, sym, ap, ◌∙◌, arith, add-one}
 use Rattle.std.specs.List.{filter, filter_map}
 use Rattle.std.proofs.lemmas.List.Elements.{filter-append, filter_map-append}
@@ -15,29 +15,15 @@ abbrev pub kept : {Y : Type 0} → (Y → Bool) → Option Y → Option Y
 kept f None = None
 kept f (Some y) = if f y then Some y else None
 
-last-given : {Y : Type 0} (g : ℕ → Option Y) (n : ℕ) (b : Bool) (o : Option Y) → g n ≡ o
-    → filter_map g (if b then n ∷ [] else []) ≡ listed (given b o)
-unfolding listed
-last-given g n false o e = refl
-last-given g n true None e = rw e refl
-last-given g n true (Some y) e = rw e refl
-
 last-kept : {Y : Type 0} (f : Y → Bool) (o : Option Y) → filter f (listed o) ≡ listed (kept f o)
 unfolding listed
-last-kept f None = refl
-last-kept f (Some y) = by (f y) refl
-  where
-    by : (b : Bool) → f y ≡ b → filter f (y ∷ []) ≡ listed (kept f (Some y))
-    by true e = rw e refl
-    by false e = rw e refl
+last-kept f o = grind arith
 
 -- the clocks below n, and n
 pub given-more : {Y : Type 0} (t : ℕ → Bool) (g : ℕ → Option Y) (n : ℕ)
     → filter_map g (all_where t (n + 1)) ≡ filter_map g (all_where t n) ++ listed (given (t n) (g n))
-unfolding all_where
-given-more t g n = rw add-one
-    (filter_map-append g (all_where t n) (if t n then n ∷ [] else [])
-    ∙ ap (λ xs. filter_map g (all_where t n) ++ xs) (last-given g n (t n) (g n) refl))
+unfolding all_where listed
+given-more t g n = grind (arith, filter_map-append)
 
 -- lists of the same clocks
 pub given-alike : {Y : Type 0} (t t' : ℕ → Bool) (g g' : ℕ → Option Y) (n : ℕ)
@@ -72,9 +58,7 @@ all-both t f (suc n) =
     ∙ (λ i. all-both t f n i ++ by (t n) (f n) refl i)
   where
     by : (b c : Bool) → f n ≡ c → filter f (if b then n ∷ [] else []) ≡ (if b && c then n ∷ [] else [])
-    by false c e = refl
-    by true true e = rw e refl
-    by true false e = rw e refl
+    by b c h1 = grind arith
 
 -- tests that give the same of what the clocks give
 pub filter-alike : {Y : Type 0} (f h : Y → Bool) (t : ℕ → Bool) (g : ℕ → Option Y) (n : ℕ)
@@ -91,8 +75,4 @@ filter-alike {Y = Y} f h t g (suc n) same =
     more = sym (ap (λ k. filter_map g (all_where t k)) (add-one n)) ∙ given-more t g n
 
     last : (b : Bool) (o : Option Y) → t n ≡ b → g n ≡ o → filter f (listed (given b o)) ≡ filter h (listed (given b o))
-    last false o e d = refl
-    last true None e d = refl
-    last true (Some y) e d =
-        last-kept f (Some y) ∙ ap (λ c. listed (if c then Some y else None)) (same n y (omega arith) e d)
-        ∙ sym (last-kept h (Some y))
+    last b o h1 h2 = grind arith

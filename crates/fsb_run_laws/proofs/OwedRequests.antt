@@ -1,13 +1,12 @@
 -- The outstanding requests of symmetric agents, as the whole trace has them, and one clock further.
-use Rattle.std.proofs.Common.{ℕ, zero, suc, ◌+◌, ◌<◌, ◌≡◌, Bool, true, false, not, ◌&&◌, ◌++◌, Option, Some, None}
-use Rattle.std.proofs.Common.{length, nat_lt, refl, sym, ap, ◌∙◌, inl, inr, arith, add-one}
+use Rattle.std.proofs.Common.{ℕ, ◌+◌, ◌<◌, ◌≡◌, Bool, true, false, not, ◌&&◌, ◌++◌, Option, Some, length, nat_lt}
+use Rattle.std.proofs.Common.{refl, sym, ap, ◌∙◌, inl, inr, arith}
 use Rattle.std.specs.List.{filter, filter_map}
 use Rattle.std.specs.Option.{option_and_then, option_map}
 use Rattle.std.proofs.lemmas.Bool.{cases_lt, false_from_ne_true, le-ltb, lt-ltb}
 use Rattle.fsb_count.specs.Clocks.{all_where}
 use Rattle.fsb_count.specs.Options.{is_some_and}
-use Rattle.fsb_signal.specs.declared.lines.TheConstants.Lines.{ADS, AERR}
-use Rattle.fsb_signal.specs.Samples.{line_at}
+use Rattle.fsb_signal.specs.declared.lines.TheConstants.Lines.{ADS}
 use Rattle.fsb_trace.specs.Agree.{AgreeTo}
 use Rattle.fsb_trace.specs.At.{Trace, request_at}
 use Rattle.fsb_trace.specs.Flight.{is_dropped, is_finished, is_outstanding, outstanding}
@@ -16,14 +15,13 @@ use Rattle.fsb_trace.proofs.Interface.{AgreeTo-sym, line_at-agree}
 use Rattle.fsb_laws.proofs.Interface.{request_at-last}
 use Rattle.fsb_timely.specs.Grants.{begun_at}
 use Rattle.fsb_timely.specs.Growth.{is_last_clock}
-use Rattle.fsb_timely.specs.Moments.{owing_at}
 use Rattle.fsb_timely.specs.Past.{Claim, Owing, Past}
-use Rattle.fsb_timely.specs.Runs.{moments_below, past_of, past_with, Run, run_to}
+use Rattle.fsb_timely.specs.Runs.{past_of, Run, run_to}
 use Rattle.fsb_timely.specs.Wants.{outstanding_at}
 use Rattle.fsb_timely.proofs.Interface.{is_outstanding-more, moment-at, moment_of}
 use Rattle.fsb_lawful.proofs.Interface.{length-cut, orderly-at, outstanding-of, run_to-agrees}
-use Rattle.fsb_tied.proofs.Interface.{begun-shown, begun-want, claim-no-reply, clock-facts, orderly-whole, owing-gives}
-use Rattle.fsb_tied.proofs.Interface.{same-both}
+use Rattle.fsb_tied.proofs.Interface.{begun-shown, begun-want, claim-no-reply, clock-facts, orderly-whole}
+use Rattle.fsb_tied.proofs.Interface.{owing-gives, same-both}
 use Rattle.fsb_run_laws.specs.Reaches.{Reaches}
 use Rattle.fsb_run_laws.specs.RunSteps.{listed, owing_begun}
 use Rattle.fsb_run_laws.proofs.LastClocks.{finished-carried, finished-late}
@@ -36,17 +34,7 @@ owing-claim p q owing e = ap (option_map (λ owing. owing.claim)) e
 
 dropped-agree : (n : ℕ) (a b : Trace) (q : ℕ) → AgreeTo n a b → is_dropped a n q ≡ is_dropped b n q
 unfolding is_dropped is_cancelled
-dropped-agree n a b q agree =
-    elim (cases_lt (q + 3) n) [
-      | inl low ↦ ap (λ t. t && nat_lt (q + 3) n) (line_at-agree AERR n a b (q + 3) agree low)
-      | inr high ↦ rw (le-ltb (q + 3) n high) (nothing (line_at AERR a (q + 3)) (line_at AERR b (q + 3)))
-    ]
-  where
-    nothing : (x y : Bool) → (x && false) ≡ (y && false)
-    nothing true true = refl
-    nothing true false = refl
-    nothing false true = refl
-    nothing false false = refl
+dropped-agree n a b q agree = grind (arith, line_at-agree)
 
 -- a request of a symmetric agent is no reply, in the whole trace
 pub no-reply : (r : Run) (q : ℕ) (claim : Claim) (n : ℕ) → Reaches r n → q < n → begun_at (past_of r) q ≡ Some claim
@@ -86,33 +74,11 @@ pub begun-field : (r : Run) (q : ℕ) → q < length r.trace → (moment_of r q)
 unfolding owing_begun past_of
 begun-field r q l = sym (ap (option_and_then (λ moment. moment.begun)) (moment-at r (length r.trace) q l))
 
-given-owing : (x y : Bool) (o : Option Owing) → ((owing : Owing) → o ≡ Some owing → x ≡ y) → given x o ≡ given y o
-given-owing true true o h = refl
-given-owing false false o h = refl
-given-owing true false None h = refl
-given-owing false true None h = refl
-given-owing true false (Some owing) h = absurd (let e = h owing refl in let no : ⊥ = cc in no)
-given-owing false true (Some owing) h = absurd (let e = h owing refl in let no : ⊥ = cc in no)
-
 -- the outstanding requests of symmetric agents, as the whole trace has them
 pub owed-told : (r : Run) (n : ℕ) → Reaches r n
     → outstanding_at (past_of r) n ≡ filter_map (owing_begun (past_of r)) (outstanding r.trace n)
 unfolding outstanding outstanding_at all_where
-owed-told r zero h = refl
-owed-told r (suc e) h =
-    let p = past_of r in
-    let w = r.trace in
-    let u = (run_to r e).trace in
-    let long = h.long in
-    let here : Reaches r (e + 1) = record { timely = h.timely; bounds = h.bounds; long = omega arith } in
-    let give = owing_at (past_with r (moments_below r e) e) u e in
-    outstanding-of r e (omega arith)
-    ∙ given-alike (is_outstanding u (e + 1)) (is_outstanding w (e + 1)) give (owing_begun p) (e + 1)
-    (λ q below.
-    ap (given (is_outstanding u (e + 1) q)) (owing-gives r e q below ∙ begun-field r q (omega arith))
-    ∙ given-owing (is_outstanding u (e + 1) q) (is_outstanding w (e + 1) q) (owing_begun p q)
-    (λ owing k. out-same r e q owing.claim here below (owing-claim p q owing k)))
-    ∙ ap (λ n. filter_map (owing_begun p) (outstanding w n)) (add-one e)
+owed-told r n h1 = grind (arith, outstanding-of, given-alike, owing-gives, begun-field, out-same, owing-claim)
 
 -- a request that begins at n is outstanding one clock on
 out-begun : (r : Run) (n : ℕ) (claim : Claim) → Reaches r (n + 1) → begun_at (past_of r) n ≡ Some claim
@@ -131,23 +97,14 @@ out-begun r n claim h begun =
     (nothing (is_cancelled w n))
   where
     nothing : (b : Bool) → (not (b && false) && true) ≡ true
-    nothing true = refl
-    nothing false = refl
+    nothing b = grind arith
 
 kept-by : (f : Owing → Bool) (b c : Bool) (o : Option Owing) → ((owing : Owing) → o ≡ Some owing → f owing ≡ c)
     → kept f (given b o) ≡ given (b && c) o
-kept-by f true c None h = by c
-  where
-    by : (b : Bool) → kept f None ≡ given {Y = Owing} b None
-    by true = refl
-    by false = refl
-kept-by f false c o h = refl
-kept-by f true c (Some owing) h = rw (h owing refl) refl
+kept-by f b c o h1 = grind arith
 
 given-begun : (b : Bool) (o : Option Owing) → ((owing : Owing) → o ≡ Some owing → b ≡ true) → given b o ≡ o
-given-begun true o h = refl
-given-begun false None h = refl
-given-begun false (Some owing) h = absurd (let e = h owing refl in let no : ⊥ = cc in no)
+given-begun b o h1 = grind arith
 
 -- the outstanding requests, one clock further
 pub owed-step : (r : Run) (n : ℕ) → Reaches r (n + 1) → outstanding_at (past_of r) (n + 1)
@@ -158,7 +115,6 @@ owed-step r n h =
     let p = past_of r in
     let w = r.trace in
     let long = h.long in
-    let early : Reaches r n = record { timely = h.timely; bounds = h.bounds; long = omega arith } in
     let here : ℕ → Bool = λ q. not (is_last_clock w n q) in
     let first : (q : ℕ) (owing : Owing) → q < n → owing_begun p q ≡ Some owing → owing.claim.first ≡ q =
     λ q owing l e.
@@ -170,7 +126,4 @@ owed-step r n h =
     ∙ ap (λ b. given b (owing_begun p q)) (sym (is_outstanding-more w n q l)))) in
     let fresh = given-begun (is_outstanding w (n + 1) n) (owing_begun p n)
     (λ owing e. out-begun r n owing.claim h (owing-claim p n owing e)) in
-    owed-told r (n + 1) h ∙ given-more (is_outstanding w (n + 1)) (owing_begun p) n
-    ∙ (λ i. before i ++ listed (fresh i))
-    ∙ ap (λ xs. filter (λ owing. not (is_last_clock w n owing.claim.first)) xs ++ listed (owing_begun p n))
-    (sym (owed-told r n early))
+    grind (arith, owed-told, given-more)

@@ -1,17 +1,13 @@
 -- Which requests stay outstanding at a clock, by its moment alone.
 use Rattle.std.proofs.Common.{ℕ, ◌+◌, ◌<◌, ◌≤◌, ◌≡◌, Bool, true, false, not, ◌&&◌, ◌||◌, ◌++◌, Option, Some, None}
-use Rattle.std.proofs.Common.{nat_eq, nat_lt, refl, sym, ap, subst, ◌∙◌, inl, inr, arith}
+use Rattle.std.proofs.Common.{nat_eq, refl, sym, ap, subst, ◌∙◌, inl, inr, arith}
 use Rattle.std.specs.List.{filter, list_any}
-use Rattle.std.proofs.lemmas.Bool.{and_from, and_parts, both_ways, cases_order, eq-eqb, eqb-true, false_from_ne_true}
-use Rattle.std.proofs.lemmas.Bool.{lt-ltb, ltb-true, not-true, or_cases, or_left, or_right}
-use Rattle.fsb_count.specs.Options.{is_at, is_before, is_some_and}
+use Rattle.std.proofs.lemmas.Bool.{and_from, both_ways, eq-eqb, or_cases, or_left, or_right}
+use Rattle.fsb_count.specs.Options.{is_at, is_some_and}
 use Rattle.fsb_count.proofs.Interface.{is_at-from, is_at-some, is_before-from, is_before-parts}
-use Rattle.fsb_signal.specs.declared.lines.TheConstants.Lines.{ADS}
-use Rattle.fsb_signal.specs.Samples.{line_at}
-use Rattle.fsb_trace.specs.At.{Trace, request_at}
-use Rattle.fsb_trace.specs.Flight.{is_dropped, is_finished, is_outstanding, last_clock_of, outstanding}
+use Rattle.fsb_trace.specs.At.{Trace}
+use Rattle.fsb_trace.specs.Flight.{is_dropped, is_finished, is_outstanding, outstanding}
 use Rattle.fsb_trace.specs.Outcome.{is_deferral}
-use Rattle.fsb_trace.specs.Requests.{is_cancelled, is_live, is_reply, live_number_of}
 use Rattle.fsb_timely.specs.Grants.{begun_at, ended_requests, is_end_at, set_of}
 use Rattle.fsb_timely.specs.Growth.{is_last_clock}
 use Rattle.fsb_timely.specs.Past.{Claim, Grant, Owing, Past, SnoopEnd}
@@ -30,29 +26,11 @@ use Rattle.fsb_run_laws.proofs.OwedRequests.{owed-step, owed-told, owing-claim}
 -- what is outstanding was so at each clock since it began
 out-earlier : (w : Trace) (n m q : ℕ) → q < m → m ≤ n → is_outstanding w n q ≡ true → is_outstanding w m q ≡ true
 unfolding is_outstanding is_dropped is_finished
-out-earlier w n m q low high out =
-    let last = last_clock_of w (live_number_of w q) in
-    let a = and_parts _ (not (is_live w q && is_before last n)) out in
-    let b = and_parts _ (not (is_cancelled w q && nat_lt (q + 3) n)) a.0 in
-    let c = and_parts (line_at ADS w q && nat_lt q n) (not (is_reply (request_at w q))) b.0 in
-    let d = and_parts (line_at ADS w q) (nat_lt q n) c.0 in
-    let kept : (is_cancelled w q && nat_lt (q + 3) m) ≡ false = false_from_ne_true _ (λ t.
-    let k = and_parts (is_cancelled w q) (nat_lt (q + 3) m) t in
-    let below = ltb-true (q + 3) m k.1 in
-    both_ways (is_cancelled w q && nat_lt (q + 3) n) (not-true _ b.1)
-    (and_from _ _ k.0 (lt-ltb (q + 3) n (omega arith)))) in
-    let going : (is_live w q && is_before last m) ≡ false = false_from_ne_true _ (λ t.
-    let k = and_parts (is_live w q) (is_before last m) t in
-    let x = is_before-parts last m k.1 in
-    let below = x.2 in
-    both_ways (is_live w q && is_before last n) (not-true _ a.1)
-    (and_from _ _ k.0 (is_before-from last x.0 n x.1 (omega arith)))) in
-    and_from _ _ (and_from _ _ (and_from _ _ (and_from _ _ d.0 (lt-ltb q m low)) c.1) (ap not kept)) (ap not going)
+out-earlier w n m q low high out = grind (arith, is_before-parts, is_before-from)
 
 out-below : (w : Trace) (n q : ℕ) → is_outstanding w n q ≡ true → q < n
 unfolding is_outstanding
-out-below w n q out =
-    ltb-true q n (and_parts _ _ (and_parts _ _ (and_parts _ _ (and_parts _ _ out).0).0).0).1
+out-below w n q out = grind arith
 
 owing-there : (p : Past) (q : ℕ) (claim : Claim) → begun_at p q ≡ Some claim
     → (owing : Owing) × (owing_begun p q ≡ Some owing) × (owing.claim ≡ claim)
@@ -100,43 +78,26 @@ two-requests r n p q one other h first second out also agent line less =
 one-request : (r : Run) (n p q : ℕ) (one other : Claim) → Reaches r n → begun_at (past_of r) p ≡ Some one
     → begun_at (past_of r) q ≡ Some other → is_outstanding r.trace n p ≡ true → is_outstanding r.trace n q ≡ true
     → one.agent ≡ other.agent → one.line ≡ other.line → p ≡ q
-one-request r n p q one other h first second out also agent line =
-    elim (cases_order p q) [
-      | inl same ↦ same
-      | inr differs ↦ elim differs [
-        | inl less ↦ absurd (two-requests r n p q one other h first second out also agent line less)
-        | inr more ↦ absurd (two-requests r n q p other one h second first also out (sym agent) (sym line) more)
-      ]
-    ]
+one-request r n p q one other h first second out also agent line = grind (arith, two-requests)
 
 by-own : (claim : Claim) (s : SnoopEnd) → LeftByOwn s claim → ends_claim claim s ≡ true
 unfolding ends_claim
-by-own claim s k =
-    rw (ends_claim, k.claimed) (and_from _ _ (eq-eqb claim.first claim.first refl) (ap not k.kept))
+by-own claim s k = grind arith
 
 by-reply : (claim : Claim) (s : SnoopEnd) → LeftByReply s claim → ends_claim claim s ≡ true
 unfolding ends_claim is_some_and
-by-reply claim s k =
-    rw (ends_claim, k.unclaimed, k.grants)
-    (and_from _ _ (eq-eqb k.grant.agent claim.agent k.agent) (eq-eqb k.grant.line claim.line k.line))
+by-reply claim s k = grind arith
 
 -- the end of a request with this snoop end is that of the claim, by its own claim or by its grant
 claim-parts : (claim own : Claim) (s : SnoopEnd) → s.claim ≡ Some own → ends_claim claim s ≡ true
     → (own.first ≡ claim.first) × (is_deferral s.outcome ≡ false)
 unfolding ends_claim
-claim-parts claim own s e ends =
-    let parts = and_parts (nat_eq own.first claim.first) (not (is_deferral s.outcome))
-    (let ends' = rw (ends_claim, e) at ends in ends') in
-    (eqb-true own.first claim.first parts.0, not-true (is_deferral s.outcome) parts.1)
+claim-parts claim own s e ends = grind arith
 
 grant-parts : (claim : Claim) (s : SnoopEnd) → s.claim ≡ None → ends_claim claim s ≡ true
     → (grant : Grant) × (s.grant ≡ Some grant) × (grant.agent ≡ claim.agent) × (grant.line ≡ claim.line)
 unfolding ends_claim
-grant-parts claim s e ends =
-    let k = some-and s.grant (λ (grant : Grant). nat_eq grant.agent claim.agent && nat_eq grant.line claim.line)
-    (let ends' = rw (ends_claim, e) at ends in ends') in
-    let parts = and_parts (nat_eq k.0.agent claim.agent) (nat_eq k.0.line claim.line) k.2 in
-    (k.0, k.1, eqb-true k.0.agent claim.agent parts.0, eqb-true k.0.line claim.line parts.1)
+grant-parts claim s e ends = grind (arith, some-and)
 
 -- a request is outstanding for the last time exactly where the moment says so
 last-told : (r : Run) (n q : ℕ) (claim : Claim) → Reaches r (n + 1) → begun_at (past_of r) q ≡ Some claim

@@ -3,11 +3,11 @@ use Rattle.std.proofs.Common.{ℕ, ◌+◌, ◌<◌, ◌≡◌, Bool, true, fals
 use Rattle.std.proofs.Common.{refl, sym, ap, ◌∙◌, arith}
 use Rattle.std.specs.List.{list_any}
 use Rattle.std.specs.Option.{option_and_then}
-use Rattle.std.proofs.lemmas.Bool.{eq-eqb, eqb-true}
+use Rattle.std.proofs.lemmas.Bool.{eq-eqb}
 use Rattle.fsb_count.specs.Options.{is_at}
 use Rattle.fsb_count.proofs.Interface.{is_at-from, is_at-some, nth_where-at}
 use Rattle.fsb_trace.specs.declared.outcome.Outcome.TheVariants.{Retried}
-use Rattle.fsb_trace.specs.At.{response_code_at, responds_at}
+use Rattle.fsb_trace.specs.At.{response_code_at}
 use Rattle.fsb_trace.specs.Outcome.{response_clock_of, response_code_of}
 use Rattle.fsb_trace.specs.Requests.{live_clock_of, live_count}
 use Rattle.fsb_trace.specs.Response.{end_of}
@@ -28,18 +28,12 @@ use Rattle.fsb_run_laws.specs.RunSteps.{retried_in}
 
 -- two that say the same are the same
 alike : (a b : Option ℕ) → ((q : ℕ) → a ≡ Some q → b ≡ Some q) → ((q : ℕ) → b ≡ Some q → a ≡ Some q) → a ≡ b
-alike None None f g = refl
-alike None (Some q) f g = g q refl
-alike (Some q) b f g = sym (f q refl)
+alike a b h1 h2 = grind arith
 
 whole-responds : (r : Run) (t q : ℕ) → t < length r.trace → responded_at r.trace t ≡ Some q
     → (i : ℕ) × Responds r i t q
 unfolding response_clock_of next_response
-whole-responds r t q l e =
-    let parts = responded-parts r.trace t q (responds_at r.trace t) refl e in (
-      next_response r.trace t,
-      record { response = nth_where-at (responds_at r.trace) (length r.trace) t l parts.0; first = parts.1 },
-    )
+whole-responds r t q l e = grind (arith, responded-parts, nth_where-at)
 
 pub responded-told : (r : Run) (t : ℕ) → Reaches r (t + 1) → responded_in (past_of r) t ≡ responded_at r.trace t
 responded-told r t h =
@@ -77,15 +71,7 @@ retried-told r t h =
 -- what is listed as ending at a clock, the whole trace has as such
 whole-ends : (r : Run) (t q : ℕ) → list_any (nat_eq q) (requests_ending_at r.trace t) ≡ true → (i : ℕ) × Ends r i t q
 unfolding requests_ending_at
-whole-ends r t q e =
-    let w = r.trace in
-    let k = any-from (λ i. is_at (end_of w i) t) (live_clock_of w) (nat_eq q) (live_count w) e in (
-      k.0,
-      record {
-        end = is_at-some (end_of w k.0) t k.1.there;
-        first = k.1.gives ∙ ap Some (sym (eqb-true q k.1.given k.1.passes));
-      },
-    )
+whole-ends r t q e = grind (arith, any-from, is_at-some)
 
 ends-listed : (r : Run) (i t q : ℕ) → Ends r i t q → list_any (nat_eq q) (requests_ending_at r.trace t) ≡ true
 unfolding requests_ending_at
@@ -97,10 +83,7 @@ ends-listed r i t q k =
 
 whole-one : (r : Run) (t q u : ℕ) (qs : List ℕ) → Orderly r.trace → requests_ending_at r.trace t ≡ q ∷ u ∷ qs → ⊥
 unfolding requests_ending_at
-whole-one r t q u qs o e =
-    let w = r.trace in
-    one-listed (λ i. is_at (end_of w i) t) (live_clock_of w) (live_count w) q u qs
-    (λ i j a b. one-ends w i j t o (is_at-some (end_of w i) t a) (is_at-some (end_of w j) t b)) e
+whole-one r t q u qs o e = grind (arith, one-listed, one-ends, is_at-some)
 
 -- two lists of one at most that have the same are the same
 short-alike : (xs ys : List ℕ) → ((q u : ℕ) (qs : List ℕ) → xs ≡ q ∷ u ∷ qs → ⊥)
@@ -118,8 +101,7 @@ short-alike (x ∷ []) (y ∷ []) f g there back =
     ap (λ z. z ∷ []) (only (nat_eq x y) refl (there x (rw (eq-eqb x x refl) refl)))
   where
     only : (b : Bool) → nat_eq x y ≡ b → list_any (nat_eq x) (y ∷ []) ≡ true → x ≡ y
-    only true e t = eqb-true x y e
-    only false e t = absurd (let t' = rw e at t in let no : ⊥ = cc in no)
+    only b h1 h2 = grind arith
 
 pub ended-told : (r : Run) (t : ℕ) → Reaches r (t + 1) → ended_requests (past_of r) t ≡ requests_ending_at r.trace t
 unfolding is_end_at

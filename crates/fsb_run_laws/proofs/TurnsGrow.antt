@@ -1,12 +1,11 @@
 -- The turns of the snoop ends, with one moment more.
-use Rattle.std.proofs.Common.{◌≡◌, List, [], ◌∷◌, ◌++◌, Option, Some, None, length, slice_get, refl, sym, ap, ◌∙◌}
-use Rattle.std.proofs.Common.{append-nil}
+use Rattle.std.proofs.Common.{◌≡◌, List, [], ◌∷◌, ◌++◌, Some, length, slice_get, sym, ap, ◌∙◌, append-nil, arith}
 use Rattle.std.specs.Option.{option_and_then, option_map}
 use Rattle.fsb_count.proofs.Interface.{slice_get-end}
 use Rattle.fsb_timely.specs.Grants.{snooped_at}
 use Rattle.fsb_timely.specs.Growth.{GrowsTo, moment_at_growth}
 use Rattle.fsb_timely.specs.Moments.{number_of_turn, turns_in}
-use Rattle.fsb_timely.specs.Past.{Moment, SnoopEnd}
+use Rattle.fsb_timely.specs.Past.{Moment}
 use Rattle.fsb_timely.specs.Runs.{past_of, Run}
 use Rattle.fsb_timely.proofs.Interface.{length-moments, moments-grow, turns-quiet, turns-snooped}
 use Rattle.fsb_run_laws.specs.RunSteps.{listed}
@@ -15,12 +14,7 @@ pub turns-more : (moments : List Moment) (moment : Moment)
     → turns_in (moments ++ moment ∷ [])
     ≡ turns_in moments ++ listed (option_map (λ s. number_of_turn s.turn) moment.snooped)
 unfolding listed
-turns-more moments moment = by moment.snooped refl
-  where
-    by : (o : Option SnoopEnd) → moment.snooped ≡ o → turns_in (moments ++ moment ∷ [])
-        ≡ turns_in moments ++ listed (option_map (λ s. number_of_turn s.turn) o)
-    by None e = turns-quiet moments moment e ∙ sym (append-nil (turns_in moments))
-    by (Some s) e = turns-snooped moments moment s e
+turns-more moments moment = grind (arith, turns-quiet, append-nil, turns-snooped)
 
 -- the moment of the clock by which a run grows
 moment-there : (r s : Run) → GrowsTo r s
