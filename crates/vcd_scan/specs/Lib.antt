@@ -10,3 +10,4 @@ pub mod CodeNumbers
 pub mod CodePlaces
 pub mod Placed
 pub mod Lined
+pub mod Firsts
