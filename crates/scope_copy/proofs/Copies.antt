@@ -61,15 +61,15 @@ of-part-all P p events w o h =
 
 -- ---- what is put
 
-pub put-stop : (stop : ScopeStop) (seen : List DumpEvent → Type 0) (p : Part) (there : List Bool)
-    (way : Way (List Declaration)) (text old new : List ℕ) → IsWatched (Err stop) seen way text
+pub put-stop : (stop : ScopeStop) (seen : List DumpEvent → Type 0) (most : ℕ) (p : Part) (there : List Bool)
+    (way : Way (List Declaration)) (text old new : List ℕ) → IsWatched (Err stop) seen most way text
     → IsPutAs (Err stop) p there way text old new
-put-stop (stops.Bad fault) seen p there way text old new h = h
-put-stop stops.ReadFault seen p there way text old new h = tt
-put-stop stops.TooLong seen p there way text old new h = h
-put-stop stops.TooMany seen p there way text old new h = tt
-put-stop stops.WriteFault seen p there way text old new h = tt
-put-stop stops.Memory seen p there way text old new h = tt
+put-stop (stops.Bad fault) seen most p there way text old new h = h
+put-stop stops.ReadFault seen most p there way text old new h = tt
+put-stop stops.TooLong seen most p there way text old new h = h
+put-stop stops.TooMany seen most p there way text old new h = tt
+put-stop stops.WriteFault seen most p there way text old new h = tt
+put-stop stops.Memory seen most p there way text old new h = tt
 
 -- an answer that is one stop is no other
 abbrev pub answered : (X : Type 0) → ScopeStop → Result X ScopeStop

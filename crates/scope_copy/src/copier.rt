@@ -99,6 +99,8 @@ impl<'s, D: Sink> EventWatcher for Copier<'s, D> {
 
     ghost has_failed = { λ first now. HasFailed D.faults first now };
 
+    ghost most = { 0 };
+
     fn see(&mut self, event: &CourseEvent) -> Result<(), WatchStop> {
         match self.parting.take(event) {
             Ok(None) => Ok(()),
