@@ -16,7 +16,7 @@ pub returns-in_err-early_end-clause-put : goal.returns-in_err-early_end-clause-p
 returns-in_err-early_end-clause-put g c = λ tells held choice ts text at taken.
     let now = c.new-copier.ensures in
     let same : c.from_residual.result ≡ Err c.in_err-early_end.field-0.0 = search rules in
-    rw same (put-stop _ _ _ c.args.part c.args.there _ text _ _
+    rw same (put-stop _ _ c.args.part c.args.there _ text _ _
     (c.in_err-early_end.ensures.read tells c.new-copier.result [] choice ts text
     (none-written g.D.Sink.tells g.D.Sink.holds g.D.Sink.faults c.new-copier.result _ _ _ now.writer now.there now.part
     now.parted c.in-Ok.ensures.stands) at taken))
