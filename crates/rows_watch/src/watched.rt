@@ -23,6 +23,8 @@ impl EventWatcher for Counter {
 
     ghost has_failed = { λ _ _. Unit {0} };
 
+    ghost most = { 0 };
+
     fn see(&mut self, event: &CourseEvent) -> Result<(), WatchStop> {
         if self.left == 0 {
             return Err(WatchStop::WriteFault);

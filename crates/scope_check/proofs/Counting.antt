@@ -6,7 +6,10 @@ use Rattle.vcd_way.specs.Events.{DumpEvent, Sampled, Hole, Resumed}
 use Rattle.scope_check.specs.declared.part.Part.{Part}
 use Rattle.fsb_signal.specs.declared.marks.Marks.{Marks}
 use Rattle.scope_check.specs.declared.judging.Judging.{Judging}
-use Rattle.scope_check.specs.Bounds.{most_counted}
+use Rattle.fsb_signal.specs.declared.sample.Sample.{Sample}
+use Rattle.scope_check.specs.declared.parting.Parting.{Parting}
+use Rattle.scope_check.specs.Parting.{HasParted}
+use Rattle.scope_check.specs.Bounds.{most_counted, most_parted}
 use Rattle.scope_check.specs.Parts.{IsParted, clocks_of, is_quiet, quiet_run}
 use Rattle.scope_check.specs.Standing.{Stands}
 
@@ -69,3 +72,34 @@ if-err (Err e) h = h
 
 pub many : (n : ℕ) (es : List DumpEvent) → most_counted ≤ n → n ≤ length es → most_counted ≤ length es
 many n es full few = omega (arith, full, few)
+
+-- ---- of who tells the clocks of a part
+
+pub before-few : (g : Parting) (p : Part) (es : List DumpEvent) (w : List Sample) (s : HasParted g p es w)
+    → g.start ≤ length es
+before-few g p es w s =
+    let few = counted-few p es s.before s.part s.behind s.parted in
+    let is = s.start in
+    omega (arith, few, is)
+
+pub inside-few : (g : Parting) (p : Part) (es : List DumpEvent) (w : List Sample) (s : HasParted g p es w)
+    → g.inside ≤ length es
+inside-few g p es w s =
+    let few = counted-few p es s.before s.part s.behind s.parted in
+    let is = s.inside in
+    omega (arith, few, is)
+
+pub both-few : (g : Parting) (p : Part) (es : List DumpEvent) (w : List Sample) (s : HasParted g p es w)
+    → g.start + g.inside ≤ length es
+both-few g p es w s =
+    let few = counted-few p es s.before s.part s.behind s.parted in
+    omega (arith, few, s.start, s.inside)
+
+pub part-quiet-few : (g : Parting) (p : Part) (es : List DumpEvent) (w : List Sample) (s : HasParted g p es w)
+    → g.quiet ≡ quiet_run s.before → g.quiet ≤ length es
+part-quiet-few g p es w s is =
+    let few = quiet-few p es s.before s.part s.behind s.parted in
+    omega (arith, few, is)
+
+pub many-parted : (n : ℕ) (es : List DumpEvent) → most_parted ≤ n → n ≤ length es → most_parted ≤ length es
+many-parted n es full few = omega (arith, full, few)

@@ -30,3 +30,7 @@ begins_behind (Quiet bound quiet) clock = nat_lt 0 clock
 -- came before nothing is known
 abbrev pub begins_later : Begin → ℕ → Bool → Bool
 begins_later begin clock has_stopped = has_stopped || begins_behind begin clock
+
+-- the most events of which a part is told without being judged
+abbrev pub most_parted : ℕ
+most_parted = 18446744073709551615

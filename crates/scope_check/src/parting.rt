@@ -1,13 +1,13 @@
 //! The part of a dump alone, for who judges nothing.
 
-ghost use Rattle.std.specs.Prelude.{◌≡◌, ℕ, ◌+◌, ◌++◌, ◌∷◌, [], List, IfOk, Option, length};
+ghost use Rattle.std.specs.Prelude.{◌≡◌, ℕ, ◌≤◌, ◌+◌, ◌++◌, ◌∷◌, [], List, IfOk, IfErr, Option, length};
 ghost use Rattle.fsb_signal.specs.declared.sample.Sample.{Sample as SampleIs};
 ghost use Rattle.vcd_way.specs.Events.{DumpEvent, Sampled, Hole, Resumed};
 ghost use Rattle.vcd_way.specs.Pieces.{Stamp as TimeStamp, time_at};
 ghost use Rattle.vcd_course.specs.Told.{event_told, last_told};
 ghost use Rattle.scope_check.specs.declared.part.Part.{Part};
 ghost use Rattle.scope_check.specs.declared.judging.Phase.TheVariants as phases;
-ghost use Rattle.scope_check.specs.Bounds.{passes};
+ghost use Rattle.scope_check.specs.Bounds.{passes, most_parted};
 ghost use Rattle.scope_check.specs.Parts.{may_begin, opens_at, quiet_more};
 ghost use Rattle.scope_check.specs.Standing.{rested};
 ghost use Rattle.scope_check.specs.Parting.{HasParted, taken, taken_if};
@@ -32,7 +32,8 @@ pub struct Parting {
 
 /// One more, where that is counted.
 fn one_more(count: u64) -> Result<u64, TooMany>
-    ensures { IfOk result (λ more. more ≡ count + 1) }
+    ensures more { IfOk result (λ more. more ≡ count + 1) }
+    ensures full { IfErr result (λ _. most_parted ≤ count) }
 {
     match count.checked_add(1) {
         Some(more) => Ok(more),
@@ -42,8 +43,9 @@ fn one_more(count: u64) -> Result<u64, TooMany>
 
 /// How many of the last clocks are quiet with one more.
 fn quiet_with(run: u64, sample: &Sample) -> Result<u64, TooMany>
-    ensures { (t : Option TimeStamp) →
+    ensures more { (t : Option TimeStamp) →
         IfOk result (λ more. more ≡ quiet_more run (Sampled sample.now t)) }
+    ensures full { IfErr result (λ _. most_parted ≤ run) }
 {
     if is_quiet(sample) {
         one_more(run)
@@ -85,11 +87,13 @@ impl Parting {
     }
 
     /// Takes the next event, and answers its sample where it is a clock of the part. After an Err nothing is said of what
-    /// is taken then.
+    /// is taken then; it comes where there are 2^64 - 1 events.
     pub fn take(&mut self, event: &CourseEvent) -> Result<Option<Sample>, TooMany>
-        ensures { (p : Part) (es : List DumpEvent) (w : List SampleIs) → HasParted self.old p es w →
+        ensures parted { (p : Part) (es : List DumpEvent) (w : List SampleIs) → HasParted self.old p es w →
             IfOk result (λ sample.
             HasParted self.new p (es ++ event_told event.now ∷ []) (w ++ taken sample)) }
+        ensures many { (p : Part) (es : List DumpEvent) (w : List SampleIs) → HasParted self.old p es w →
+            IfErr result (λ _. most_parted ≤ length es) }
     {
         match event.told {
             Told::Sampled(sample) => {
@@ -112,9 +116,11 @@ impl Parting {
 
     // The lines at the next edge of the clock; whether the clock is one of the part.
     fn see(&mut self, sample: &Sample, stamp: Option<Stamp>) -> Result<bool, TooMany>
-        ensures { (p : Part) (es : List DumpEvent) (w : List SampleIs) → HasParted self.old p es w →
+        ensures parted { (p : Part) (es : List DumpEvent) (w : List SampleIs) → HasParted self.old p es w →
             IfOk result (λ is_inside. HasParted self.new p
             (es ++ Sampled sample.now (last_told stamp) ∷ []) (w ++ taken_if is_inside sample.now)) }
+        ensures many { (p : Part) (es : List DumpEvent) (w : List SampleIs) → HasParted self.old p es w →
+            IfErr result (λ _. most_parted ≤ length es) }
     {
         match self.phase {
             Phase::Before => self.wait(sample, stamp),
@@ -125,10 +131,12 @@ impl Parting {
 
     // A clock before the part, or its first.
     fn wait(&mut self, sample: &Sample, stamp: Option<Stamp>) -> Result<bool, TooMany>
-        ensures { (p : Part) (es : List DumpEvent) (w : List SampleIs) → HasParted self.old p es w →
+        ensures parted { (p : Part) (es : List DumpEvent) (w : List SampleIs) → HasParted self.old p es w →
             self.old.phase ≡ phases.Before →
             IfOk result (λ is_inside. HasParted self.new p
             (es ++ Sampled sample.now (last_told stamp) ∷ []) (w ++ taken_if is_inside sample.now)) }
+        ensures many { (p : Part) (es : List DumpEvent) (w : List SampleIs) → HasParted self.old p es w →
+            self.old.phase ≡ phases.Before → IfErr result (λ _. most_parted ≤ length es) }
     {
         let quiet = quiet_with(self.quiet, sample)?;
         if self.opens(quiet, sample, stamp) {
@@ -144,10 +152,12 @@ impl Parting {
 
     // A clock behind one of the part.
     fn go_on(&mut self, sample: &Sample, stamp: Option<Stamp>) -> Result<bool, TooMany>
-        ensures { (p : Part) (es : List DumpEvent) (w : List SampleIs) → HasParted self.old p es w →
+        ensures parted { (p : Part) (es : List DumpEvent) (w : List SampleIs) → HasParted self.old p es w →
             self.old.phase ≡ phases.Inside →
             IfOk result (λ is_inside. HasParted self.new p
             (es ++ Sampled sample.now (last_told stamp) ∷ []) (w ++ taken_if is_inside sample.now)) }
+        ensures many { (p : Part) (es : List DumpEvent) (w : List SampleIs) → HasParted self.old p es w →
+            self.old.phase ≡ phases.Inside → IfErr result (λ _. most_parted ≤ length es) }
     {
         let _lines = sample.lines;
         if self.is_past(stamp)? {
@@ -161,8 +171,9 @@ impl Parting {
 
     // Whether a clock behind those of the part is above the last one that may be of it.
     fn is_past(&self, stamp: Option<Stamp>) -> Result<bool, TooMany>
-        ensures { IfOk result (λ is_past. is_past ≡ passes self.now.part.to
+        ensures past { IfOk result (λ is_past. is_past ≡ passes self.now.part.to
             (self.now.start + self.now.inside) (time_at (last_told stamp))) }
+        ensures full { IfErr result (λ _. most_parted ≤ self.now.start + self.now.inside) }
     {
         match self.start.checked_add(self.inside) {
             Some(clock) => Ok(passes(self.part.to, clock, stamp)),

@@ -62,12 +62,12 @@ of-part-all P p events w o h =
 -- ---- what is put
 
 pub put-stop : (stop : ScopeStop) (seen : List DumpEvent → Type 0) (p : Part) (there : List Bool)
-    (way : Way (List Declaration)) (text old new : List ℕ) → IsWatched (Err stop) seen way text
+    (way : Way (List Declaration)) (text old new : List ℕ) → IsWatched (Err stop) seen (10 ^ 18) way text
     → IsPutAs (Err stop) p there way text old new
 put-stop (stops.Bad fault) seen p there way text old new h = h
 put-stop stops.ReadFault seen p there way text old new h = tt
 put-stop stops.TooLong seen p there way text old new h = h
-put-stop stops.TooMany seen p there way text old new h = tt
+put-stop stops.TooMany seen p there way text old new h = h
 put-stop stops.WriteFault seen p there way text old new h = tt
 put-stop stops.Memory seen p there way text old new h = tt
 
@@ -144,7 +144,7 @@ pub copied-header : (stop : ScopeStop) (choice : Choice) (p : Part) (s : Samplin
 copied-header (stops.Bad fault) choice p s text left old new h = inl h
 copied-header stops.ReadFault choice p s text left old new h = tt
 copied-header stops.TooLong choice p s text left old new h = h
-copied-header stops.TooMany choice p s text left old new h = tt
+copied-header stops.TooMany choice p s text left old new h = absurd h
 copied-header stops.WriteFault choice p s text left old new h = tt
 copied-header stops.Memory choice p s text left old new h = tt
 
@@ -161,6 +161,12 @@ copied-values (stops.Bad fault) choice p s h w there way text old new wired e f 
     })
 copied-values stops.ReadFault choice p s h w there way text old new wired e f = tt
 copied-values stops.TooLong choice p s h w there way text old new wired e f = f
-copied-values stops.TooMany choice p s h w there way text old new wired e f = tt
+copied-values stops.TooMany choice p s h w there way text old new wired e f =
+    record {
+      header = h;
+      wiring = w;
+      wired = wired;
+      many = subst (λ x. 10 ^ 18 ≤ length (events_by x text)) e f;
+    }
 copied-values stops.WriteFault choice p s h w there way text old new wired e f = tt
 copied-values stops.Memory choice p s h w there way text old new wired e f = tt

@@ -20,7 +20,7 @@ use Rattle.scope_watch.specs.declared.stop.ScopeStop.{ScopeStop}
 use Rattle.scope_watch.specs.declared.stop.ScopeStop.TheVariants as stops
 use Rattle.scope_watch.specs.declared.header.Header.{Header}
 use Rattle.scope_watch.specs.declared.values.Sampling.{Sampling}
-use Rattle.scope_watch.specs.Checking.{Declares, IsWiredBy, IsFaultBehind}
+use Rattle.scope_watch.specs.Checking.{Declares, IsWiredBy, IsFaultBehind, TellsMany}
 use Rattle.scope_watch.specs.Heading.{IsHeaderFault}
 use Rattle.scope_watch.specs.Watching.{rules_for}
 use Rattle.scope_write.specs.Samples.{AreShown, Has64Lines}
@@ -56,7 +56,7 @@ abbrev pub IsPutAs : Result CopiedText ScopeStop → Part → List Bool → Way 
 IsPutAs (Ok told) p there way text old new = IsPut told p there way text old new
 IsPutAs (Err (stops.Bad fault)) p there way text old new = first_fault_by way text ≡ Some fault
 IsPutAs (Err stops.TooLong) p there way text old new = 2 ^ 40 < length text
-IsPutAs (Err stops.TooMany) p there way text old new = Unit {0}
+IsPutAs (Err stops.TooMany) p there way text old new = 10 ^ 18 ≤ length (events_by way text)
 IsPutAs (Err stops.WriteFault) p there way text old new = Unit {0}
 IsPutAs (Err stops.Memory) p there way text old new = Unit {0}
 IsPutAs (Err stops.ReadFault) p there way text old new = Unit {0}
@@ -79,7 +79,7 @@ abbrev pub IsCopied : Result Copied ScopeStop → Choice → Part → Sampling �
 IsCopied (Ok copied) choice p s text old new = IsCopyFinding copied.finding choice p s copied.header text old new
 IsCopied (Err (stops.Bad fault)) choice p s text old new = IsHeaderFault text fault ⊎ IsFaultBehind choice s text fault
 IsCopied (Err stops.TooLong) choice p s text old new = 2 ^ 40 < length text
-IsCopied (Err stops.TooMany) choice p s text old new = Unit {0}
+IsCopied (Err stops.TooMany) choice p s text old new = TellsMany (10 ^ 18) choice s text
 IsCopied (Err stops.WriteFault) choice p s text old new = Unit {0}
 IsCopied (Err stops.Memory) choice p s text old new = Unit {0}
 IsCopied (Err stops.ReadFault) choice p s text old new = Unit {0}

@@ -77,6 +77,8 @@ impl<'s, D: Sink> Copier<'s, D> {
             (begun : List ℕ) → Stands self.old.writer there w →
             D.holds self.old.sink.now ≡ begun ++ shown_dump there w →
             D.holds self.new.sink.now ≡ begun ++ shown_dump there (w ++ sample.now ∷ [])) }
+        ensures full { result ≡ Err WatchStop.TooMany → (there : List Bool) (w : List SampleIs) →
+            Stands self.old.writer there w → 10 ^ 18 ≤ length w }
         ensures later { D.faults self.old.sink.now ≤ D.faults self.new.sink.now }
         ensures write_fault { result ≡ Err WatchStop.WriteFault →
             Rose (D.faults self.old.sink.now) (D.faults self.new.sink.now) }
@@ -93,11 +95,14 @@ impl<'s, D: Sink> Copier<'s, D> {
 }
 
 impl<'s, D: Sink> EventWatcher for Copier<'s, D> {
+    ghost use Rattle.std.specs.Prelude.{◌^◌};
     ghost use Rattle.scope_copy.specs.Standing.{HasCopied, HasFailed};
 
     ghost has_seen = { λ first now events. HasCopied D.tells D.holds D.faults first now events };
 
     ghost has_failed = { λ first now. HasFailed D.faults first now };
+
+    ghost most = { 10 ^ 18 };
 
     fn see(&mut self, event: &CourseEvent) -> Result<(), WatchStop> {
         match self.parting.take(event) {

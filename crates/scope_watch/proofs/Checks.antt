@@ -1,5 +1,5 @@
 -- What is found of a dump, from what was read of it.
-use Rattle.std.proofs.Common.{◌≡◌, ℕ, ◌⊎◌, inl, inr, List, [], ◌++◌, length, Option, None, Result, Ok, Err, IfOk, IfErr, option_map, refl, sym, ap, subst, ◌∙◌, append_assoc, append-nil}
+use Rattle.std.proofs.Common.{◌≡◌, ◌≤◌, ℕ, ◌⊎◌, inl, inr, List, [], ◌++◌, length, Option, None, Result, Ok, Err, IfOk, IfErr, option_map, refl, sym, ap, subst, ◌∙◌, append_assoc, append-nil}
 use Rattle.fsb_signal.specs.declared.marks.Marks.{Marks}
 use Rattle.vcd_grammar.specs.Tokens.{tokens_so_far, tokens_from, open_run, ended_at}
 use Rattle.vcd_way.specs.Declarations.{Declaration}
@@ -10,6 +10,7 @@ use Rattle.vcd_scan.specs.declared.early.EarlyEnd.{EarlyEnd}
 use Rattle.vcd_scan.specs.Ending.{early_told}
 use Rattle.scope_ring.specs.Ring.{FedFirst}
 use Rattle.vcd_way.proofs.Interface.{tokens_longer}
+use Rattle.scope_check.specs.Bounds.{most_counted}
 use Rattle.scope_parts.specs.declared.plan.Plan.{Plan}
 use Rattle.scope_parts.specs.Findings.{IsJudgedInParts}
 use Rattle.scope_wiring.specs.declared.wiring.Choice.{Choice}
@@ -68,11 +69,11 @@ watched stop = Err stop
 
 pub judged-stop : (stop : ScopeStop) (seen : List DumpEvent → Type 0) (plan : Plan) (marks : Marks)
     (way : Way (List Declaration)) (text : List ℕ) → (watched stop ≡ watched stops.WriteFault → ⊥)
-    → IsWatched (Err stop) seen way text → IsJudgedAs (Err stop) plan marks way text
+    → IsWatched (Err stop) seen most_counted way text → IsJudgedAs (Err stop) plan marks way text
 judged-stop (stops.Bad fault) seen plan marks way text never h = h
 judged-stop stops.ReadFault seen plan marks way text never h = tt
 judged-stop stops.TooLong seen plan marks way text never h = h
-judged-stop stops.TooMany seen plan marks way text never h = tt
+judged-stop stops.TooMany seen plan marks way text never h = h
 judged-stop stops.WriteFault seen plan marks way text never h = never refl
 judged-stop stops.Memory seen plan marks way text never h = tt
 
@@ -82,15 +83,16 @@ pub judged-told : (answer : Result JudgedText ScopeStop) (plan : Plan) (marks : 
     → option_map early_told early ≡ early_end_by way text
     → IfOk answer (λ told. IsJudgedInParts told.judged plan marks (events_by way text)
     × (told.early_end ≡ early) × FedFirst told.last (samples_among (events_by way text)))
-    → IfErr answer (λ stop. stop ≡ stops.TooMany) → IsJudgedAs answer plan marks way text
-judged-told (Ok told) plan marks way text early none end h e = record {
+    → IfErr answer (λ stop. stop ≡ stops.TooMany) → IfErr answer (λ _. most_counted ≤ length (events_by way text))
+    → IsJudgedAs answer plan marks way text
+judged-told (Ok told) plan marks way text early none end h e many = record {
   none = none;
   found = h.0;
   early_end = ap (option_map early_told) h.1 ∙ end;
   last = h.2;
 }
-judged-told (Err stop) plan marks way text early none end h e =
-    subst (λ x. IsJudgedAs (Err x) plan marks way text) (sym e) tt
+judged-told (Err stop) plan marks way text early none end h e many =
+    subst (λ x. IsJudgedAs (Err x) plan marks way text) (sym e) many
 
 pub not-read : (answer : Result JudgedText ScopeStop) → IfErr answer (λ stop. stop ≡ stops.TooMany)
     → answer ≡ Err stops.ReadFault → ⊥
@@ -113,7 +115,8 @@ checked-values (stops.Bad fault) choice plan s h w marks text wired e =
     inr (record { header = h; wiring = w; wired = wired; fault_is = e })
 checked-values stops.ReadFault choice plan s h w marks text wired e = tt
 checked-values stops.TooLong choice plan s h w marks text wired e = e
-checked-values stops.TooMany choice plan s h w marks text wired e = tt
+checked-values stops.TooMany choice plan s h w marks text wired e =
+    record { header = h; wiring = w; wired = wired; many = e }
 checked-values stops.WriteFault choice plan s h w marks text wired e = e
 checked-values stops.Memory choice plan s h w marks text wired e = tt
 

@@ -1,5 +1,5 @@
 -- What a reader of values answers is what the whole text tells.
-use Rattle.std.proofs.Common.{◌≡◌, Bool, true, false, not, ◌&&◌, is_some, option_map, Option, ◌<◌, ◌^◌, ℕ, ◌⊎◌, inl, inr, if◌then◌else◌, List, [], ◌∷◌, ◌++◌, length, Some, None, Result, Ok, Err}
+use Rattle.std.proofs.Common.{◌≡◌, Bool, true, false, not, ◌&&◌, is_some, option_map, Option, ◌<◌, ◌≤◌, ◌^◌, ℕ, ◌⊎◌, inl, inr, if◌then◌else◌, List, [], ◌∷◌, ◌++◌, length, Some, None, Result, Ok, Err}
 use Rattle.std.proofs.Common.{refl, sym, ap, subst, ◌∙◌, append_assoc}
 use Rattle.vcd_grammar.specs.declared.fault.VcdFault.{VcdFault}
 use Rattle.vcd_grammar.specs.Tokens.{Token, tokens_so_far, tokens_of, ended_at}
@@ -55,22 +55,23 @@ fault-inside laws c s w head fed fault h (inl shown) =
     (laws.so_far c (rules_for s) w head shown.some h ∙ shown.first)
 fault-inside laws c s w head fed fault h (inr e) = laws.fault c (rules_for s) w head fed h ∙ e
 
-inside : (laws : Laws) (c : Choice) (s : Sampling) (w : Wiring) (head fed : List ℕ) (seen : List DumpEvent → Type 0)
+inside : (laws : Laws) (c : Choice) (s : Sampling) (w : Wiring) (head fed : List ℕ) (seen : List DumpEvent → Type 0) (most : ℕ)
     (result : Result (Option EndedEarly) ScopeStop) → IsHeadWith c (rules_for s) w head
     → (result ≡ Err stops.TooLong → 2 ^ 40 < length (head ++ fed))
-    → Finishes result seen (of_values (rules_for s)) w head fed
-    → IsWatched result seen (choosing c (rules_for s)) (head ++ fed)
-inside laws c s w head fed seen (Ok early) h long f = record {
+    → Finishes result seen most (of_values (rules_for s)) w head fed
+    → IsWatched result seen most (choosing c (rules_for s)) (head ++ fed)
+inside laws c s w head fed seen most (Ok early) h long f = record {
   none = laws.fault c (rules_for s) w head fed h ∙ f.none;
   early_end = f.early_end ∙ sym (laws.early c (rules_for s) w head fed h);
   shown = subst (λ x. seen x) (sym (laws.events c (rules_for s) w head fed h)) f.shown;
 }
-inside laws c s w head fed seen (Err (stops.Bad fault)) h long f = fault-inside laws c s w head fed fault h f
-inside laws c s w head fed seen (Err stops.TooLong) h long f = long refl
-inside laws c s w head fed seen (Err stops.ReadFault) h long f = tt
-inside laws c s w head fed seen (Err stops.TooMany) h long f = tt
-inside laws c s w head fed seen (Err stops.WriteFault) h long f = tt
-inside laws c s w head fed seen (Err stops.Memory) h long f = tt
+inside laws c s w head fed seen most (Err (stops.Bad fault)) h long f = fault-inside laws c s w head fed fault h f
+inside laws c s w head fed seen most (Err stops.TooLong) h long f = long refl
+inside laws c s w head fed seen most (Err stops.ReadFault) h long f = tt
+inside laws c s w head fed seen most (Err stops.TooMany) h long f =
+    subst (λ es. most ≤ length es) (sym (laws.events c (rules_for s) w head fed h)) f
+inside laws c s w head fed seen most (Err stops.WriteFault) h long f = tt
+inside laws c s w head fed seen most (Err stops.Memory) h long f = tt
 
 -- ---- a text that is its header
 
@@ -119,44 +120,45 @@ no-bad : (m : ValueRules) (w : Wiring) (fault : VcdFault) → EndsBadly m w [] [
 no-bad m w fault (inl shown) = no-fault m w shown.some shown.more fault shown.whole shown.first
 no-bad m w fault (inr e) = no-end m w fault e
 
-whole : (laws : Laws) (c : Choice) (s : Sampling) (w : Wiring) (text : List ℕ) (seen : List DumpEvent → Type 0)
+whole : (laws : Laws) (c : Choice) (s : Sampling) (w : Wiring) (text : List ℕ) (seen : List DumpEvent → Type 0) (most : ℕ)
     (result : Result (Option EndedEarly) ScopeStop) → IsWholeWith c (rules_for s) w text
     → (result ≡ Err stops.TooLong → 2 ^ 40 < length text)
-    → Finishes result seen (of_values (rules_for s)) w [] []
-    → IsWatched result seen (choosing c (rules_for s)) text
-whole laws c s w text seen (Ok early) h long f = record {
+    → Finishes result seen most (of_values (rules_for s)) w [] []
+    → IsWatched result seen most (choosing c (rules_for s)) text
+whole laws c s w text seen most (Ok early) h long f = record {
   none = laws.none c (rules_for s) text h.header;
   early_end = f.early_end ∙ ended-none (of_values (rules_for s)) w ∙ sym (laws.well c (rules_for s) text h.header);
   shown = subst (λ x. seen x) (told-none (of_values (rules_for s)) w ∙ sym (laws.all c (rules_for s) w text h)) f.shown;
 }
-whole laws c s w text seen (Err (stops.Bad fault)) h long f = absurd (no-bad (of_values (rules_for s)) w fault f)
-whole laws c s w text seen (Err stops.TooLong) h long f = long refl
-whole laws c s w text seen (Err stops.ReadFault) h long f = tt
-whole laws c s w text seen (Err stops.TooMany) h long f = tt
-whole laws c s w text seen (Err stops.WriteFault) h long f = tt
-whole laws c s w text seen (Err stops.Memory) h long f = tt
+whole laws c s w text seen most (Err (stops.Bad fault)) h long f = absurd (no-bad (of_values (rules_for s)) w fault f)
+whole laws c s w text seen most (Err stops.TooLong) h long f = long refl
+whole laws c s w text seen most (Err stops.ReadFault) h long f = tt
+whole laws c s w text seen most (Err stops.TooMany) h long f =
+    subst (λ es. most ≤ length es) (told-none (of_values (rules_for s)) w ∙ sym (laws.all c (rules_for s) w text h)) f
+whole laws c s w text seen most (Err stops.WriteFault) h long f = tt
+whole laws c s w text seen most (Err stops.Memory) h long f = tt
 
 -- ---- both
 
 -- what is answered of the values is right of the whole text
 pub watched : (laws : Laws) (c : Choice) (s : Sampling) (w : Wiring) (b : Behind) (ts : List Token) (text left : List ℕ)
-    (seen : List DumpEvent → Type 0) (result : Result (Option EndedEarly) ScopeStop)
+    (seen : List DumpEvent → Type 0) (most : ℕ) (result : Result (Option EndedEarly) ScopeStop)
     → (at : StandsBehind (rules_for s) b ts text left) → IsTaken c (gathered_in (rules_for s) ts).header w
     → (result ≡ Err stops.TooLong → 2 ^ 40 < length text)
-    → Finishes result seen (of_values (rules_for s)) w at.head (b.rest.items ++ left)
-    → IsWatched result seen (choosing c (rules_for s)) text
-watched laws c s w b ts text left seen result at k long f = by at.place
+    → Finishes result seen most (of_values (rules_for s)) w at.head (b.rest.items ++ left)
+    → IsWatched result seen most (choosing c (rules_for s)) text
+watched laws c s w b ts text left seen most result at k long f = by at.place
   where
     by : IsInside b ts text left at.head ⊎ IsWhole b ts text left at.head
-        → IsWatched result seen (choosing c (rules_for s)) text
+        → IsWatched result seen most (choosing c (rules_for s)) text
     by (inl p) =
         let fed = b.rest.items ++ left in
         let h : IsHeadWith c (rules_for s) w at.head = record {
           header = subst (λ x. IsHeader (rules_for s) x) p.tokens at.header;
           taken = subst (λ x. IsTaken c (gathered_in (rules_for s) x).header w) p.tokens k;
         } in
-        subst (λ x. IsWatched result seen (choosing c (rules_for s)) x) (sym p.whole)
-        (inside laws c s w at.head fed seen result h
+        subst (λ x. IsWatched result seen most (choosing c (rules_for s)) x) (sym p.whole)
+        (inside laws c s w at.head fed seen most result h
         (λ e. subst (λ x. 2 ^ 40 < length x) p.whole (long e)) f)
     by (inr p) =
         let h : IsWholeWith c (rules_for s) w text = record {
@@ -164,9 +166,9 @@ watched laws c s w b ts text left seen result at k long f = by at.place
           taken = subst (λ x. IsTaken c (gathered_in (rules_for s) x).header w) p.tokens k;
         } in
         let none : b.rest.items ++ left ≡ [] = (λ i. p.no_rest i ++ p.nothing i) in
-        whole laws c s w text seen result h long
-        (subst (λ x. Finishes result seen (of_values (rules_for s)) w [] x) none
-        (subst (λ x. Finishes result seen (of_values (rules_for s)) w x (b.rest.items ++ left)) p.none f))
+        whole laws c s w text seen most result h long
+        (subst (λ x. Finishes result seen most (of_values (rules_for s)) w [] x) none
+        (subst (λ x. Finishes result seen most (of_values (rules_for s)) w x (b.rest.items ++ left)) p.none f))
 
 -- ---- a fault in a header
 

@@ -1,5 +1,5 @@
 -- What is found of a dump.
-use Rattle.std.specs.Prelude.{◌≡◌, ◌<◌, ◌^◌, ◌⊎◌, ℕ, List, ◌++◌, length, Some, None, option_map, Result, Ok, Err}
+use Rattle.std.specs.Prelude.{◌≡◌, ◌<◌, ◌≤◌, ◌^◌, ◌⊎◌, ℕ, List, ◌++◌, length, Some, None, option_map, Result, Ok, Err}
 use Rattle.fsb_signal.specs.declared.marks.Marks.{Marks}
 use Rattle.vcd_grammar.specs.declared.fault.VcdFault.{VcdFault}
 use Rattle.vcd_grammar.specs.Judging.{marks_of_lines}
@@ -15,6 +15,7 @@ use Rattle.scope_wiring.specs.declared.wiring.Wiring.{Wiring}
 use Rattle.scope_wiring.specs.declared.wiring.Picking.TheVariants as pickings
 use Rattle.scope_wiring.specs.Pickings.{IsPicking}
 use Rattle.scope_way.specs.Wired.{wired_way, wired_lines}
+use Rattle.scope_check.specs.Bounds.{most_counted}
 use Rattle.scope_parts.specs.declared.plan.Plan.{Plan}
 use Rattle.scope_parts.specs.Findings.{IsJudgedInParts}
 use Rattle.scope_ring.specs.Ring.{FedFirst}
@@ -42,7 +43,7 @@ abbrev pub IsJudgedAs : Result JudgedText ScopeStop → Plan → Marks → Way (
 IsJudgedAs (Ok told) plan marks way text = IsJudgedText told plan marks way text
 IsJudgedAs (Err (stops.Bad fault)) plan marks way text = first_fault_by way text ≡ Some fault
 IsJudgedAs (Err stops.TooLong) plan marks way text = 2 ^ 40 < length text
-IsJudgedAs (Err stops.TooMany) plan marks way text = Unit {0}
+IsJudgedAs (Err stops.TooMany) plan marks way text = most_counted ≤ length (events_by way text)
 IsJudgedAs (Err stops.WriteFault) plan marks way text = ⊥
 IsJudgedAs (Err stops.Memory) plan marks way text = Unit {0}
 IsJudgedAs (Err stops.ReadFault) plan marks way text = Unit {0}
@@ -76,12 +77,19 @@ pub record IsFaultBehind (choice : Choice) (s : Sampling) (text : List ℕ) (fau
   pub wired : IsWiredBy choice s header wiring text
   pub fault_is : first_fault_by (wired_way wiring.wires.items (rules_for s)) text ≡ Some fault
 
+-- so many events are told behind a header of which these wires are picked
+pub record TellsMany (most : ℕ) (choice : Choice) (s : Sampling) (text : List ℕ) : Type 0 where
+  pub header : Header
+  pub wiring : Wiring
+  pub wired : IsWiredBy choice s header wiring text
+  pub many : most ≤ length (events_by (wired_way wiring.wires.items (rules_for s)) text)
+
 -- what is answered of a text: a fault is one in its header, or the first one in the way of the wires that are picked
 abbrev pub IsChecked : Result Checked ScopeStop → Choice → Plan → Sampling → List ℕ → Type 0
 IsChecked (Ok checked) choice plan s text = IsFinding checked.finding choice plan s checked.header text
 IsChecked (Err (stops.Bad fault)) choice plan s text = IsHeaderFault text fault ⊎ IsFaultBehind choice s text fault
 IsChecked (Err stops.TooLong) choice plan s text = 2 ^ 40 < length text
-IsChecked (Err stops.TooMany) choice plan s text = Unit {0}
+IsChecked (Err stops.TooMany) choice plan s text = TellsMany most_counted choice s text
 IsChecked (Err stops.WriteFault) choice plan s text = ⊥
 IsChecked (Err stops.Memory) choice plan s text = Unit {0}
 IsChecked (Err stops.ReadFault) choice plan s text = Unit {0}

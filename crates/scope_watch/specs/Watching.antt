@@ -1,5 +1,5 @@
 -- What was read of values, and shown.
-use Rattle.std.specs.Prelude.{◌≡◌, ◌<◌, ◌^◌, ◌⊎◌, ℕ, List, [], ◌++◌, length, Option, Some, None, option_map, Result, Ok, Err}
+use Rattle.std.specs.Prelude.{◌≡◌, ◌<◌, ◌≤◌, ◌^◌, ◌⊎◌, ℕ, List, [], ◌++◌, length, Option, Some, None, option_map, Result, Ok, Err}
 use Rattle.vcd_grammar.specs.declared.fault.VcdFault.{VcdFault}
 use Rattle.vcd_way.specs.Declarations.{Declaration}
 use Rattle.vcd_way.specs.Ways.{ValueRules, Way}
@@ -70,15 +70,15 @@ EndsBadly m w head fed fault =
     ShowsFaultBehind m w head fed fault
     ⊎ (fault_to_end m w head fed ≡ Some fault)
 
--- what is answered of a text that ends behind these bytes
-abbrev pub Finishes : Result (Option EarlyEnd) ScopeStop → (List DumpEvent → Type 0) → ValueRules → Wiring → List ℕ → List ℕ → Type 0
-Finishes (Ok early) seen m w head fed = EndsWell early seen m w head fed
-Finishes (Err (stops.Bad fault)) seen m w head fed = EndsBadly m w head fed fault
-Finishes (Err stops.TooMany) seen m w head fed = Unit {0}
-Finishes (Err stops.WriteFault) seen m w head fed = Unit {0}
-Finishes (Err stops.Memory) seen m w head fed = Unit {0}
-Finishes (Err stops.ReadFault) seen m w head fed = Unit {0}
-Finishes (Err stops.TooLong) seen m w head fed = Unit {0}
+-- what is answered of a text that ends behind these bytes; a watcher counts no more where there are so many events
+abbrev pub Finishes : Result (Option EarlyEnd) ScopeStop → (List DumpEvent → Type 0) → ℕ → ValueRules → Wiring → List ℕ → List ℕ → Type 0
+Finishes (Ok early) seen most m w head fed = EndsWell early seen m w head fed
+Finishes (Err (stops.Bad fault)) seen most m w head fed = EndsBadly m w head fed fault
+Finishes (Err stops.TooMany) seen most m w head fed = most ≤ length (told_to_end m w head fed)
+Finishes (Err stops.WriteFault) seen most m w head fed = Unit {0}
+Finishes (Err stops.Memory) seen most m w head fed = Unit {0}
+Finishes (Err stops.ReadFault) seen most m w head fed = Unit {0}
+Finishes (Err stops.TooLong) seen most m w head fed = Unit {0}
 
 -- a stop at the end of a text
 abbrev pub IsStopOfEnd : ScopeStop → Type 0
@@ -95,12 +95,13 @@ pub record IsRead (early : Option EarlyEnd) (seen : List DumpEvent → Type 0) (
   pub early_end : option_map early_told early ≡ early_end_by way text
   pub shown : seen (events_by way text)
 
--- what is answered of a whole text, read in a way whose events are shown
-abbrev pub IsWatched : Result (Option EarlyEnd) ScopeStop → (List DumpEvent → Type 0) → Way (List Declaration) → List ℕ → Type 0
-IsWatched (Ok early) seen way text = IsRead early seen way text
-IsWatched (Err (stops.Bad fault)) seen way text = first_fault_by way text ≡ Some fault
-IsWatched (Err stops.TooLong) seen way text = 2 ^ 40 < length text
-IsWatched (Err stops.TooMany) seen way text = Unit {0}
-IsWatched (Err stops.WriteFault) seen way text = Unit {0}
-IsWatched (Err stops.Memory) seen way text = Unit {0}
-IsWatched (Err stops.ReadFault) seen way text = Unit {0}
+-- what is answered of a whole text, read in a way whose events are shown to a watcher that counts no more where there
+-- are so many
+abbrev pub IsWatched : Result (Option EarlyEnd) ScopeStop → (List DumpEvent → Type 0) → ℕ → Way (List Declaration) → List ℕ → Type 0
+IsWatched (Ok early) seen most way text = IsRead early seen way text
+IsWatched (Err (stops.Bad fault)) seen most way text = first_fault_by way text ≡ Some fault
+IsWatched (Err stops.TooLong) seen most way text = 2 ^ 40 < length text
+IsWatched (Err stops.TooMany) seen most way text = most ≤ length (events_by way text)
+IsWatched (Err stops.WriteFault) seen most way text = Unit {0}
+IsWatched (Err stops.Memory) seen most way text = Unit {0}
+IsWatched (Err stops.ReadFault) seen most way text = Unit {0}

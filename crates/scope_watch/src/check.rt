@@ -7,6 +7,7 @@ ghost use Rattle.vcd_course.specs.Told.{event_told};
 ghost use Rattle.vcd_scan.specs.Wired.{wires_told};
 ghost use Rattle.vcd_joined.specs.Behind.{gathered_in};
 ghost use Rattle.vcd_joined.specs.Choosing.{Choice as Taking, choosing, IsTaken};
+ghost use Rattle.scope_check.specs.Bounds.{most_counted};
 ghost use Rattle.scope_parts.specs.declared.plan.Plan.{Plan};
 ghost use Rattle.scope_parts.specs.Findings.{IsJudgedInParts};
 ghost use Rattle.scope_parts.specs.Standing.{Stands};
@@ -92,6 +93,7 @@ fn keep(last: &mut Ring, event: &CourseEvent, clocks: u64, fault: Option<u64>)
 
 impl EventWatcher for Judge {
     ghost use Rattle.vcd_way.specs.Events.{samples_among};
+    ghost use Rattle.scope_check.specs.Bounds.{most_counted};
     ghost use Rattle.scope_parts.specs.Standing.{Stands};
     ghost use Rattle.scope_ring.specs.Ring.{FedFirst};
 
@@ -99,6 +101,8 @@ impl EventWatcher for Judge {
         × FedFirst now.last (samples_among events) };
 
     ghost has_failed = { λ _ _. ⊥ };
+
+    ghost most = { most_counted };
 
     fn see(&mut self, event: &CourseEvent) -> Result<(), WatchStop> {
         match self.judging.take(event) {
@@ -120,6 +124,8 @@ fn told_of(judge: Judge, early_end: Option<EarlyEnd>) -> Result<JudgedText, Scop
         IfOk result (λ told. IsJudgedInParts told.judged p m es
         × (told.early_end ≡ early_end) × FedFirst told.last (samples_among es)) }
     ensures stop { IfErr result (λ stop. stop ≡ ScopeStop.TooMany) }
+    ensures many { (p : Plan) (m : Marks) (es : List DumpEvent) → Stands judge.judging p m es →
+        IfErr result (λ _. most_counted ≤ length es) }
 {
     let last = judge.last;
     match judge.judging.found() {

@@ -1,5 +1,5 @@
 //! The reading of values.
-ghost use Rattle.std.specs.Prelude.{◌≡◌, ◌≤◌, ◌<◌, ◌+◌, ◌^◌, ◌++◌, ℕ, List, [], Err, Some, IsTrue, OnOk, length, map};
+ghost use Rattle.std.specs.Prelude.{◌≡◌, ◌≤◌, ◌<◌, ◌+◌, ◌-◌, ◌^◌, ◌++◌, ℕ, List, [], Err, Some, IsTrue, OnOk, length, map};
 ghost use Rattle.fsb_io.specs.Faults.{Rose};
 ghost use Rattle.vcd_cut.specs.Standing.{Stands as CutterStands};
 ghost use Rattle.vcd_way.specs.Ways.{ValueRules};
@@ -7,7 +7,7 @@ ghost use Rattle.vcd_way.specs.Events.{DumpEvent};
 ghost use Rattle.vcd_grammar.specs.Tokens.{Token};
 ghost use Rattle.vcd_course.specs.Told.{event_told};
 ghost use Rattle.vcd_scan.specs.Wired.{Wiring, wires_told};
-ghost use Rattle.vcd_scan.specs.Standing.{Stands, Keeps, refusal_of, events_of};
+ghost use Rattle.vcd_scan.specs.Standing.{Stands, Keeps, refusal_of, events_of, tokens_after, told_after};
 ghost use Rattle.vcd_joined.specs.Choosing.{Choice, choosing, IsTaken};
 ghost use Rattle.vcd_joined.specs.Behind.{gathered_in};
 ghost use Rattle.scope_watch.specs.Heading.{IsReady, StandsBehind};
@@ -22,7 +22,7 @@ use fsb_io::Source;
 use std::alloc::Global;
 use vcd_course::{Course, CourseEvent, CourseRules};
 use vcd_joined::{headers_may_be_all, texts_end_as_the_readers_say};
-use vcd_scan::{EarlyEnd, ScanRules, ScanStop, ValueReader, Wires};
+use vcd_scan::{EarlyEnd, ScanRules, ScanStop, ValueReader, Wires, first_events_stay};
 use vcd_way::Edge;
 
 /// What is let pass among the values of any tool's dump.
@@ -65,7 +65,7 @@ pub fn watch_values<S: Source, W: EventWatcher>(
         (text : List ℕ) → W.has_seen first watcher.old h →
         StandsBehind (rules_for sampling) behind ts text (S.left source.old) →
         IsTaken c (gathered_in (rules_for sampling) ts).header (wires_told wires) →
-        IsWatched result (λ es. W.has_seen first watcher.new (h ++ es))
+        IsWatched result (λ es. W.has_seen first watcher.new (h ++ es)) (W.most - length h)
         (choosing c (rules_for sampling)) text }
     ensures write_fault { result ≡ Err ScopeStop.WriteFault → (first : W) (h : List DumpEvent) →
         W.has_seen first watcher.old h → W.has_failed first watcher.new }
@@ -78,6 +78,7 @@ pub fn watch_values<S: Source, W: EventWatcher>(
     texts_end_as_the_readers_say();
     headers_may_be_all();
     faults_stay();
+    first_events_stay();
     let rules = CourseRules {
         edge: sampling.edge,
         takes_first: sampling.takes_first,
@@ -105,8 +106,8 @@ fn watch_left<S: Source, W: EventWatcher>(
     ensures read { IsTrue S.tells → (first : W) (h : List DumpEvent) (m : ValueRules) (w : Wiring)
         (head fed : List ℕ) →
         Seen (λ es. W.has_seen first watcher.old (h ++ es)) m w reader.old head fed →
-        Finishes result (λ es. W.has_seen first watcher.new (h ++ es)) m w head
-        (fed ++ S.left source.old) }
+        Finishes result (λ es. W.has_seen first watcher.new (h ++ es)) (W.most - length h) m w
+        head (fed ++ S.left source.old) }
     ensures write_fault { result ≡ Err ScopeStop.WriteFault → (first : W) (h : List DumpEvent) (m : ValueRules)
         (w : Wiring) (head fed : List ℕ) →
         Seen (λ es. W.has_seen first watcher.old (h ++ es)) m w reader.old head fed →
@@ -119,6 +120,7 @@ fn watch_left<S: Source, W: EventWatcher>(
     ensures name_stays { IsTrue S.tells → S.begun_as source.new ≡ S.begun_as source.old }
     ensures holds_stays { IsTrue S.tells → S.holds source.new ≡ S.holds source.old }
 {
+    first_events_stay();
     let mut all = taken;
     'pieces: loop {
         let count = read_piece(source, all, room)?;
@@ -149,6 +151,10 @@ fn take<W: EventWatcher>(
         (w : Wiring) (head fed : List ℕ) →
         Seen (λ es. W.has_seen first watcher.old (h ++ es)) m w reader.old head fed →
         W.has_failed first watcher.new }
+    ensures many { result ≡ Err ScopeStop.TooMany → (first : W) (h : List DumpEvent)
+        (m : ValueRules) (w : Wiring) (head fed : List ℕ) →
+        Seen (λ es. W.has_seen first watcher.old (h ++ es)) m w reader.old head fed →
+        W.most ≤ length (h ++ told_after m w (tokens_after head (fed ++ piece.now))) }
     ensures stop { (stop : ScopeStop) → result ≡ Err stop → IsStopOfWatching stop }
 {
     match reader.feed(piece) {
@@ -170,7 +176,8 @@ fn end<W: EventWatcher>(
     ensures finishes { (first : W) (h : List DumpEvent) (m : ValueRules) (w : Wiring)
         (head fed : List ℕ) →
         Seen (λ es. W.has_seen first watcher.old (h ++ es)) m w reader.old head fed →
-        Finishes result (λ es. W.has_seen first watcher.new (h ++ es)) m w head fed }
+        Finishes result (λ es. W.has_seen first watcher.new (h ++ es)) (W.most - length h) m w
+        head fed }
     ensures write_fault { result ≡ Err ScopeStop.WriteFault → (first : W) (h : List DumpEvent) (m : ValueRules)
         (w : Wiring) (head fed : List ℕ) →
         Seen (λ es. W.has_seen first watcher.old (h ++ es)) m w reader.old head fed →
@@ -192,6 +199,8 @@ fn show<W: EventWatcher>(reader: &mut ValueReader, watcher: &mut W) -> Result<()
     requires { (first : W) × (h : List DumpEvent) × W.has_seen first watcher.old h }
     ensures shown { OnOk result ((first : W) (h : List DumpEvent) → W.has_seen first watcher.old h →
         W.has_seen first watcher.new (h ++ events_of reader.old)) }
+    ensures many { result ≡ Err WatchStop.TooMany → (first : W) (h : List DumpEvent) →
+        W.has_seen first watcher.old h → W.most ≤ length (h ++ events_of reader.old) }
     ensures failed { result ≡ Err WatchStop.WriteFault → (first : W) (h : List DumpEvent) →
         W.has_seen first watcher.old h → W.has_failed first watcher.new }
     ensures events { OnOk result (events_of reader.new ≡ []) }
@@ -209,6 +218,8 @@ fn show_each<W: EventWatcher>(events: &[CourseEvent], watcher: &mut W) -> Result
     requires { (first : W) × (h : List DumpEvent) × W.has_seen first watcher.old h }
     ensures seen { OnOk result ((first : W) (h : List DumpEvent) → W.has_seen first watcher.old h →
         W.has_seen first watcher.new (h ++ map event_told events.now)) }
+    ensures many { result ≡ Err WatchStop.TooMany → (first : W) (h : List DumpEvent) →
+        W.has_seen first watcher.old h → W.most ≤ length (h ++ map event_told events.now) }
     ensures failed { result ≡ Err WatchStop.WriteFault → (first : W) (h : List DumpEvent) →
         W.has_seen first watcher.old h → W.has_failed first watcher.new }
 {

@@ -11,3 +11,4 @@ pub mod CodePlaces
 pub mod Placed
 pub mod Direct
 pub mod Lined
+pub mod Firsts

@@ -8,6 +8,7 @@
 
 pub use early::EarlyEnd;
 pub use heard::has_part;
+pub use laws::first_events_stay;
 pub use machine::ScanRules;
 pub use reader::ValueReader;
 pub use stop::ScanStop;
@@ -17,6 +18,7 @@ mod at_once;
 mod digits;
 mod early;
 mod heard;
+mod laws;
 mod machine;
 mod numbers;
 mod places;

@@ -25,6 +25,7 @@ returns-clause-judged g c = λ tells choice ts text at taken.
     (c.new-judging.ensures, fed-none _ c.in_ok-last.ensures) at taken in
     judged-told c.told_of.result c.args.plan c.args.marks _ text c.in_ok-early_end.early_end read.none read.early_end
     (c.told_of.ensures.told c.args.plan c.args.marks _ read.shown.0 read.shown.1) c.told_of.ensures.stop
+    (c.told_of.ensures.many c.args.plan c.args.marks _ read.shown.0)
 
 pub returns-clause-read_fault : goal.returns-clause-read_fault
 returns-clause-read_fault g c = λ e. absurd (not-read c.told_of.result c.told_of.ensures.stop e)

@@ -1,8 +1,8 @@
-use Rattle.std.proofs.Common.{rules, ◌≡◌, ◌++◌, Err, refl, sym, ap, subst, ◌∙◌}
+use Rattle.std.proofs.Common.{rules, ◌≡◌, ◌≤◌, ◌++◌, length, Err, refl, sym, ap, subst, ◌∙◌}
 use Rattle.vcd_scan.specs.Standing.{tokens_after, told_after}
 use Rattle.scope_watch.proofs.Steps.{not-refused, more-shown, seen-more, seen-fault}
 use Rattle.scope_watch.specs.Stops.{stop_of}
-use Rattle.scope_watch.proofs.Stopping.{was-write-fault}
+use Rattle.scope_watch.proofs.Stopping.{was-write-fault, was-too-many}
 use Rattle.scope_watch.proofs.values.take.Goals as goal
 
 pub feed-requires : goal.feed-requires
@@ -34,3 +34,14 @@ returns-in_err-show-in-Ok-clause-write_fault g c = λ e first h m w head fed s.
     let none = not-refused _ _ _ refl c.in-Ok.ensures.again in
     c.in_err-show-in-Ok.ensures.failed (ap (λ stop. Err stop) (was-write-fault _ (sym same ∙ e))) first
     (h ++ told_after m w (tokens_after head fed)) (s.shown none)
+
+pub returns-in_err-show-in-Ok-clause-many : goal.returns-in_err-show-in-Ok-clause-many
+returns-in_err-show-in-Ok-clause-many g c = λ e first h m w head fed s.
+    let piece = c.args.piece.now in
+    let same : c.from_residual.result ≡ Err (stop_of c.in_err-show-in-Ok.field-0.0) = search rules in
+    let fed_now = c.in-Ok.ensures in
+    let none = not-refused _ _ _ refl fed_now.again in
+    subst (λ es. g.W.EventWatcher.most ≤ length es)
+    (more-shown m w c.args.reader.now c.feed.new.self head fed piece h s.rules s.wiring (s.taken none) (fed_now.told head fed s.stands none))
+    (c.in_err-show-in-Ok.ensures.many (ap (λ stop. Err stop) (was-too-many _ (sym same ∙ e))) first
+    (h ++ told_after m w (tokens_after head fed)) (s.shown none))

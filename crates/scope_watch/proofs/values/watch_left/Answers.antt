@@ -1,9 +1,10 @@
-use Rattle.std.proofs.Common.{rules, append_assoc, append-nil, ◌≡◌, ◌++◌, [], Err, take, length, length-append, refl, sym, ap, subst, ◌∙◌, arith}
+use Rattle.std.proofs.Common.{rules, append_assoc, append-nil, ◌≡◌, ◌≤◌, ◌-◌, ◌++◌, [], Err, take, length, length-append, refl, sym, ap, subst, ◌∙◌, arith}
 use Rattle.std.proofs.lemmas.List.{length-take}
 use Rattle.scope_watch.specs.declared.stop.ScopeStop.TheVariants as stops
 use Rattle.scope_watch.specs.Watching.{Seen, Finishes}
+use Rattle.vcd_scan.specs.Ending.{told_to_end}
 use Rattle.scope_watch.proofs.Headers.{piece-taken}
-use Rattle.scope_watch.proofs.Stopping.{finishes-source, finishes-watcher, same-stop, not-long, not-fault}
+use Rattle.scope_watch.proofs.Stopping.{finishes-source, finishes-watcher, many-stays, same-stop, not-long, not-fault}
 use Rattle.scope_watch.proofs.values.watch_left.Goals as goal
 
 pub pieces-init : goal.pieces-init
@@ -26,7 +27,7 @@ pieces-init g c = record {
 pub returns-in_err-count-clause-read : goal.returns-in_err-count-clause-read
 returns-in_err-count-clause-read g c = λ tells first h m w head fed s.
     let same : c.from_residual.result ≡ Err c.in_err-count.field-0.0 = search rules in
-    rw same (finishes-source _ _ m w head _ (c.in_err-count.ensures.stop _ refl))
+    rw same (finishes-source _ _ _ m w head _ (c.in_err-count.ensures.stop _ refl))
 
 pub returns-in_err-count-clause-too_long : goal.returns-in_err-count-clause-too_long
 returns-in_err-count-clause-too_long g c = λ tells e.
@@ -61,8 +62,8 @@ returns-then-count-eq0-clause-read g c = λ tells first h m w head fed s.
     let none = c.in_ok-count.ensures.end tells zero in
     let all = at.2 tells ∙ ap (λ x. at.0 ++ x) (c.in_ok-count.ensures.bytes tells
     ∙ (λ i. take (zero i) c.read_piece.new.room ++ none i)) ∙ append-nil at.0 in
-    subst (λ x. Finishes c.end.result (λ es. g.W.EventWatcher.has_seen first c.end.new.watcher (h ++ es)) m w head
-    (fed ++ x)) (sym all) (c.end.ensures.finishes first h m w head (fed ++ at.0) (at.3 first h m w head fed s))
+    subst (λ x. Finishes c.end.result (λ es. g.W.EventWatcher.has_seen first c.end.new.watcher (h ++ es))
+    (g.W.EventWatcher.most - length h) m w head (fed ++ x)) (sym all) (c.end.ensures.finishes first h m w head (fed ++ at.0) (at.3 first h m w head fed s))
 
 pub returns-then-count-eq0-clause-too_long : goal.returns-then-count-eq0-clause-too_long
 returns-then-count-eq0-clause-too_long g c = λ tells e. absurd (c.end.ensures.stop stops.TooLong e)
@@ -116,7 +117,16 @@ pieces-preserved g c =
 pub returns-in_err-take-clause-read : goal.returns-in_err-take-clause-read
 returns-in_err-take-clause-read g c = λ tells first h m w head fed s.
     let same : c.from_residual-in_err-take.result ≡ Err c.in_err-take.field-0.0 = search rules in
-    rw same (finishes-watcher _ _ m w head _ (c.in_err-take.ensures.stop _ refl))
+    let at = c.pieces.invariant.at in
+    let piece = take c.in_ok-count.count c.read_piece.new.room in
+    let left = g.S.Source.left c.read_piece.new.source in
+    let whole : ((fed ++ at.0) ++ piece) ++ left ≡ fed ++ g.S.Source.left c.args.source.now =
+    ap (λ x. x ++ left) (append_assoc fed at.0 piece) ∙ append_assoc fed (at.0 ++ piece) left
+    ∙ ap (λ x. fed ++ x) (sym (piece-taken _ at.0 _ piece left (at.2 tells) (c.in_ok-count.ensures.bytes tells))) in
+    rw same (finishes-watcher _ _ _ m w head _ (c.in_err-take.ensures.stop _ refl)
+    (λ e. subst (λ x. g.W.EventWatcher.most - length h ≤ length (told_to_end m w head x)) whole
+    (many-stays g.W.EventWatcher.most h _ _ (c.first_events_stay.ensures m w head ((fed ++ at.0) ++ piece) left)
+    (c.in_err-take.ensures.many (ap (λ stop. Err stop) e) first h m w head (fed ++ at.0) (at.3 first h m w head fed s)))))
 
 pub returns-in_err-take-clause-too_long : goal.returns-in_err-take-clause-too_long
 returns-in_err-take-clause-too_long g c = λ tells e.

@@ -1,10 +1,11 @@
-use Rattle.std.proofs.Common.{rules, List, append-nil, ◌≡◌, ◌++◌, [], Err, length-append, refl, sym, ap, subst, ◌∙◌, arith}
+use Rattle.std.proofs.Common.{rules, List, append-nil, ◌≡◌, ◌≤◌, ◌++◌, [], length, Err, length-append, refl, sym, ap, subst, ◌∙◌, arith}
 use Rattle.vcd_way.specs.Events.{DumpEvent}
 use Rattle.vcd_scan.specs.Wired.{wires_told}
+use Rattle.vcd_scan.specs.Standing.{tokens_after, told_after}
 use Rattle.vcd_joined.specs.Choosing.{of_values}
 use Rattle.scope_watch.specs.Watching.{rules_for, Seen}
 use Rattle.scope_watch.proofs.Steps.{sampled_at, rules-same, seen-first}
-use Rattle.scope_watch.proofs.Stopping.{watched-stop, not-fault, same-stop}
+use Rattle.scope_watch.proofs.Stopping.{finishes-watcher, many-stays, not-long, not-fault, same-stop}
 use Rattle.scope_watch.proofs.Texts.{Laws, watched}
 use Rattle.scope_watch.proofs.values.watch_values.Goals as goal
 
@@ -55,7 +56,32 @@ watch_left-requires-clause-at g c =
 pub returns-in_err-take-clause-read : goal.returns-in_err-take-clause-read
 returns-in_err-take-clause-read g c = λ tells first h choice ts text has at taken.
     let same : c.from_residual.result ≡ Err c.in_err-take.field-0.0 = search rules in
-    rw same (watched-stop _ _ _ text (c.in_err-take.ensures.stop _ refl))
+    let now = c.new-reader.ensures in
+    let m = of_values (rules_for c.args.sampling) in
+    let w = wires_told c.args.wires in
+    let left = g.S.Source.left c.args.source.now in
+    let rest = c.args.behind.rest.items in
+    let before : List DumpEvent → Type 0 = λ es. g.W.EventWatcher.has_seen first c.args.watcher.now (h ++ es) in
+    let laws : Laws = record {
+      so_far = c.texts_end_as_the_readers_say.ensures.fault_so_far;
+      fault = c.texts_end_as_the_readers_say.ensures.fault;
+      early = c.texts_end_as_the_readers_say.ensures.early;
+      events = c.texts_end_as_the_readers_say.ensures.events;
+      none = c.headers_may_be_all.ensures.fault;
+      well = c.headers_may_be_all.ensures.early;
+      all = c.headers_may_be_all.ensures.events;
+      stays = c.faults_stay.ensures;
+    } in
+    rw same (watched laws choice c.args.sampling w c.args.behind ts text left _ _ (Err c.in_err-take.field-0.0) at taken
+    (λ e. absurd (not-long _ (c.in_err-take.ensures.stop _ refl) e))
+    (finishes-watcher _ _ _ m w at.head _ (c.in_err-take.ensures.stop _ refl)
+    (λ e. many-stays g.W.EventWatcher.most h _ _ (c.first_events_stay.ensures m w at.head rest left)
+    (subst (λ x. g.W.EventWatcher.most ≤ length (h ++ told_after m w (tokens_after at.head x))) c.deref.ensures.value
+    (c.in_err-take.ensures.many (ap (λ stop. Err stop) e) first h m w at.head []
+    (seen-first before _ _ c.new-reader.result at.head
+    (now.rules ∙ rules-same c.args.sampling c.new-course.result (sampled_at c.args.sampling) c.new-course.ensures.rules refl refl c.new-course.ensures.late)
+    now.wiring (now.stands at.head at.cutter) now.fresh now.events
+    (subst (λ x. g.W.EventWatcher.has_seen first c.args.watcher.now x) (sym (append-nil h)) has)))))))
 
 pub returns-clause-read : goal.returns-clause-read
 returns-clause-read g c = λ tells first h choice ts text has at taken.
@@ -74,7 +100,7 @@ returns-clause-read g c = λ tells first h choice ts text has at taken.
       all = c.headers_may_be_all.ensures.events;
       stays = c.faults_stay.ensures;
     } in
-    watched laws choice c.args.sampling w c.args.behind ts text left _ c.watch_left.result at taken
+    watched laws choice c.args.sampling w c.args.behind ts text left _ _ c.watch_left.result at taken
     (λ e. let long = c.watch_left.ensures.too_long tells e in omega (arith, long, at.taken))
     (c.watch_left.ensures.read tells first h m w at.head c.args.behind.rest.items
     (subst (λ x. Seen (λ es. g.W.EventWatcher.has_seen first c.take.new.watcher (h ++ es)) m w c.take.new.reader at.head x)
