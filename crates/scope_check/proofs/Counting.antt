@@ -2,7 +2,7 @@
 use Rattle.std.proofs.Common.{◌≡◌, ◌∙◌, ℕ, ◌+◌, ◌≤◌, ◌++◌, ◌∷◌, [], List, Result, Ok, Err, IfErr, length, ap, arith}
 use Rattle.std.proofs.lemmas.List.{length-append}
 use Rattle.std.proofs.lemmas.List.Sums.{suffix_len-le-length}
-use Rattle.vcd_way.specs.Events.{DumpEvent, Sampled, Hole, Resumed}
+use Rattle.vcd_way.specs.Events.{DumpEvent, Sampled, Hole, Resumed, samples_among}
 use Rattle.scope_check.specs.declared.part.Part.{Part}
 use Rattle.fsb_signal.specs.declared.marks.Marks.{Marks}
 use Rattle.scope_check.specs.declared.judging.Judging.{Judging}
@@ -103,3 +103,22 @@ part-quiet-few g p es w s is =
 
 pub many-parted : (n : ℕ) (es : List DumpEvent) → most_parted ≤ n → n ≤ length es → most_parted ≤ length es
 many-parted n es full few = omega (arith, full, few)
+
+samples-few : (es : List DumpEvent) → length (samples_among es) ≤ length es
+samples-few [] = omega arith
+samples-few (Sampled s t ∷ es) = let h = samples-few es in omega (arith, h)
+samples-few (Hole t ∷ es) = let h = samples-few es in omega (arith, h)
+samples-few (Resumed t ∷ es) = let h = samples-few es in omega (arith, h)
+
+-- the samples of a part are no more than the events
+pub parted-few : (g : Parting) (p : Part) (es : List DumpEvent) (w : List Sample) → HasParted g p es w
+    → length w ≤ length es
+parted-few g p es w s =
+    omega (
+      arith,
+      samples-few s.part,
+      ap length s.samples_are,
+      ap length s.parted.whole,
+      length-append (s.before ++ s.part) s.behind,
+      length-append s.before s.part,
+    )

@@ -3,7 +3,7 @@ use Rattle.std.proofs.Common.{◌≡◌, ◌∙◌, ap, ℕ, zero, suc, ◌+◌,
 use Rattle.std.proofs.lemmas.List.Elements.{All-nil, All-push}
 use Rattle.fsb_io.specs.Faults.{Rose}
 use Rattle.fsb_signal.specs.declared.sample.Sample.{Sample}
-use Rattle.vcd_way.specs.Events.{DumpEvent, Sampled, Hole, Resumed, samples_among}
+use Rattle.vcd_way.specs.Events.{DumpEvent}
 use Rattle.scope_check.specs.declared.part.Part.{Part}
 use Rattle.scope_check.specs.declared.parting.Parting.{Parting}
 use Rattle.scope_check.specs.Parting.{HasParted}
@@ -103,25 +103,6 @@ module _ {D : Type 0} (tells : Bool) (holds : D → List ℕ) (faults : D → �
   more-put (Err f) old new e x g parted same parting within few stands later text = tt
 
 -- ---- how many events there are
-
-samples-few : (es : List DumpEvent) → length (samples_among es) ≤ length es
-samples-few [] = omega arith
-samples-few (Sampled s t ∷ es) = let h = samples-few es in omega (arith, h)
-samples-few (Hole t ∷ es) = let h = samples-few es in omega (arith, h)
-samples-few (Resumed t ∷ es) = let h = samples-few es in omega (arith, h)
-
--- the samples of a part are no more than the events
-pub parted-few : (g : Parting) (p : Part) (es : List DumpEvent) (w : List Sample) → HasParted g p es w
-    → length w ≤ length es
-parted-few g p es w s =
-    omega (
-      arith,
-      samples-few s.part,
-      ap length s.samples_are,
-      ap length s.parted.whole,
-      length-append (s.before ++ s.part) s.behind,
-      length-append s.before s.part,
-    )
 
 pub many-behind : (n : ℕ) (es more : List DumpEvent) → n ≤ length es → n ≤ length (es ++ more)
 many-behind n es more few = omega (arith, few, length-append es more)

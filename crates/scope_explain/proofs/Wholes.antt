@@ -8,6 +8,7 @@ use Rattle.vcd_way.specs.Events.{DumpEvent}
 use Rattle.vcd_scan.specs.declared.early.EarlyEnd.{EarlyEnd}
 use Rattle.scope_check.specs.declared.part.Part.{Part}
 use Rattle.scope_check.specs.declared.parting.Parting.{Parting}
+use Rattle.scope_check.specs.Bounds.{most_counted}
 use Rattle.scope_check.specs.Parting.{HasParted}
 use Rattle.scope_wiring.specs.declared.wiring.Choice.{Choice}
 use Rattle.scope_wiring.specs.declared.wiring.Wiring.{Wiring}
@@ -54,11 +55,11 @@ watched stop = Err stop
 
 pub found-stop : (stop : ScopeStop) (seen : List DumpEvent → Type 0) (p : Part) (m : Marks)
     (way : Way (List Declaration)) (text : List ℕ) → (watched stop ≡ watched stops.WriteFault → ⊥)
-    → IsWatched (Err stop) seen way text → IsFoundAs (Err stop) p m way text
+    → IsWatched (Err stop) seen most_counted way text → IsFoundAs (Err stop) p m way text
 found-stop (stops.Bad fault) seen p m way text never h = h
 found-stop stops.ReadFault seen p m way text never h = tt
 found-stop stops.TooLong seen p m way text never h = h
-found-stop stops.TooMany seen p m way text never h = tt
+found-stop stops.TooMany seen p m way text never h = h
 found-stop stops.WriteFault seen p m way text never h = never refl
 found-stop stops.Memory seen p m way text never h = tt
 
@@ -98,7 +99,8 @@ explained-values (stops.Bad fault) choice p s h w m text wired e =
     inr (record { header = h; wiring = w; wired = wired; fault_is = e })
 explained-values stops.ReadFault choice p s h w m text wired e = tt
 explained-values stops.TooLong choice p s h w m text wired e = e
-explained-values stops.TooMany choice p s h w m text wired e = tt
+explained-values stops.TooMany choice p s h w m text wired e =
+    record { header = h; wiring = w; wired = wired; many = e }
 explained-values stops.WriteFault choice p s h w m text wired e = e
 explained-values stops.Memory choice p s h w m text wired e = tt
 

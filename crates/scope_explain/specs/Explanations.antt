@@ -1,5 +1,5 @@
 -- What is said of the first broken clock of a dump.
-use Rattle.std.specs.Prelude.{◌≡◌, ◌<◌, ◌^◌, ◌⊎◌, ℕ, List, length, Option, Some, None, Result, Ok, Err}
+use Rattle.std.specs.Prelude.{◌≡◌, ◌<◌, ◌≤◌, ◌^◌, ◌⊎◌, ℕ, List, length, Option, Some, None, Result, Ok, Err}
 use Rattle.fsb_signal.specs.declared.marks.Marks.{Marks}
 use Rattle.vcd_grammar.specs.Judging.{marks_of_lines}
 use Rattle.vcd_way.specs.Declarations.{Declaration}
@@ -13,12 +13,13 @@ use Rattle.scope_wiring.specs.declared.wiring.Picking.TheVariants as pickings
 use Rattle.scope_wiring.specs.Pickings.{IsPicking}
 use Rattle.scope_way.specs.Wired.{wired_way, wired_lines}
 use Rattle.scope_check.specs.declared.part.Part.{Part}
+use Rattle.scope_check.specs.Bounds.{most_counted}
 use Rattle.scope_check.specs.Parts.{IsParted}
 use Rattle.scope_watch.specs.declared.stop.ScopeStop.{ScopeStop}
 use Rattle.scope_watch.specs.declared.stop.ScopeStop.TheVariants as stops
 use Rattle.scope_watch.specs.declared.header.Header.{Header}
 use Rattle.scope_watch.specs.declared.values.Sampling.{Sampling}
-use Rattle.scope_watch.specs.Checking.{Declares, IsWiredBy, IsFaultBehind}
+use Rattle.scope_watch.specs.Checking.{Declares, IsWiredBy, IsFaultBehind, TellsMany}
 use Rattle.scope_watch.specs.Heading.{IsHeaderFault}
 use Rattle.scope_watch.specs.Watching.{rules_for}
 use Rattle.scope_explain.specs.declared.explained.Explained.{Explained}
@@ -40,7 +41,7 @@ abbrev pub IsFoundAs : Result (Option Explained) ScopeStop → Part → Marks �
 IsFoundAs (Ok found) p m way text = IsFound found p m way text
 IsFoundAs (Err (stops.Bad fault)) p m way text = first_fault_by way text ≡ Some fault
 IsFoundAs (Err stops.TooLong) p m way text = 2 ^ 40 < length text
-IsFoundAs (Err stops.TooMany) p m way text = Unit {0}
+IsFoundAs (Err stops.TooMany) p m way text = most_counted ≤ length (events_by way text)
 IsFoundAs (Err stops.WriteFault) p m way text = ⊥
 IsFoundAs (Err stops.Memory) p m way text = Unit {0}
 IsFoundAs (Err stops.ReadFault) p m way text = Unit {0}
@@ -70,7 +71,7 @@ abbrev pub IsExplainedAs : Result Explanation ScopeStop → Choice → Part → 
 IsExplainedAs (Ok found) choice p s text = IsExplanation found choice p s text
 IsExplainedAs (Err (stops.Bad fault)) choice p s text = IsHeaderFault text fault ⊎ IsFaultBehind choice s text fault
 IsExplainedAs (Err stops.TooLong) choice p s text = 2 ^ 40 < length text
-IsExplainedAs (Err stops.TooMany) choice p s text = Unit {0}
+IsExplainedAs (Err stops.TooMany) choice p s text = TellsMany most_counted choice s text
 IsExplainedAs (Err stops.WriteFault) choice p s text = ⊥
 IsExplainedAs (Err stops.Memory) choice p s text = Unit {0}
 IsExplainedAs (Err stops.ReadFault) choice p s text = Unit {0}

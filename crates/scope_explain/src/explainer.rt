@@ -36,11 +36,14 @@ impl Explainer {
 }
 
 impl EventWatcher for Explainer {
+    ghost use Rattle.scope_check.specs.Bounds.{most_counted};
     ghost use Rattle.scope_explain.specs.Standing.{HasExplained};
 
     ghost has_seen = { HasExplained };
 
     ghost has_failed = { λ _ _. ⊥ };
+
+    ghost most = { most_counted };
 
     fn see(&mut self, event: &CourseEvent) -> Result<(), WatchStop> {
         match self.parting.take(event) {

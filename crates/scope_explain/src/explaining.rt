@@ -1,8 +1,9 @@
 //! The machine that follows the samples of a part.
 
-ghost use Rattle.std.specs.Prelude.{◌≢◌, ◌<◌, ◌++◌, ◌∷◌, [], Err, OnOk};
+ghost use Rattle.std.specs.Prelude.{◌≡◌, ◌≢◌, ◌<◌, ◌≤◌, ◌++◌, ◌∷◌, [], Err, OnOk, length};
 ghost use Rattle.fsb_signal.specs.declared.marks.Marks.{Marks};
 ghost use Rattle.fsb_trace.specs.At.{Trace};
+ghost use Rattle.scope_check.specs.Bounds.{most_counted};
 ghost use Rattle.scope_explain.specs.Explained.{IsExplainedBy};
 ghost use Rattle.scope_explain.specs.Standing.{Follows, Stands};
 
@@ -56,6 +57,8 @@ impl Explaining {
         requires { (m : Marks) × (w : Trace) × Stands self.old m w }
         ensures stands { (m : Marks) (w : Trace) → Stands self.old m w →
             OnOk result (Stands self.new m (w ++ sample.now ∷ [])) }
+        ensures many { result ≡ Err WatchStop.TooMany → (m : Marks) (w : Trace) → Stands self.old m w →
+            most_counted ≤ length w }
         ensures writes_nothing { result ≢ Err WatchStop.WriteFault }
     {
         if self.found.is_some() {
@@ -73,6 +76,7 @@ impl Explaining {
         requires follows { (m : Marks) × (w : Trace) × Follows self.old m w }
         ensures stands { (m : Marks) (w : Trace) → Follows self.old m w →
             OnOk result (Stands self.new m (w ++ sample.now ∷ [])) }
+        ensures counts { result ≢ Err WatchStop.TooMany }
         ensures writes_nothing { result ≢ Err WatchStop.WriteFault }
     {
         unbroken_traces_are_orderly();

@@ -1,7 +1,8 @@
 use Rattle.std.proofs.Common.{◌^◌, ◌++◌, ◌∷◌, [], subst, arith}
 use Rattle.vcd_course.specs.Told.{event_told}
 use Rattle.scope_check.specs.Parting.{HasParted, taken}
-use Rattle.scope_copy.proofs.Writing.{none-more, more-put, parted-few, many-behind}
+use Rattle.scope_check.proofs.Counting.{parted-few}
+use Rattle.scope_copy.proofs.Writing.{none-more, more-put, many-behind}
 use Rattle.scope_copy.proofs.copier.CopierEventWatcher.see.Goals as goal
 
 pub put-requires : goal.put-requires
