@@ -165,6 +165,7 @@ fn left_out(alloc: Global, words: &[&str]) -> Result<Vec<u8>, Stop>
 }
 
 // The lines that are sampled after the edge, by their numbers.
+#[tactic(auto, unfolding(scope_pick::specs::Scopes::is_listed))]
 fn late_lines(alloc: Global, words: &[&str]) -> Result<Vec<u8>, Stop>
     ensures ok { IfOk result (λ v. SampledLines v.items) }
     ensures err { IfErr result IsError }
