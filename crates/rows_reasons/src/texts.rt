@@ -179,7 +179,7 @@ fn beginnings(rt: HostRuntime) {
         (
             1,
             Reason::NotArbitrated,
-            "ADS# is asserted at 1. Agents ask two clocks before, so that no request begins below 2.",
+            "ADS# is asserted at 1. Agents ask two clocks before, so that no request begins at the first two clocks.",
         ),
         (
             9,
