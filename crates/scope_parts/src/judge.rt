@@ -67,7 +67,7 @@ impl PartsJudge {
         let found = self.judging.judged();
         match ending(&self.plan, self.tally.kept.broken, &found, event) {
             None => {
-                self.latest = self.latest.with(found);
+                self.latest.follow(found);
                 Ok(())
             }
             Some(end) => self.close(end, found),

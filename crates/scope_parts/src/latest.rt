@@ -27,15 +27,14 @@ impl Latest {
         }
     }
 
-    /// The same with one more event, up to which this was found.
-    pub(crate) fn with(&self, found: Judged) -> Latest
+    /// With one more event, up to which this was found.
+    #[inline(always)]
+    pub(crate) fn follow(&mut self, found: Judged)
         ensures { (p : Part) (m : Marks) (es : List DumpEvent) (e : DumpEvent) →
-            Remembers self.now p m es → IsFoundIn found p m (es ++ e ∷ []) →
-            Remembers result p m (es ++ e ∷ []) }
+            Remembers self.old p m es → IsFoundIn found p m (es ++ e ∷ []) →
+            Remembers self.new p m (es ++ e ∷ []) }
     {
-        Latest {
-            found,
-            before: self.found,
-        }
+        self.before = self.found;
+        self.found = found;
     }
 }

@@ -1,4 +1,4 @@
-ghost use Rattle.std.specs.Prelude.{◌≡◌, ◌++◌, [], ◌∷◌, true, false, Some, None, IfSome};
+ghost use Rattle.std.specs.Prelude.{◌≡◌, ◌<◌, ◌++◌, [], ◌∷◌, true, false, Some, None, IfSome, length};
 ghost use Rattle.std.specs.List.{list_all};
 ghost use Rattle.vcd_way.specs.Ways.{ValueRules};
 ghost use Rattle.vcd_way.specs.Pieces.{Happening, Comes, Gets, Switches};
@@ -89,9 +89,36 @@ impl Course {
         ensures last { IfSome result (λ e. e.stamp ≡ stamp_of self.old) }
     {
         let event = self.ended();
+        self.moves_on(stamp);
+        event
+    }
+
+    /// Whether the block that stands open has a sample, if it ends here.
+    #[inline(always)]
+    pub fn tells(&self) -> bool
+        ensures sample { result ≡ true → (m : ValueRules) → FitsCourse m self.now →
+            0 < length (ended_in m (open_told self.now)) }
+        ensures silent { result ≡ false → (m : ValueRules) → FitsCourse m self.now →
+            ended_in m (open_told self.now) ≡ [] }
+    {
+        let clock = self.block.inside.clock();
+        if self.is_seen {
+            is_edge(self.rules.edge, self.block.before.clock(), clock)
+        } else {
+            self.rules.takes_first && clock == digit_after(self.rules.edge)
+        }
+    }
+
+    /// A greater time comes. Of the block that it ends nothing is told.
+    #[inline(always)]
+    pub fn moves_on(&mut self, stamp: Stamp)
+        ensures open { open_told self.new ≡ after_happening (open_told self.old) (Comes (stamp_told stamp)) }
+        ensures rules { rules_of self.new ≡ rules_of self.old }
+        ensures late { late_of self.new ≡ late_of self.old }
+        ensures stamp { stamp_of self.new ≡ Some stamp }
+    {
         self.close();
         self.stamp = Some(stamp);
-        event
     }
 
     /// The dump stops for a time, or it goes on, and these lines are unknown. Tells the sample of the

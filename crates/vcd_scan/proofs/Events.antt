@@ -14,6 +14,10 @@ told_none es e x h k =
     let nothing : [] ≡ x ++ [] = ap event_list (sym h) ∙ k ∙ sym (append-nil x) in
     sym (append-nil es) ∙ ap (λ y. es ++ y) nothing
 
+-- where nothing is told
+pub told_nothing : (es : List DumpEvent) (x : List DumpEvent) → x ≡ [] → es ≡ es ++ (x ++ [])
+told_nothing es x h = sym (append-nil es) ∙ ap (λ y. es ++ y) (sym h ∙ sym (append-nil x))
+
 -- one event
 pub told_some : (es new : List CourseEvent) (e : CourseEvent) (r : Option CourseEvent) (x : List DumpEvent)
     → r ≡ Some e → event_list r ≡ x → new ≡ es ++ e ∷ [] → events_told new ≡ events_told es ++ (x ++ [])

@@ -259,6 +259,28 @@ impl Machine {
         ensures wires { wires_told self.new.wires ≡ wires_told self.old.wires }
         ensures lines { OnOk result (LinesAt place line self.old self.new) }
     {
+        if self.course.tells() {
+            self.comes_and_tells(place, line, time)
+        } else {
+            self.time = Some(time);
+            self.course.moves_on(Stamp { time, place, line });
+            Ok(())
+        }
+    }
+
+    /// The same, where the block may have a sample.
+    #[inline(never)]
+    fn comes_and_tells(&mut self, place: u64, line: u64, time: u64) -> Result<(), AllocError>
+        ensures state { OnOk result (Becomes self.old self.new (comes (state_told self.old) place
+            time)) }
+        ensures opened { OnOk result (Opens self.old self.new (comes (state_told self.old) place
+            time)) }
+        ensures told { OnOk result (Tells self.old self.new (comes (state_told self.old) place
+            time)) }
+        ensures rules { rules_in self.new ≡ rules_in self.old }
+        ensures wires { wires_told self.new.wires ≡ wires_told self.old.wires }
+        ensures lines { OnOk result (LinesAt place line self.old self.new) }
+    {
         self.time = Some(time);
         let event = self.course.comes(Stamp { time, place, line });
         match event {

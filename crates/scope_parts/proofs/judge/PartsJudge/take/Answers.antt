@@ -24,9 +24,9 @@ returns-in-None-clause-stands c p m es s =
     let f = c.judged-found.result in
     let judging = c.in_ok-take.ensures.stands part m s.open_events s.judging in
     let found = c.judged-found.ensures part m (s.open_events ++ e ∷ []) judging in
-    stands_on j (record j { counts = c.count.new.self; judging = c.take.new.self; latest = c.with-self.result })
+    stands_on j (record j { counts = c.count.new.self; judging = c.take.new.self; latest = c.follow.new.self })
     p m es e s refl refl refl (c.in_ok-count.ensures.counted es s.counted) judging
-    (c.with-self.ensures part m s.open_events e s.latest found) f found
+    (c.follow.ensures part m s.open_events e s.latest found) f found
     (sym (ending_is j p m es s f e) ∙ sym c.in-None.ensures)
 
 pub returns-in-Some-clause-stands : goal.returns-in-Some-clause-stands

@@ -1,6 +1,6 @@
 use Rattle.std.proofs.Common.{refl}
 use Rattle.scope_parts.proofs.Remembering.{remembers_more}
-use Rattle.scope_parts.proofs.latest.Latest.with.Goals as goal
+use Rattle.scope_parts.proofs.latest.Latest.follow.Goals as goal
 
 pub returns : goal.returns
 returns c p m es e r found =
