@@ -6,7 +6,7 @@ use Rattle.vcd_way.specs.Declarations.{Declaration}
 use Rattle.vcd_way.specs.Ways.{ValueRules, Way}
 use Rattle.vcd_way.specs.Events.{DumpEvent, Sampled, Hole, Resumed, samples_among}
 use Rattle.vcd_way.specs.Answers.{first_fault_by, early_end_by, events_by}
-use Rattle.vcd_scan.specs.declared.early.EarlyEnd.{EarlyEnd}
+use Rattle.scope_watch.specs.declared.values.Ended.{Ended}
 use Rattle.vcd_scan.specs.Ending.{early_told}
 use Rattle.scope_wiring.specs.declared.wire.Wire.{Wire}
 use Rattle.scope_wiring.specs.declared.wiring.Choice.{Choice}
@@ -80,19 +80,19 @@ same-stop a b e = cc
 
 module _ {D : Type 0} (tells : Bool) (holds : D → List ℕ) (faults : D → ℕ) where
   -- what a watcher that writes has put, where a whole text was read: its sink was this one with a header behind what it held
-  pub put-whole : (first last : Copier D) (out mid end : D) (told : CopiedText) (early : Option EarlyEnd) (p : Part)
+  pub put-whole : (first last : Copier D) (out mid end : D) (told : CopiedText) (ended : Ended) (p : Part)
       (there : List Bool) (way : Way (List Declaration)) (text : List ℕ) → first.part ≡ p → first.there ≡ there
-      → first.sink.now ≡ mid → told.early_end ≡ early
-      → (r : IsRead early (λ es. HasCopied tells holds faults first last es) way text)
+      → first.sink.now ≡ mid → told.early_end ≡ ended.early_end
+      → (r : IsRead ended (λ es. HasCopied tells holds faults first last es) way text)
       → told.clocks ≡ length r.shown.samples → (last.sink.ghost_name ≡ first.sink.ghost_name → end ≡ last.sink.now)
       → IsTrue tells → holds mid ≡ holds out ++ shown_dump there []
       → IsPut told p there way text (holds out) (holds end)
-  put-whole first last out mid end told early p there way text e f m ended r clocks same t begun =
+  put-whole first last out mid end told ended p there way text e f m same_end r clocks same t begun =
       let header : holds first.sink.now ≡ holds out ++ shown_dump first.there [] =
       ap holds m ∙ begun ∙ ap (λ x. holds out ++ shown_dump x []) (sym f) in
       let put : IsPut told first.part first.there way text (holds out) (holds end) = record {
         none = r.none;
-        early_end = ap (λ x. option_map early_told x) ended ∙ r.early_end;
+        early_end = ap (λ x. option_map early_told x) same_end ∙ r.early_end;
         samples = r.shown.samples;
         of_part = record {
           before = r.shown.parted.before;

@@ -1,7 +1,7 @@
 //! What was judged and found.
 
 use crate::lines::put_home;
-use crate::notices::{put_cut_comment, put_lost_levels, put_traffic};
+use crate::notices::{put_cut_comment, put_limit_behind, put_lost_levels, put_traffic};
 use crate::parts::{put_behind, put_holes, put_parts, put_starts};
 use crate::rules::{put_gist, title_of};
 use crate::scale::time_of;
@@ -34,6 +34,7 @@ pub fn check_text(
     wiring: &Wiring,
     found: &PartsFound,
     early_end: Option<EarlyEnd>,
+    limit: Option<u64>,
     last: &Ring,
 ) -> Result<Vec<u8>, AllocError> {
     let scale = scale_of(alloc, remarks)?;
@@ -45,6 +46,7 @@ pub fn check_text(
     put_unread_data(&mut text, wiring)?;
     put_judged(&mut text, alloc, found, scale)?;
     put_early_end(&mut text, early_end)?;
+    put_limit_behind(&mut text, limit)?;
     put_cut_comment(&mut text, alloc, remarks)?;
     put_other_names(&mut text, &heading, &settled, wiring.home)?;
     Ok(text)

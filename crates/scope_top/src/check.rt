@@ -179,6 +179,7 @@ fn found_text(
                 wiring,
                 &told.judged,
                 told.early_end,
+                told.limit,
                 &told.last,
             )?;
             Ok((Stream::Out, text))
