@@ -1,4 +1,4 @@
-use Rattle.std.proofs.Common.{◌++◌, ◌∷◌, []}
+use Rattle.std.proofs.Common.{◌++◌, ◌∷◌, [], length-append, arith}
 use Rattle.vcd_course.specs.Told.{event_told}
 use Rattle.scope_watch.proofs.check.JudgeEventWatcher.see.Goals as goal
 
@@ -20,3 +20,8 @@ returns-in-Ok-clause-seen c = λ first es seen.
       stands,
       c.keep.ensures es seen.1 (c.clocks-clocks.ensures p m (es ++ event_told c.args.event.now ∷ []) stands),
     )
+
+pub returns-in-Err-clause-many : goal.returns-in-Err-clause-many
+returns-in-Err-clause-many c = λ e first es seen.
+    let full = c.in-Err.ensures.many first.plan first.marks es seen.0 in
+    omega (arith, full, length-append es (event_told c.args.event.now ∷ []))
