@@ -1,11 +1,11 @@
 -- What is copied of a dump, from what was read of it.
-use Rattle.std.proofs.Common.{◌≡◌, ◌∙◌, ℕ, ◌+◌, ◌≤◌, ◌^◌, ◌++◌, ◌⊎◌, inl, inr, List, [], ◌∷◌, Bool, All, IsTrue, Option, Some, None, Result, Ok, Err, length, option_map, append_assoc, sym, ap, subst, refl}
+use Rattle.std.proofs.Common.{◌≡◌, ◌∙◌, ℕ, ◌≤◌, ◌^◌, ◌++◌, inl, inr, List, [], ◌∷◌, Bool, All, IsTrue, Option, Some, Result, Err, length, option_map, append_assoc, sym, ap, subst, refl}
 use Rattle.std.proofs.lemmas.List.Elements.{All-nil, All-cons, All-head, All-tail, All-same}
 use Rattle.fsb_signal.specs.declared.sample.Sample.{Sample}
 use Rattle.vcd_way.specs.Declarations.{Declaration}
 use Rattle.vcd_way.specs.Ways.{ValueRules, Way}
 use Rattle.vcd_way.specs.Events.{DumpEvent, Sampled, Hole, Resumed, samples_among}
-use Rattle.vcd_way.specs.Answers.{first_fault_by, early_end_by, events_by}
+use Rattle.vcd_way.specs.Answers.{first_fault_by, events_by}
 use Rattle.scope_watch.specs.declared.values.Ended.{Ended}
 use Rattle.vcd_scan.specs.Ending.{early_told}
 use Rattle.scope_wiring.specs.declared.wire.Wire.{Wire}
@@ -14,7 +14,6 @@ use Rattle.scope_wiring.specs.declared.wiring.Wiring.{Wiring}
 use Rattle.scope_way.specs.Wired.{wired_way, wired_lines, AreLawfulWires}
 use Rattle.scope_way.proofs.Picked.{picked_are_lawful}
 use Rattle.scope_check.specs.declared.part.Part.{Part}
-use Rattle.scope_check.specs.Parts.{IsParted}
 use Rattle.scope_watch.specs.declared.stop.ScopeStop.{ScopeStop}
 use Rattle.scope_watch.specs.declared.stop.ScopeStop.TheVariants as stops
 use Rattle.scope_watch.specs.declared.header.Header.{Header}
@@ -22,7 +21,7 @@ use Rattle.scope_watch.specs.declared.values.Sampling.{Sampling}
 use Rattle.scope_watch.specs.Heading.{IsHeaded}
 use Rattle.scope_watch.specs.Watching.{rules_for, IsWatched, IsRead}
 use Rattle.scope_watch.specs.Checking.{IsWiredBy}
-use Rattle.scope_write.specs.Samples.{AreShown, IsSilent, Has64Lines}
+use Rattle.scope_write.specs.Samples.{IsSilent}
 use Rattle.scope_write.specs.Text.{shown_dump}
 use Rattle.scope_silent.specs.Lines.{there_in}
 use Rattle.scope_copy.specs.declared.copier.Copier.{Copier}
