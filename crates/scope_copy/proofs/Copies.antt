@@ -1,5 +1,5 @@
 -- What is copied of a dump, from what was read of it.
-use Rattle.std.proofs.Common.{◌≡◌, ◌∙◌, ℕ, ◌≤◌, ◌^◌, ◌++◌, inl, inr, List, [], ◌∷◌, Bool, All, IsTrue, Option, Some, Result, Err, length, option_map, append_assoc, sym, ap, subst, refl}
+use Rattle.std.proofs.Common.{◌≡◌, ◌∙◌, ℕ, ◌≤◌, ◌^◌, ◌++◌, inl, inr, List, [], ◌∷◌, Bool, All, IsTrue, Some, Result, Err, length, option_map, append_assoc, sym, ap, subst, refl}
 use Rattle.std.proofs.lemmas.List.Elements.{All-nil, All-cons, All-head, All-tail, All-same}
 use Rattle.fsb_signal.specs.declared.sample.Sample.{Sample}
 use Rattle.vcd_way.specs.Declarations.{Declaration}
