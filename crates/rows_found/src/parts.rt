@@ -300,6 +300,7 @@ fn report(alloc: Global, found: &PartsFound, comment: &[&str]) -> Result<String,
         &wiring,
         found,
         None,
+        None,
         &ring,
         &[],
     )?;

@@ -307,6 +307,23 @@ the file ends early: what begins at byte 536 is cut, and what is whole before it
 ";
 
 #[test]
+fn a_comment_behind_the_header_that_says_that_the_dump_was_cut_is_told(rt: HostRuntime) {
+    let alloc = rt.alloc();
+    let clocks = clocks(alloc, 0, 3).expect(&rt, "memory");
+    let comment = "$comment Dump limit (900 bytes) exceeded. $end";
+    let text = format!(in alloc; "{BUS}{END}{IDLE}{clocks}{comment}").expect(&rt, "memory");
+    let came = done(alloc, "check|x.vcd", text.as_str(), "").expect(&rt, "memory");
+    assert_eq!(rt; came.status, 0);
+    let (_, rest) = came.out.as_str().split_once("\n").expect(&rt, "no line");
+    assert_eq!(rt; rest, LIMITED);
+}
+
+const LIMITED: &str = "\
+accepted: 3 of 3 clocks judged
+a comment at byte 532 says that a limit is exceeded: the dump may be cut there
+";
+
+#[test]
 fn a_clock_without_an_edge_leaves_nothing_to_judge(rt: HostRuntime) {
     assert!(rt; matches!(is_no_edge_told(rt.alloc()), Ok(true)));
 }

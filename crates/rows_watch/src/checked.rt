@@ -194,6 +194,38 @@ fn what_is_whole_is_judged_of_a_dump_that_ends_early(rt: HostRuntime) {
     }
 }
 
+/// Values behind a header, and where the first section begins in them that says that a limit is exceeded.
+static LIMITS: [(&'static str, Option<u64>); 4] = [
+    (
+        "\n#0 0a #5 1a $comment Dump Limit (900) exceeded. $end #10 0a",
+        Some(513),
+    ),
+    (
+        "\n#0 0a #5 1a $comment the limit $end $comment exceeded $end",
+        None,
+    ),
+    (
+        "\n#0 0a $comment LIMIT x $end $foo limits are EXCEEDED $end $comment limit exceeded $end",
+        Some(529),
+    ),
+    ("\n#0 0a $comment limit exceeded $end", Some(507)),
+];
+
+#[test]
+fn a_limit_that_is_exceeded_is_told(rt: HostRuntime) {
+    let alloc = rt.alloc();
+    for (values, limit) in LIMITS.iter() {
+        let text = joined(alloc, &[HEADER, values]).ok().expect(&rt, "memory");
+        for size in [1, 7, 4096] {
+            let found = checked(alloc, &text, size, &[]).ok().expect(&rt, "checked");
+            match &found.finding {
+                Finding::Judged(_, told) => assert!(rt; told.limit == *limit, "{values}"),
+                Finding::Refused(_) => assert!(rt; false, "{values}"),
+            }
+        }
+    }
+}
+
 #[test]
 fn headers_tell_variables_and_sections(rt: HostRuntime) {
     let alloc = rt.alloc();

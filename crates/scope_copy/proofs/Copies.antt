@@ -1,12 +1,12 @@
 -- What is copied of a dump, from what was read of it.
-use Rattle.std.proofs.Common.{◌≡◌, ◌∙◌, ℕ, ◌+◌, ◌≤◌, ◌^◌, ◌++◌, ◌⊎◌, inl, inr, List, [], ◌∷◌, Bool, All, IsTrue, Option, Some, None, Result, Ok, Err, length, option_map, append_assoc, sym, ap, subst, refl}
+use Rattle.std.proofs.Common.{◌≡◌, ◌∙◌, ℕ, ◌≤◌, ◌^◌, ◌++◌, inl, inr, List, [], ◌∷◌, Bool, All, IsTrue, Some, Result, Err, length, option_map, append_assoc, sym, ap, subst, refl}
 use Rattle.std.proofs.lemmas.List.Elements.{All-nil, All-cons, All-head, All-tail, All-same}
 use Rattle.fsb_signal.specs.declared.sample.Sample.{Sample}
 use Rattle.vcd_way.specs.Declarations.{Declaration}
 use Rattle.vcd_way.specs.Ways.{ValueRules, Way}
 use Rattle.vcd_way.specs.Events.{DumpEvent, Sampled, Hole, Resumed, samples_among}
-use Rattle.vcd_way.specs.Answers.{first_fault_by, early_end_by, events_by}
-use Rattle.vcd_scan.specs.declared.early.EarlyEnd.{EarlyEnd}
+use Rattle.vcd_way.specs.Answers.{first_fault_by, events_by}
+use Rattle.scope_watch.specs.declared.values.Ended.{Ended}
 use Rattle.vcd_scan.specs.Ending.{early_told}
 use Rattle.scope_wiring.specs.declared.wire.Wire.{Wire}
 use Rattle.scope_wiring.specs.declared.wiring.Choice.{Choice}
@@ -14,7 +14,6 @@ use Rattle.scope_wiring.specs.declared.wiring.Wiring.{Wiring}
 use Rattle.scope_way.specs.Wired.{wired_way, wired_lines, AreLawfulWires}
 use Rattle.scope_way.proofs.Picked.{picked_are_lawful}
 use Rattle.scope_check.specs.declared.part.Part.{Part}
-use Rattle.scope_check.specs.Parts.{IsParted}
 use Rattle.scope_watch.specs.declared.stop.ScopeStop.{ScopeStop}
 use Rattle.scope_watch.specs.declared.stop.ScopeStop.TheVariants as stops
 use Rattle.scope_watch.specs.declared.header.Header.{Header}
@@ -22,7 +21,7 @@ use Rattle.scope_watch.specs.declared.values.Sampling.{Sampling}
 use Rattle.scope_watch.specs.Heading.{IsHeaded}
 use Rattle.scope_watch.specs.Watching.{rules_for, IsWatched, IsRead}
 use Rattle.scope_watch.specs.Checking.{IsWiredBy}
-use Rattle.scope_write.specs.Samples.{AreShown, IsSilent, Has64Lines}
+use Rattle.scope_write.specs.Samples.{IsSilent}
 use Rattle.scope_write.specs.Text.{shown_dump}
 use Rattle.scope_silent.specs.Lines.{there_in}
 use Rattle.scope_copy.specs.declared.copier.Copier.{Copier}
@@ -80,19 +79,19 @@ same-stop a b e = cc
 
 module _ {D : Type 0} (tells : Bool) (holds : D → List ℕ) (faults : D → ℕ) where
   -- what a watcher that writes has put, where a whole text was read: its sink was this one with a header behind what it held
-  pub put-whole : (first last : Copier D) (out mid end : D) (told : CopiedText) (early : Option EarlyEnd) (p : Part)
+  pub put-whole : (first last : Copier D) (out mid end : D) (told : CopiedText) (ended : Ended) (p : Part)
       (there : List Bool) (way : Way (List Declaration)) (text : List ℕ) → first.part ≡ p → first.there ≡ there
-      → first.sink.now ≡ mid → told.early_end ≡ early
-      → (r : IsRead early (λ es. HasCopied tells holds faults first last es) way text)
+      → first.sink.now ≡ mid → told.early_end ≡ ended.early_end
+      → (r : IsRead ended (λ es. HasCopied tells holds faults first last es) way text)
       → told.clocks ≡ length r.shown.samples → (last.sink.ghost_name ≡ first.sink.ghost_name → end ≡ last.sink.now)
       → IsTrue tells → holds mid ≡ holds out ++ shown_dump there []
       → IsPut told p there way text (holds out) (holds end)
-  put-whole first last out mid end told early p there way text e f m ended r clocks same t begun =
+  put-whole first last out mid end told ended p there way text e f m same_end r clocks same t begun =
       let header : holds first.sink.now ≡ holds out ++ shown_dump first.there [] =
       ap holds m ∙ begun ∙ ap (λ x. holds out ++ shown_dump x []) (sym f) in
       let put : IsPut told first.part first.there way text (holds out) (holds end) = record {
         none = r.none;
-        early_end = ap (λ x. option_map early_told x) ended ∙ r.early_end;
+        early_end = ap (λ x. option_map early_told x) same_end ∙ r.early_end;
         samples = r.shown.samples;
         of_part = record {
           before = r.shown.parted.before;

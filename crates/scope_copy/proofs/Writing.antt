@@ -1,5 +1,5 @@
 -- What a watcher that writes has written, after one more event.
-use Rattle.std.proofs.Common.{◌≡◌, ◌∙◌, ap, ℕ, zero, suc, ◌+◌, ◌<◌, ◌≤◌, ◌^◌, ◌++◌, ◌∷◌, [], List, Bool, Option, Result, Ok, Err, All, IsTrue, OnOk, length, append-nil, length-append, arith, subst, sym, refl}
+use Rattle.std.proofs.Common.{◌≡◌, ◌∙◌, ap, ℕ, ◌<◌, ◌≤◌, ◌^◌, ◌++◌, ◌∷◌, [], List, Bool, Result, Ok, Err, IsTrue, OnOk, length, append-nil, length-append, arith, subst, sym, refl}
 use Rattle.std.proofs.lemmas.List.Elements.{All-nil, All-push}
 use Rattle.fsb_io.specs.Faults.{Rose}
 use Rattle.fsb_signal.specs.declared.sample.Sample.{Sample}

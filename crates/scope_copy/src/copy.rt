@@ -82,10 +82,10 @@ fn copy_values<S: Source, D: Sink>(
         Err(Failed) => return Err(ScopeStop::WriteFault),
     };
     let mut copier = Copier::new(out, writer, there, part);
-    let early_end = watch_values(alloc, source, room, behind, wires, sampling, &mut copier)?;
+    let ended = watch_values(alloc, source, room, behind, wires, sampling, &mut copier)?;
     Ok(CopiedText {
         clocks: copier.parting.count(),
-        early_end,
+        early_end: ended.early_end,
     })
 }
 

@@ -1,7 +1,7 @@
 //! What was judged and found.
 
 use crate::lines::put_home;
-use crate::notices::{put_cut_comment, put_lost_levels, put_traffic};
+use crate::notices::{put_cut_comment, put_limit_behind, put_lost_levels, put_traffic};
 use crate::parts::{put_behind, put_holes, put_parts, put_starts};
 use crate::reasons::put_reasons;
 use crate::rules::{put_gist, title_of};
@@ -36,6 +36,7 @@ pub fn check_text(
     wiring: &Wiring,
     found: &PartsFound,
     early_end: Option<EarlyEnd>,
+    limit: Option<u64>,
     last: &Ring,
     reasons: &[Sentence],
 ) -> Result<Vec<u8>, AllocError> {
@@ -48,6 +49,7 @@ pub fn check_text(
     put_unread_data(&mut text, wiring)?;
     put_judged(&mut text, alloc, found, scale)?;
     put_early_end(&mut text, early_end)?;
+    put_limit_behind(&mut text, limit)?;
     put_cut_comment(&mut text, alloc, remarks)?;
     put_other_names(&mut text, &heading, &settled, wiring.home)?;
     Ok(text)

@@ -8,6 +8,7 @@ use scope_parts::{PartFound, PartsFound};
 use scope_ring::Ring;
 use std::alloc::{AllocError, Global};
 use vcd_header::Section;
+use vcd_scan::has_part;
 
 /// Appends that every line is asserted at first, or else that a dump may begin in traffic, where that is so of one that
 /// is judged from its first clock with levels on.
@@ -188,6 +189,21 @@ pub(crate) fn put_cut_comment(
     Ok(())
 }
 
+/// Appends where the first comment behind the header begins that says that a limit is exceeded.
+pub(crate) fn put_limit_behind(text: &mut Vec<u8>, limit: Option<u64>) -> Result<(), AllocError> {
+    match limit {
+        None => Ok(()),
+        Some(place) => {
+            put(text, "a comment at byte ")?;
+            put_number(text, place)?;
+            put(
+                text,
+                " says that a limit is exceeded: the dump may be cut there\n",
+            )
+        }
+    }
+}
+
 fn put_limit(text: &mut Vec<u8>, alloc: Global, words: &[Vec<u8>]) -> Result<(), AllocError> {
     if has_word(words, b"limit") && has_word(words, b"exceeded") {
         put(text, "the file says in a comment:")?;
@@ -201,22 +217,6 @@ fn put_limit(text: &mut Vec<u8>, alloc: Global, words: &[Vec<u8>]) -> Result<(),
 // Whether one of the words has this in it, in letters of either case.
 fn has_word(words: &[Vec<u8>], wanted: &[u8]) -> bool {
     words.iter().any(|word| has_part(word, wanted))
-}
-
-fn has_part(word: &[u8], wanted: &[u8]) -> bool {
-    for place in 0..word.len() {
-        if begins_with(&word[place..], wanted) {
-            return true;
-        }
-    }
-    false
-}
-
-fn begins_with(text: &[u8], wanted: &[u8]) -> bool {
-    match text.get(..wanted.len()) {
-        None => false,
-        Some(front) => front.eq_ignore_ascii_case(wanted),
-    }
 }
 
 fn put_words(text: &mut Vec<u8>, words: &[Vec<u8>]) -> Result<(), AllocError> {

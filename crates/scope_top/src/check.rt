@@ -198,6 +198,7 @@ fn found_text(
                 wiring,
                 &told.judged,
                 told.early_end,
+                told.limit,
                 &told.last,
                 reasons,
             )?;

@@ -1,12 +1,13 @@
 -- What is found of a dump, from what was read of it.
-use Rattle.std.proofs.Common.{◌≡◌, ◌≤◌, ℕ, ◌⊎◌, inl, inr, List, [], ◌++◌, length, Option, None, Result, Ok, Err, IfOk, IfErr, option_map, refl, sym, ap, subst, ◌∙◌, append_assoc, append-nil}
+use Rattle.std.proofs.Common.{◌≡◌, ◌≤◌, ℕ, ◌⊎◌, inl, inr, List, [], ◌++◌, length, None, Result, Ok, Err, IfOk, IfErr, option_map, refl, sym, ap, subst, ◌∙◌, append_assoc, append-nil}
 use Rattle.fsb_signal.specs.declared.marks.Marks.{Marks}
 use Rattle.vcd_grammar.specs.Tokens.{tokens_so_far, tokens_from, open_run, ended_at}
 use Rattle.vcd_way.specs.Declarations.{Declaration}
 use Rattle.vcd_way.specs.Ways.{ValueRules, Way}
 use Rattle.vcd_way.specs.Answers.{first_fault_by, early_end_by, events_by}
 use Rattle.vcd_way.specs.Events.{DumpEvent, samples_among}
-use Rattle.vcd_scan.specs.declared.early.EarlyEnd.{EarlyEnd}
+use Rattle.scope_watch.specs.declared.values.Ended.{Ended}
+use Rattle.scope_watch.specs.Limit.{IsLimit}
 use Rattle.vcd_scan.specs.Ending.{early_told}
 use Rattle.scope_ring.specs.Ring.{FedFirst}
 use Rattle.vcd_way.proofs.Interface.{tokens_longer}
@@ -64,7 +65,7 @@ declares-of m b text left h = by h.stands.place
 -- ---- stops
 
 -- what a reading that stopped so answers
-abbrev pub watched : ScopeStop → Result (Option EarlyEnd) ScopeStop
+abbrev pub watched : ScopeStop → Result Ended ScopeStop
 watched stop = Err stop
 
 pub judged-stop : (stop : ScopeStop) (seen : List DumpEvent → Type 0) (plan : Plan) (marks : Marks)
@@ -79,19 +80,20 @@ judged-stop stops.Memory seen plan marks way text never h = tt
 
 -- what a judge tells at the end of a text
 pub judged-told : (answer : Result JudgedText ScopeStop) (plan : Plan) (marks : Marks) (way : Way (List Declaration))
-    (text : List ℕ) (early : Option EarlyEnd) → first_fault_by way text ≡ None
-    → option_map early_told early ≡ early_end_by way text
+    (text : List ℕ) (ended : Ended) → first_fault_by way text ≡ None
+    → option_map early_told ended.early_end ≡ early_end_by way text → IsLimit way text ended.limit
     → IfOk answer (λ told. IsJudgedInParts told.judged plan marks (events_by way text)
-    × (told.early_end ≡ early) × FedFirst told.last (samples_among (events_by way text)))
+    × (told.early_end ≡ ended.early_end) × (told.limit ≡ ended.limit) × FedFirst told.last (samples_among (events_by way text)))
     → IfErr answer (λ stop. stop ≡ stops.TooMany) → IfErr answer (λ _. most_counted ≤ length (events_by way text))
     → IsJudgedAs answer plan marks way text
-judged-told (Ok told) plan marks way text early none end h e many = record {
+judged-told (Ok told) plan marks way text ended none end limit h e many = record {
   none = none;
   found = h.0;
   early_end = ap (option_map early_told) h.1 ∙ end;
-  last = h.2;
+  limit = subst (λ x. IsLimit way text x) (sym h.2) limit;
+  last = h.3;
 }
-judged-told (Err stop) plan marks way text early none end h e many =
+judged-told (Err stop) plan marks way text ended none end limit h e many =
     subst (λ x. IsJudgedAs (Err x) plan marks way text) (sym e) many
 
 pub not-read : (answer : Result JudgedText ScopeStop) → IfErr answer (λ stop. stop ≡ stops.TooMany)

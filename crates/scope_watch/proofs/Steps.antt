@@ -1,5 +1,5 @@
 -- One more piece of the values.
-use Rattle.std.proofs.Common.{◌≡◌, ℕ, true, false, inl, inr, List, [], ◌++◌, length, Option, Some, None, option_map, Result, Ok, Err}
+use Rattle.std.proofs.Common.{◌≡◌, ℕ, true, inl, inr, List, [], ◌++◌, Option, Some, None, option_map, Result, Ok, Err}
 use Rattle.std.proofs.Common.{refl, sym, ap, subst, ◌∙◌, append_assoc, append-nil}
 use Rattle.vcd_grammar.specs.declared.fault.VcdFault.{VcdFault}
 use Rattle.vcd_way.specs.Ways.{ValueRules}
@@ -10,7 +10,8 @@ use Rattle.vcd_scan.specs.declared.stop.ScanStop.TheVariants as scans
 use Rattle.vcd_scan.specs.Wired.{Wiring}
 use Rattle.vcd_scan.specs.Standing.{Stands, Keeps, Answers, Appends, refusal_of, refusal_in, rules_of, wiring_of, events_of}
 use Rattle.vcd_scan.specs.declared.early.EarlyEnd.{EarlyEnd}
-use Rattle.vcd_scan.specs.Standing.{tokens_after, known_after, told_after}
+use Rattle.vcd_scan.specs.Standing.{tokens_after, last_tokens_after, known_after, told_after, limit_after}
+use Rattle.scope_watch.specs.declared.values.Ended.{Ended}
 use Rattle.vcd_scan.specs.Ending.{early_told, early_end_after, fault_to_end, told_to_end}
 use Rattle.vcd_course.specs.declared.course.Course.{Course}
 use Rattle.vcd_course.specs.declared.course.CourseRules.{CourseRules}
@@ -130,14 +131,16 @@ seen-fault before after m w old new head fed piece fault result s k stands refus
     }
 
 -- at the end of a text
-pub ends-well : (early : Option EarlyEnd) (before after : List DumpEvent → Type 0) (m : ValueRules) (w : Wiring)
+pub ends-well : (ended : Ended) (before after : List DumpEvent → Type 0) (m : ValueRules) (w : Wiring)
     (old : ValueReader) (head fed : List ℕ) → Seen before m w old head fed
     → fault_to_end (rules_of old) (wiring_of old) head fed ≡ None
-    → option_map early_told early ≡ early_end_after (rules_of old) (wiring_of old) head fed
-    → after (told_to_end m w head fed) → EndsWell early after m w head fed
-ends-well early before after m w old head fed s answer ended shown = record {
+    → option_map early_told ended.early_end ≡ early_end_after (rules_of old) (wiring_of old) head fed
+    → ended.limit ≡ limit_after (rules_of old) (wiring_of old) (last_tokens_after head fed)
+    → after (told_to_end m w head fed) → EndsWell ended after m w head fed
+ends-well ended before after m w old head fed s answer early limit shown = record {
   none = (λ i. fault_to_end (sym s.rules i) (sym s.wiring i) head fed) ∙ answer;
-  early_end = ended ∙ (λ i. early_end_after (s.rules i) (s.wiring i) head fed);
+  early_end = early ∙ (λ i. early_end_after (s.rules i) (s.wiring i) head fed);
+  limit = limit ∙ (λ i. limit_after (s.rules i) (s.wiring i) (last_tokens_after head fed));
   shown = shown;
 }
 

@@ -1,8 +1,8 @@
 -- Stops of a source and of a watcher.
-use Rattle.std.proofs.Common.{◌≡◌, ◌≤◌, ◌-◌, ℕ, List, ◌++◌, length, Option, Result, Err, refl, ap, subst, arith, length-append}
+use Rattle.std.proofs.Common.{◌≡◌, ◌≤◌, ◌-◌, ℕ, List, ◌++◌, length, Result, Err, refl, ap, subst, arith, length-append}
 use Rattle.vcd_way.specs.Ways.{ValueRules}
 use Rattle.vcd_way.specs.Events.{DumpEvent}
-use Rattle.vcd_scan.specs.declared.early.EarlyEnd.{EarlyEnd}
+use Rattle.scope_watch.specs.declared.values.Ended.{Ended}
 use Rattle.vcd_scan.specs.Wired.{Wiring}
 use Rattle.vcd_scan.specs.Firsts.{IsFirstOf}
 use Rattle.vcd_scan.specs.Ending.{told_to_end}
@@ -33,7 +33,7 @@ finishes-watcher stops.WriteFault seen most m w head fed h many = tt
 finishes-watcher stops.Memory seen most m w head fed h many = tt
 
 -- an answer that is one stop is no other
-abbrev pub answered : ScopeStop → Result (Option EarlyEnd) ScopeStop
+abbrev pub answered : ScopeStop → Result Ended ScopeStop
 answered stop = Err stop
 
 pub same-stop : (a b : ScopeStop) → answered a ≡ answered b → a ≡ b

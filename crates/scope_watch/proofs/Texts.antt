@@ -1,26 +1,30 @@
 -- What a reader of values answers is what the whole text tells.
 use Rattle.std.proofs.Common.{◌≡◌, Bool, true, false, not, ◌&&◌, is_some, option_map, Option, ◌<◌, ◌≤◌, ◌^◌, ℕ, ◌⊎◌, inl, inr, if◌then◌else◌, List, [], ◌∷◌, ◌++◌, length, Some, None, Result, Ok, Err}
-use Rattle.std.proofs.Common.{refl, sym, ap, subst, ◌∙◌, append_assoc}
+use Rattle.std.proofs.Common.{refl, sym, ap, subst, ◌∙◌, append_assoc, append-nil, drop}
+use Rattle.std.proofs.Math.Seq.{drop-append_seam}
 use Rattle.vcd_grammar.specs.declared.fault.VcdFault.{VcdFault}
-use Rattle.vcd_grammar.specs.Tokens.{Token, tokens_so_far, tokens_of, ended_at}
+use Rattle.vcd_grammar.specs.Tokens.{Token, tokens_so_far, tokens_of, ended_at, open_run}
 use Rattle.vcd_way.specs.Declarations.{Declaration}
 use Rattle.vcd_way.specs.Ways.{ValueRules, Way}
 use Rattle.vcd_way.specs.Events.{DumpEvent}
-use Rattle.vcd_way.specs.Answers.{EarlyEnd, fault_so_far_by, first_fault_by, early_end_by, events_by}
+use Rattle.vcd_way.proofs.Interface.{tokens_longer}
+use Rattle.vcd_scan.specs.Limits.{first_limit}
+use Rattle.vcd_way.specs.Answers.{EarlyEnd, state_of, fault_so_far_by, first_fault_by, early_end_by, events_by}
 use Rattle.vcd_scan.specs.Wired.{Wiring}
-use Rattle.vcd_scan.specs.declared.early.EarlyEnd.{EarlyEnd as EndedEarly}
-use Rattle.vcd_scan.specs.Standing.{known_after, tokens_after, last_tokens_after, told_after, all_told_after, fault_behind}
+use Rattle.vcd_scan.specs.Standing.{known_after, tokens_after, last_tokens_after, told_after, all_told_after, fault_behind, limit_after}
 use Rattle.vcd_scan.specs.Ending.{ends_early_after, early_end_after, fault_to_end, told_to_end}
 use Rattle.vcd_joined.specs.Choosing.{Choice, choosing, IsTaken, of_values}
-use Rattle.vcd_joined.specs.Behind.{gathered_in, IsHeader}
+use Rattle.vcd_joined.specs.Behind.{gathered_in, IsHeader, behind}
 use Rattle.vcd_joined.specs.Texts.{IsHeadWith, IsWholeWith}
-use Rattle.vcd_way.specs.Steps.{is_past_header_at, open_from, hides_stamp}
+use Rattle.vcd_way.specs.Steps.{DumpState, is_past_header_at, open_from, hides_stamp}
 use Rattle.vcd_header.specs.Gathering.{FitsRules, header_fault_so_far, header_fault_of}
 use Rattle.scope_watch.specs.declared.header.Behind.{Behind}
 use Rattle.scope_watch.specs.declared.header.Begun.{Begun}
 use Rattle.scope_watch.specs.declared.stop.ScopeStop.{ScopeStop}
 use Rattle.scope_watch.specs.declared.stop.ScopeStop.TheVariants as stops
 use Rattle.scope_watch.specs.declared.values.Sampling.{Sampling}
+use Rattle.scope_watch.specs.declared.values.Ended.{Ended}
+use Rattle.scope_watch.specs.Limit.{IsLimit}
 use Rattle.scope_watch.specs.Heading.{StandsBehind, IsInside, IsWhole, ShowsInHeader, IsHeaderFault, IsReadUp, IsHeaded, any_header}
 use Rattle.scope_watch.specs.Watching.{rules_for, EndsBadly, Finishes, IsWatched}
 
@@ -42,6 +46,41 @@ pub record Laws : Type 0 where
       → events_by (choosing c m) text ≡ all_told_after (of_values m) w []
   pub stays : (way : Way (List Declaration)) (fed more : List ℕ) (f : VcdFault) → fault_so_far_by way fed ≡ Some f
       → first_fault_by way (fed ++ more) ≡ Some f
+  pub gathered : (c : Choice) (m : ValueRules) (ts : List Token) → IsHeader m ts
+      → state_of (choosing c m) ts ≡ gathered_in m ts
+  pub goes_on : (c : Choice) (m : ValueRules) (w : Wiring) (hs ts : List Token) → IsHeader m hs
+      → IsTaken c (gathered_in m hs).header w
+      → state_of (choosing c m) (hs ++ ts) ≡ behind (gathered_in m hs) (known_after (of_values m) w ts)
+
+-- ---- the limit that is told
+
+-- the sections behind a header are those that a reader of values reads past
+limit-behind : (laws : Laws) (c : Choice) (m : ValueRules) (w : Wiring) (text : List ℕ) (hs ts : List Token)
+    (limit : Option ℕ) → IsHeader m hs → IsTaken c (gathered_in m hs).header w → tokens_of text ≡ hs ++ ts
+    → limit ≡ limit_after (of_values m) w ts → IsLimit (choosing c m) text limit
+limit-behind laws c m w text hs ts limit h k e f =
+    let first = (gathered_in m hs).remarks in
+    let more = (known_after (of_values m) w ts).remarks in
+    let all : (state_of (choosing c m) (tokens_of text)).remarks ≡ first ++ more =
+    ap (λ x. (state_of (choosing c m) x).remarks) e
+    ∙ ap (λ (s : DumpState (List Declaration)). s.remarks) (laws.goes_on c m w hs ts h k) in
+    let front : (state_of (choosing c m) hs).remarks ≡ first =
+    ap (λ (s : DumpState (List Declaration)). s.remarks) (laws.gathered c m hs h) in
+    record {
+      header = hs;
+      more = ts;
+      whole = e;
+      is_header = h;
+      limit_is = f ∙ ap first_limit (sym (drop-append_seam first more))
+          ∙ (λ i. first_limit (drop (length (sym front i)) (sym all i)));
+    }
+
+-- the tokens behind a header
+tokens-behind : (head fed : List ℕ) → tokens_of (head ++ fed) ≡ tokens_so_far head ++ last_tokens_after head fed
+tokens-behind head fed =
+    let last = ended_at (length (head ++ fed)) (open_run (head ++ fed)) in
+    ap (λ x. x ++ last) (tokens_longer head fed)
+    ∙ append_assoc (tokens_so_far head) (tokens_after head fed) last
 
 -- ---- behind a header
 
@@ -56,13 +95,15 @@ fault-inside laws c s w head fed fault h (inl shown) =
 fault-inside laws c s w head fed fault h (inr e) = laws.fault c (rules_for s) w head fed h ∙ e
 
 inside : (laws : Laws) (c : Choice) (s : Sampling) (w : Wiring) (head fed : List ℕ) (seen : List DumpEvent → Type 0) (most : ℕ)
-    (result : Result (Option EndedEarly) ScopeStop) → IsHeadWith c (rules_for s) w head
+    (result : Result Ended ScopeStop) → IsHeadWith c (rules_for s) w head
     → (result ≡ Err stops.TooLong → 2 ^ 40 < length (head ++ fed))
     → Finishes result seen most (of_values (rules_for s)) w head fed
     → IsWatched result seen most (choosing c (rules_for s)) (head ++ fed)
-inside laws c s w head fed seen most (Ok early) h long f = record {
+inside laws c s w head fed seen most (Ok ended) h long f = record {
   none = laws.fault c (rules_for s) w head fed h ∙ f.none;
   early_end = f.early_end ∙ sym (laws.early c (rules_for s) w head fed h);
+  limit = limit-behind laws c (rules_for s) w (head ++ fed) (tokens_so_far head) (last_tokens_after head fed) ended.limit
+      h.header h.taken (tokens-behind head fed) f.limit;
   shown = subst (λ x. seen x) (sym (laws.events c (rules_for s) w head fed h)) f.shown;
 }
 inside laws c s w head fed seen most (Err (stops.Bad fault)) h long f = fault-inside laws c s w head fed fault h f
@@ -121,13 +162,15 @@ no-bad m w fault (inl shown) = no-fault m w shown.some shown.more fault shown.wh
 no-bad m w fault (inr e) = no-end m w fault e
 
 whole : (laws : Laws) (c : Choice) (s : Sampling) (w : Wiring) (text : List ℕ) (seen : List DumpEvent → Type 0) (most : ℕ)
-    (result : Result (Option EndedEarly) ScopeStop) → IsWholeWith c (rules_for s) w text
+    (result : Result Ended ScopeStop) → IsWholeWith c (rules_for s) w text
     → (result ≡ Err stops.TooLong → 2 ^ 40 < length text)
     → Finishes result seen most (of_values (rules_for s)) w [] []
     → IsWatched result seen most (choosing c (rules_for s)) text
-whole laws c s w text seen most (Ok early) h long f = record {
+whole laws c s w text seen most (Ok ended) h long f = record {
   none = laws.none c (rules_for s) text h.header;
   early_end = f.early_end ∙ ended-none (of_values (rules_for s)) w ∙ sym (laws.well c (rules_for s) text h.header);
+  limit = limit-behind laws c (rules_for s) w text (tokens_of text) [] ended.limit h.header h.taken
+      (sym (append-nil (tokens_of text))) (f.limit ∙ ap (limit_after (of_values (rules_for s)) w) none-last);
   shown = subst (λ x. seen x) (told-none (of_values (rules_for s)) w ∙ sym (laws.all c (rules_for s) w text h)) f.shown;
 }
 whole laws c s w text seen most (Err (stops.Bad fault)) h long f = absurd (no-bad (of_values (rules_for s)) w fault f)
@@ -142,7 +185,7 @@ whole laws c s w text seen most (Err stops.Memory) h long f = tt
 
 -- what is answered of the values is right of the whole text
 pub watched : (laws : Laws) (c : Choice) (s : Sampling) (w : Wiring) (b : Behind) (ts : List Token) (text left : List ℕ)
-    (seen : List DumpEvent → Type 0) (most : ℕ) (result : Result (Option EndedEarly) ScopeStop)
+    (seen : List DumpEvent → Type 0) (most : ℕ) (result : Result Ended ScopeStop)
     → (at : StandsBehind (rules_for s) b ts text left) → IsTaken c (gathered_in (rules_for s) ts).header w
     → (result ≡ Err stops.TooLong → 2 ^ 40 < length text)
     → Finishes result seen most (of_values (rules_for s)) w at.head (b.rest.items ++ left)

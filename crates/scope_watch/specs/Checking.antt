@@ -28,14 +28,16 @@ use Rattle.scope_watch.specs.declared.check.JudgedText.{JudgedText}
 use Rattle.scope_watch.specs.declared.check.Finding.{Finding}
 use Rattle.scope_watch.specs.declared.check.Finding.TheVariants as findings
 use Rattle.scope_watch.specs.Heading.{Shows, IsHeaderFault}
+use Rattle.scope_watch.specs.Limit.{IsLimit}
 use Rattle.scope_watch.specs.Watching.{rules_for}
 
 -- a whole text, read in a way, has no fault; this is found of its events, parted so, with these marks, and this is its
--- early end, if it has one; these samples were fed to the ring one after another from clock 0 on
+-- early end and the limit that it tells, if it has one; these samples were fed to the ring one after another from clock 0 on
 pub record IsJudgedText (told : JudgedText) (plan : Plan) (marks : Marks) (way : Way (List Declaration)) (text : List ℕ) : Type 0 where
   pub none : first_fault_by way text ≡ None
   pub found : IsJudgedInParts told.judged plan marks (events_by way text)
   pub early_end : option_map early_told told.early_end ≡ early_end_by way text
+  pub limit : IsLimit way text told.limit
   pub last : FedFirst told.last (samples_among (events_by way text))
 
 -- what is judged of a whole text, read in a way and parted so, with these marks; nothing is written

@@ -1,5 +1,6 @@
 pub mod Stops
 pub mod Heading
 pub mod Buses
+pub mod Limit
 pub mod Watching
 pub mod Checking

@@ -21,7 +21,7 @@ use crate::begin::read_header;
 use crate::bus::{Picked, marks_of, pick_bus};
 use crate::header::{Behind, Header};
 use crate::stop::{ScopeStop, WatchStop};
-use crate::values::{Sampling, watch_values};
+use crate::values::{Ended, Sampling, watch_values};
 use crate::watcher::EventWatcher;
 use fsb_io::Source;
 use fsb_signal::Marks;
@@ -39,6 +39,8 @@ pub struct JudgedText {
     pub judged: PartsFound,
     /// The end of a dump that ends early: what is whole before it was judged.
     pub early_end: Option<EarlyEnd>,
+    /// Where the first section behind the header begins that says that a limit is exceeded.
+    pub limit: Option<u64>,
     /// The last samples up to two clocks behind the first broken one; without one, up to the end.
     pub last: Ring,
 }
@@ -118,11 +120,11 @@ impl EventWatcher for Judge {
 }
 
 /// What was judged of a dump with this end.
-fn told_of(judge: Judge, early_end: Option<EarlyEnd>) -> Result<JudgedText, ScopeStop>
+fn told_of(judge: Judge, ended: Ended) -> Result<JudgedText, ScopeStop>
     ensures told { (p : Plan) (m : Marks) (es : List DumpEvent) → Stands judge.judging p m es →
         FedFirst judge.last (samples_among es) →
         IfOk result (λ told. IsJudgedInParts told.judged p m es
-        × (told.early_end ≡ early_end) × FedFirst told.last (samples_among es)) }
+        × (told.early_end ≡ ended.early_end) × (told.limit ≡ ended.limit) × FedFirst told.last (samples_among es)) }
     ensures stop { IfErr result (λ stop. stop ≡ ScopeStop.TooMany) }
     ensures many { (p : Plan) (m : Marks) (es : List DumpEvent) → Stands judge.judging p m es →
         IfErr result (λ _. most_counted ≤ length es) }
@@ -131,7 +133,8 @@ fn told_of(judge: Judge, early_end: Option<EarlyEnd>) -> Result<JudgedText, Scop
     match judge.judging.found() {
         Ok(judged) => Ok(JudgedText {
             judged,
-            early_end,
+            early_end: ended.early_end,
+            limit: ended.limit,
             last,
         }),
         Err(TooMany) => Err(ScopeStop::TooMany),
@@ -170,8 +173,8 @@ pub fn judge_values<S: Source>(
         marks,
         last,
     };
-    let early_end = watch_values(alloc, source, room, behind, wires, sampling, &mut judge)?;
-    told_of(judge, early_end)
+    let ended = watch_values(alloc, source, room, behind, wires, sampling, &mut judge)?;
+    told_of(judge, ended)
 }
 
 /// Begins the source under the name, picks the wires of the bus in its header, and judges their values part by part. Where

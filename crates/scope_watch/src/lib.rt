@@ -14,7 +14,7 @@ pub use bus::{Bus, Picked, marks_of, pick_bus};
 pub use check::{Checked, Finding, JudgedText, check_dump, judge_values};
 pub use header::{Begun, Behind, Header};
 pub use stop::{ScopeStop, WatchStop};
-pub use values::{Sampling, watch_values};
+pub use values::{Ended, Sampling, watch_values};
 pub use watcher::EventWatcher;
 
 mod begin;

@@ -21,7 +21,9 @@ use crate::watcher::EventWatcher;
 use fsb_io::Source;
 use std::alloc::Global;
 use vcd_course::{Course, CourseEvent, CourseRules};
-use vcd_joined::{headers_may_be_all, texts_end_as_the_readers_say};
+use vcd_joined::{
+    a_header_is_gathered, a_value_reader_goes_on, headers_may_be_all, texts_end_as_the_readers_say,
+};
 use vcd_scan::{EarlyEnd, ScanRules, ScanStop, ValueReader, Wires, first_events_stay};
 use vcd_way::Edge;
 
@@ -44,8 +46,18 @@ pub struct Sampling {
     pub late: Vec<u8>,
 }
 
+/// What the end of a dump tells.
+#[derive(Clone, Copy, Debug, PartialEq, Eq)]
+pub struct Ended {
+    /// The end of a dump that ends early.
+    pub early_end: Option<EarlyEnd>,
+    /// Where the first section behind the header begins that says that a limit is exceeded.
+    pub limit: Option<u64>,
+}
+
 /// Reads on behind a header to the end of the source, in pieces that fit the room, and shows the watcher each event
-/// once, in its order. A fault is told once the source was read to its end. Of a dump that ends early this is told.
+/// once, in its order. A fault is told once the source was read to its end. Of a dump that ends early this is told, and where it says
+/// that a limit is exceeded.
 ///
 /// Of a watcher that stops, or behind a fault, the events that were shown are the first ones.
 pub fn watch_values<S: Source, W: EventWatcher>(
@@ -56,7 +68,7 @@ pub fn watch_values<S: Source, W: EventWatcher>(
     wires: Wires,
     sampling: Sampling,
     watcher: &mut W,
-) -> Result<Option<EarlyEnd>, ScopeStop>
+) -> Result<Ended, ScopeStop>
     requires some { 0 < length room.old }
     requires begun { IsReady behind }
     requires ready { (first : W) × (h : List DumpEvent) × W.has_seen first watcher.old h }
@@ -75,6 +87,8 @@ pub fn watch_values<S: Source, W: EventWatcher>(
     ensures name_stays { IsTrue S.tells → S.begun_as source.new ≡ S.begun_as source.old }
     ensures holds_stays { IsTrue S.tells → S.holds source.new ≡ S.holds source.old }
 {
+    a_header_is_gathered();
+    a_value_reader_goes_on();
     texts_end_as_the_readers_say();
     headers_may_be_all();
     faults_stay();
@@ -96,7 +110,7 @@ fn watch_left<S: Source, W: EventWatcher>(
     reader: &mut ValueReader,
     taken: u64,
     watcher: &mut W,
-) -> Result<Option<EarlyEnd>, ScopeStop>
+) -> Result<Ended, ScopeStop>
     requires some { 0 < length room.old }
     requires at { (first : W) × (h : List DumpEvent) × (m : ValueRules) × (w : Wiring)
         × (head fed : List ℕ)
@@ -165,10 +179,7 @@ fn take<W: EventWatcher>(
 }
 
 /// Reads the end, and shows the last events.
-fn end<W: EventWatcher>(
-    reader: &mut ValueReader,
-    watcher: &mut W,
-) -> Result<Option<EarlyEnd>, ScopeStop>
+fn end<W: EventWatcher>(reader: &mut ValueReader, watcher: &mut W) -> Result<Ended, ScopeStop>
     requires { (first : W) × (h : List DumpEvent) × (m : ValueRules) × (w : Wiring)
         × (head fed : List ℕ)
         × Seen (λ es. W.has_seen first watcher.old (h ++ es)) m w reader.old head fed
@@ -186,8 +197,9 @@ fn end<W: EventWatcher>(
 {
     match reader.finish() {
         Ok(early_end) => {
+            let limit = reader.limit();
             show(reader, watcher)?;
-            Ok(early_end)
+            Ok(Ended { early_end, limit })
         }
         Err(ScanStop::Memory) => Err(ScopeStop::Memory),
         Err(ScanStop::Bad(fault)) => Err(ScopeStop::Bad(fault)),

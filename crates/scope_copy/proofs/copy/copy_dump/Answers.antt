@@ -1,4 +1,4 @@
-use Rattle.std.proofs.Common.{rules, ◌≡◌, ◌∙◌, List, Bool, Err, refl, ap, subst, sym}
+use Rattle.std.proofs.Common.{rules, ◌≡◌, ◌∙◌, Err, refl, ap, subst, sym}
 use Rattle.vcd_header.specs.Gathering.{FitsRules}
 use Rattle.vcd_joined.specs.Picking.{picking}
 use Rattle.scope_way.specs.Wired.{wired_lines}

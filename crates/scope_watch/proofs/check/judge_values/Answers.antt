@@ -9,21 +9,21 @@ watch_values-requires-clause-ready g c =
     let judge : Judge = record { judging = c.new-judging.result; plan = c.args.plan; marks = c.args.marks; last = c.in_ok-last.last } in
     (judge, [], (c.new-judging.ensures, fed-none _ c.in_ok-last.ensures))
 
-pub returns-in_err-early_end-clause-judged : goal.returns-in_err-early_end-clause-judged
-returns-in_err-early_end-clause-judged g c = λ tells choice ts text at taken.
+pub returns-in_err-ended-clause-judged : goal.returns-in_err-ended-clause-judged
+returns-in_err-ended-clause-judged g c = λ tells choice ts text at taken.
     let judge : Judge = record { judging = c.new-judging.result; plan = c.args.plan; marks = c.args.marks; last = c.in_ok-last.last } in
-    let same : c.from_residual-in_err-early_end.result ≡ Err c.in_err-early_end.field-0.0 = search rules in
+    let same : c.from_residual-in_err-ended.result ≡ Err c.in_err-ended.field-0.0 = search rules in
     rw same (judged-stop _ _ c.args.plan c.args.marks _ text
-    (λ e. c.in_err-early_end.ensures.write_fault e judge [] (c.new-judging.ensures, fed-none _ c.in_ok-last.ensures))
-    (c.in_err-early_end.ensures.read tells judge [] choice ts text
+    (λ e. c.in_err-ended.ensures.write_fault e judge [] (c.new-judging.ensures, fed-none _ c.in_ok-last.ensures))
+    (c.in_err-ended.ensures.read tells judge [] choice ts text
     (c.new-judging.ensures, fed-none _ c.in_ok-last.ensures) at taken))
 
 pub returns-clause-judged : goal.returns-clause-judged
 returns-clause-judged g c = λ tells choice ts text at taken.
     let judge : Judge = record { judging = c.new-judging.result; plan = c.args.plan; marks = c.args.marks; last = c.in_ok-last.last } in
-    let read = c.in_ok-early_end.ensures.read tells judge [] choice ts text
+    let read = c.in_ok-ended.ensures.read tells judge [] choice ts text
     (c.new-judging.ensures, fed-none _ c.in_ok-last.ensures) at taken in
-    judged-told c.told_of.result c.args.plan c.args.marks _ text c.in_ok-early_end.early_end read.none read.early_end
+    judged-told c.told_of.result c.args.plan c.args.marks _ text c.in_ok-ended.ended read.none read.early_end read.limit
     (c.told_of.ensures.told c.args.plan c.args.marks _ read.shown.0 read.shown.1) c.told_of.ensures.stop
     (c.told_of.ensures.many c.args.plan c.args.marks _ read.shown.0)
 

@@ -1,4 +1,4 @@
-use Rattle.std.proofs.Common.{rules, ◌≡◌, ◌≤◌, ◌++◌, length, Err, refl, ap, subst}
+use Rattle.std.proofs.Common.{rules, ◌≡◌, ◌≤◌, ◌++◌, length, Err, refl, ap, subst, ◌∙◌}
 use Rattle.vcd_scan.specs.Standing.{tokens_after, told_after}
 use Rattle.vcd_scan.specs.Ending.{told_to_end}
 use Rattle.scope_watch.specs.Stops.{stop_of}
@@ -14,6 +14,7 @@ returns-in_ok-show-in-Ok-clause-finishes g c = λ first h m w head fed s.
     let last = c.in-Ok.ensures in
     let none = not-refused _ _ _ refl last.again in
     ends-well _ _ _ m w c.args.reader.now head fed s (last.answer head fed s.stands none) (last.early head fed s.stands)
+    (c.limit-limit.ensures.held ∙ (last.marks head fed s.stands none).limit)
     (subst (λ es. g.W.EventWatcher.has_seen first c.show.new.watcher es)
     (last-shown m w c.args.reader.now c.finish.new.self head fed h s.rules s.wiring (s.taken none) (last.told head fed s.stands))
     (c.in_ok-show-in-Ok.ensures.shown first (h ++ told_after m w (tokens_after head fed)) (s.shown none)))

@@ -71,6 +71,8 @@ returns-in_err-take-clause-read g c = λ tells first h choice ts text has at tak
       well = c.headers_may_be_all.ensures.early;
       all = c.headers_may_be_all.ensures.events;
       stays = c.faults_stay.ensures;
+      gathered = c.a_header_is_gathered.ensures.at_end;
+      goes_on = c.a_value_reader_goes_on.ensures.known;
     } in
     rw same (watched laws choice c.args.sampling w c.args.behind ts text left _ _ (Err c.in_err-take.field-0.0) at taken
     (λ e. absurd (not-long _ (c.in_err-take.ensures.stop _ refl) e))
@@ -99,6 +101,8 @@ returns-clause-read g c = λ tells first h choice ts text has at taken.
       well = c.headers_may_be_all.ensures.early;
       all = c.headers_may_be_all.ensures.events;
       stays = c.faults_stay.ensures;
+      gathered = c.a_header_is_gathered.ensures.at_end;
+      goes_on = c.a_value_reader_goes_on.ensures.known;
     } in
     watched laws choice c.args.sampling w c.args.behind ts text left _ _ c.watch_left.result at taken
     (λ e. let long = c.watch_left.ensures.too_long tells e in omega (arith, long, at.taken))
