@@ -34,3 +34,6 @@ ending_at (Err stops.Memory) = endings.NoMemory
 ending_at (Err stops.Lines) = endings.Failed
 ending_at (Err stops.Dump) = endings.Failed
 ending_at (Err stops.Out) = endings.Failed
+ending_at (Err stops.Save) = endings.Failed
+ending_at (Err stops.Cut) = endings.Failed
+ending_at (Err stops.Changed) = endings.Failed

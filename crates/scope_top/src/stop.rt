@@ -17,6 +17,12 @@ pub enum Stop {
     Dump,
     /// A text could not be written.
     Out,
+    /// The save file could not be written.
+    Save,
+    /// The dump of the clocks around a broken one could not be written.
+    Cut,
+    /// The dump has another text than when it was read before.
+    Changed,
 }
 
 impl From<AllocError> for Stop {
@@ -38,5 +44,6 @@ pub fn ending_at(end: Result<Ending, Stop>) -> Ending
         Ok(ending) => ending,
         Err(Stop::Memory) => Ending::NoMemory,
         Err(Stop::Lines) | Err(Stop::Dump) | Err(Stop::Out) => Ending::Failed,
+        Err(Stop::Save) | Err(Stop::Cut) | Err(Stop::Changed) => Ending::Failed,
     }
 }
