@@ -15,7 +15,7 @@ pub(crate) fn put_begin<W: fmt::Write>(
     match reason {
         Reason::AtStart => write!(
             f,
-            "ADS# is asserted at {clock}. The first request may begin at 2."
+            "ADS# is asserted at {clock}. No request begins at the first two clocks."
         ),
         Reason::TooSoon { before, earliest } => write!(
             f,
@@ -71,7 +71,7 @@ pub(crate) fn put_unwon<W: fmt::Write>(
     match reason {
         Reason::NotArbitrated => write!(
             f,
-            "ADS# is asserted at {clock}. Agents ask two clocks before, so that no request begins below 2."
+            "ADS# is asserted at {clock}. Agents ask two clocks before, so that no request begins at the first two clocks."
         ),
         Reason::Locked { holder: Some(who) } => write!(
             f,

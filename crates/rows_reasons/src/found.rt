@@ -63,7 +63,7 @@ fn requests_that_begin(rt: HostRuntime) {
     let soon =
         "ADS# is asserted at 4. It may come at 5 at the earliest: the last request began at 2.";
     expect_last(&rt, a, &REQUEST_SPACING_BROKEN, 2, soon);
-    let start = "ADS# is asserted at 1. The first request may begin at 2.";
+    let start = "ADS# is asserted at 1. No request begins at the first two clocks.";
     expect_last(&rt, a, &LEAST_RULE_NAMED, 2, start);
     let error = "AERR# is asserted at 1, and no request began before.";
     expect_last(&rt, a, &LEAST_RULE_NAMED, 10, error);

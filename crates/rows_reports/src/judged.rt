@@ -79,6 +79,9 @@ nothing could be judged: no clock from there on ends so many clocks in which eve
 
 const BROKEN: &str = "\
 rejected at clock 0, 5 ns (line 22 of the file): rule 2, request spacing
+  ADS# is asserted at 0. No request begins at the first two clocks.
+  also rule 6, arbitration winner: ADS# is asserted at 0. Agents ask two clocks before, so
+  that no request begins at the first two clocks.
   A request takes two clocks on REQ and A, and the next one begins three
   clocks later at the soonest. None begins in clock 0 or 1, since the lines of
   two clocks before decide who begins.

@@ -25,6 +25,7 @@ mod lines;
 mod near;
 mod notices;
 mod parts;
+mod reasons;
 mod refusal;
 mod rules;
 mod scale;

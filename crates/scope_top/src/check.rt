@@ -9,12 +9,14 @@ ghost use Rattle.scope_top.specs.Viewing.{IsUncopied, MayStop};
 
 use crate::answer::{Answer, Stream};
 use crate::listed::{Listed, listed_choice};
+use crate::reasons::{reasons_of, sampling_again};
 use crate::settled::{Settled, plan_of, settled_part};
 use crate::stop::Stop;
 use crate::stopped::{PIECE, stop_answer};
 use crate::viewed::{Viewed, told_of, unviewed};
-use crate::views::{sampling_again, show_found};
+use crate::views::{same_sampling, show_found};
 use fsb_io::{Sink, Source};
+use reason_texts::Sentence;
 use scope_parts::Plan;
 use scope_report::{Ending, check_text, ending_of, refusal_text, verdict_over};
 use scope_tries::{broken_found, hints_of, hints_text, tries_of};
@@ -167,8 +169,11 @@ fn judged_answer<S: Source, V: Sink, C: Sink>(
     ensures dump_fault { result ≡ Err Stop.Dump → Rose (S.faults dump.old) (S.faults dump.new) }
     ensures not_out { result ≢ Err Stop.Out }
 {
-    let tries = tries_of(is_again, &sampling);
-    let again = sampling_again(&sampling)?;
+    let again = Again {
+        tries: tries_of(is_again, &sampling),
+        sampling: sampling_again(is_again, &sampling),
+    };
+    let same = same_sampling(&sampling)?;
     let mut room = vec![in alloc; 0; PIECE]?;
     match check_dump(alloc, name, dump, &mut room, choice, plan, sampling) {
         Err(stop) => {
@@ -176,24 +181,33 @@ fn judged_answer<S: Source, V: Sink, C: Sink>(
             Ok(unviewed(alloc, name, views, answer)?)
         }
         Ok(checked) => {
-            let answer = tried_answer(alloc, name, choice, plan, tries, &checked, dump)?;
+            let answer = tried_answer(alloc, name, choice, plan, again, &checked, dump)?;
             let is_broken = broken_found(&checked.finding).is_some();
             let answer = told_of(alloc, name, views, is_broken, answer)?;
             let shown = show_found(
-                alloc, name, choice, &again, views, &checked, dump, save, cut,
+                alloc, name, choice, &same, views, &checked, dump, save, cut,
             );
             Ok(Viewed { answer, shown })
         }
     }
 }
 
-// Tells what was found, and of a rejected dump in which other ways it gets further, where these are tried.
+// How a rejected dump is read again, where it is.
+#[derive(Drop)]
+struct Again {
+    // The edge at which other ways to sample it are tried.
+    tries: Option<Edge>,
+    // How it is sampled once more for the reasons.
+    sampling: Option<Sampling>,
+}
+
+// Tells what was found, and of a rejected dump the reasons, and in which other ways it gets further, where it is read again.
 fn tried_answer<S: Source>(
     alloc: Global,
     name: &str,
     choice: &Choice,
     plan: Plan,
-    tries: Option<Edge>,
+    again: Again,
     checked: &Checked,
     dump: &mut S,
 ) -> Result<Answer, AllocError>
@@ -202,7 +216,10 @@ fn tried_answer<S: Source>(
     ensures later { S.faults dump.old ≤ S.faults dump.new }
     ensures holds_stays { IsTrue S.tells → S.holds dump.new ≡ S.holds dump.old }
 {
-    let mut answer = found_answer(alloc, name, choice, checked)?;
+    let tries = again.tries;
+    let found = &checked.finding;
+    let reasons = reasons_of(alloc, name, choice, plan.first, again.sampling, found, dump);
+    let mut answer = found_answer(alloc, name, choice, checked, &reasons)?;
     match (tries, broken_found(&checked.finding)) {
         (Some(edge), Some(broken)) => {
             let hints = hints_of(alloc, name, choice, plan, edge, broken, dump)?;
@@ -220,11 +237,12 @@ fn found_answer(
     name: &str,
     choice: &Choice,
     checked: &Checked,
+    reasons: &[Sentence],
 ) -> Result<Answer, AllocError>
     ensures { IfOk result (λ answer. answer.ending ≡ ending_found checked.now.finding) }
 {
     let ending = ending_found(&checked.finding);
-    let (stream, text) = found_text(alloc, name, choice, checked)?;
+    let (stream, text) = found_text(alloc, name, choice, checked, reasons)?;
     Ok(Answer {
         ending,
         stream,
@@ -238,6 +256,7 @@ fn found_text(
     name: &str,
     choice: &Choice,
     checked: &Checked,
+    reasons: &[Sentence],
 ) -> Result<(Stream, Vec<u8>), AllocError> {
     let header = &checked.header;
     match &checked.finding {
@@ -256,6 +275,7 @@ fn found_text(
                 &told.judged,
                 told.early_end,
                 &told.last,
+                reasons,
             )?;
             Ok((Stream::Out, text))
         }

@@ -5,7 +5,8 @@
 //! exactly where at least one clock was judged and no rule is broken. Where a rule is broken, the files that the order names
 //! show it, as `Shows` in `specs/Viewing.antt` says. `ending_at` is the end of the program.
 //!
-//! Next: scope_watch, which reads and judges, scope_tries, which reads a rejected dump in other ways, scope_copy, which writes what was picked, and scope_report, whose texts these
+//! Next: scope_watch, which reads and judges, scope_tries, which reads a rejected dump in other ways, scope_explain,
+//! which finds its reasons, scope_copy, which writes what was picked, and scope_report, whose texts these
 //! are.
 #![tactic(auto)]
 
@@ -24,6 +25,7 @@ mod listed;
 mod named;
 mod orders;
 mod pick;
+mod reasons;
 mod settled;
 mod stop;
 mod stopped;

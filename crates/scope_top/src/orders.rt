@@ -2,8 +2,9 @@
 
 ghost use Rattle.std.specs.Prelude.{◌≡◌, ◌≤◌, ◌⊎◌, Err, IsTrue, IfOk, length};
 ghost use Rattle.fsb_io.specs.Faults.{Rose};
-ghost use Rattle.scope_words.specs.Orders.{KeepsLimits, KeepsWires};
+ghost use Rattle.scope_words.specs.Orders.{KeepsLimits, KeepsViews, KeepsWires};
 ghost use Rattle.scope_top.specs.Performing.{Ends, EndsCheck, EndsLines, EndsPick};
+ghost use Rattle.scope_top.specs.Viewing.{IsUncopied};
 
 use crate::answer::{Answer, Stream, hand_err, hand_out};
 use crate::check::check_answer;
@@ -12,17 +13,22 @@ use crate::pick::pick_answer;
 use crate::stop::Stop;
 use fsb_io::{Sink, Source};
 use scope_report::{Ending, rule_list, rule_text};
-use scope_words::{Order, Part, Wires};
+use scope_words::{Order, Part, Views, Wires};
 use std::alloc::{AllocError, Global};
 
 /// Does what the order asks for. The answer goes to `out`; a refusal, and why a file says nothing, to `err`. `named` is the
 /// file of `--lines`, `dump` the dump. Where an order names a time, the dump is begun twice. `is_again` says that the dump
-/// can be begun again at any time and then gives the same: a check that rejects it then reads it once more for each other
-/// way to sample it, and tells those in which it gets further, which `hints_of` answers. That changes no ending.
+/// can be begun again at any time and then gives the same: a check that rejects it then reads it once more for the reasons,
+/// which `explained_of` answers, and for each other way to sample it, and tells those in which it gets further, which
+/// `hints_of` answers. That changes no ending.
+///
+/// Where a check finds a rule broken, and the words name files that show it, `save` and `cut` are begun under these names,
+/// and the dump is read again for them, whatever `is_again` says: the report is told, and then why a file was not written.
+/// Else neither is begun.
 ///
 /// How it ends is one relation, `Ends`, with a row for each form of an order. Where it comes to no end, the source or the
 /// sink that it names has failed in this call, or memory lacked.
-pub fn perform<L: Source, S: Source, O: Sink, E: Sink>(
+pub fn perform<L: Source, S: Source, O: Sink, E: Sink, V: Sink, C: Sink>(
     alloc: Global,
     order: Order<'_>,
     is_again: bool,
@@ -30,16 +36,28 @@ pub fn perform<L: Source, S: Source, O: Sink, E: Sink>(
     dump: &mut S,
     out: &mut O,
     err: &mut E,
+    save: &mut V,
+    cut: &mut C,
 ) -> Result<Ending, Stop>
     requires { KeepsLimits order }
-    ensures ends { IsTrue L.tells → IsTrue S.tells → IsTrue O.tells →
-        IfOk result (Ends order.entry (L.holds named.old) (S.holds dump.old) (O.holds out.old)
-        (O.holds out.new)) }
+    ensures ends { IsTrue L.tells → IsTrue S.tells → IsTrue O.tells → IsTrue V.tells →
+        IsTrue C.tells → IfOk result (Ends order.entry (L.holds named.old) (S.holds dump.old)
+        (O.holds out.old) (O.holds out.new) (record {
+          save_old = V.holds save.old;
+          save_new = V.holds save.new;
+          cut_old = C.holds cut.old;
+          cut_new = C.holds cut.new;
+        })) }
     ensures lines_fault { result ≡ Err Stop.Lines →
         Rose (L.faults named.old) (L.faults named.new) }
     ensures dump_fault { result ≡ Err Stop.Dump → Rose (S.faults dump.old) (S.faults dump.new) }
     ensures out_fault { IsTrue S.tells → result ≡ Err Stop.Out →
         Rose (O.faults out.old) (O.faults out.new) ⊎ Rose (E.faults err.old) (E.faults err.new) }
+    ensures save_fault { result ≡ Err Stop.Save → Rose (V.faults save.old) (V.faults save.new) }
+    ensures cut_fault { IsTrue S.tells → result ≡ Err Stop.Cut →
+        Rose (C.faults cut.old) (C.faults cut.new) }
+    ensures changed { IsTrue S.tells → IsTrue C.tells → result ≡ Err Stop.Changed →
+        IsUncopied (S.holds dump.old) }
 {
     match order {
         Order::Rule { number } => tell_rule(alloc, number, out, err),
@@ -47,8 +65,11 @@ pub fn perform<L: Source, S: Source, O: Sink, E: Sink>(
         Order::Check {
             wires,
             part,
+            views,
             dump: name,
-        } => check(alloc, name, wires, &part, is_again, named, dump, out, err),
+        } => check(
+            alloc, name, wires, &part, views, is_again, named, dump, out, err, save, cut,
+        ),
         Order::Pick {
             wires,
             part,
@@ -93,30 +114,53 @@ fn tell_lines<S: Source, O: Sink, E: Sink>(
     hand_out(&answer, out, err)
 }
 
-// Judges the parts of a dump that the words name, and tells what was found.
-fn check<L: Source, S: Source, O: Sink, E: Sink>(
+// Judges the parts of a dump that the words name, tells what was found, and says which of the files that show it could not
+// be written.
+fn check<L: Source, S: Source, O: Sink, E: Sink, V: Sink, C: Sink>(
     alloc: Global,
     name: &str,
     wires: Wires<'_>,
     words: &Part,
+    views: Views<'_>,
     is_again: bool,
     named: &mut L,
     dump: &mut S,
     out: &mut O,
     err: &mut E,
+    save: &mut V,
+    cut: &mut C,
 ) -> Result<Ending, Stop>
     requires named { length name.now ≤ 4096 }
     requires wires { KeepsWires wires }
-    ensures ends { IsTrue L.tells → IsTrue S.tells →
-        IfOk result (EndsCheck wires.entry words.now (L.holds named.old) (S.holds dump.old)) }
+    requires views { KeepsViews views }
+    ensures ends { IsTrue L.tells → IsTrue S.tells → IsTrue V.tells → IsTrue C.tells →
+        IfOk result (EndsCheck wires.entry words.now (L.holds named.old) (S.holds dump.old) (record {
+          name = name.now;
+          views = views.entry;
+          files = record {
+            save_old = V.holds save.old;
+            save_new = V.holds save.new;
+            cut_old = C.holds cut.old;
+            cut_new = C.holds cut.new;
+          };
+        })) }
     ensures lines_fault { result ≡ Err Stop.Lines →
         Rose (L.faults named.old) (L.faults named.new) }
     ensures dump_fault { result ≡ Err Stop.Dump → Rose (S.faults dump.old) (S.faults dump.new) }
     ensures out_fault { result ≡ Err Stop.Out →
         Rose (O.faults out.old) (O.faults out.new) ⊎ Rose (E.faults err.old) (E.faults err.new) }
+    ensures save_fault { result ≡ Err Stop.Save → Rose (V.faults save.old) (V.faults save.new) }
+    ensures cut_fault { IsTrue S.tells → result ≡ Err Stop.Cut →
+        Rose (C.faults cut.old) (C.faults cut.new) }
+    ensures changed { IsTrue S.tells → IsTrue C.tells → result ≡ Err Stop.Changed →
+        IsUncopied (S.holds dump.old) }
 {
-    let answer = check_answer(alloc, name, wires, words, is_again, named, dump)?;
-    hand_out(&answer, out, err)
+    let viewed = check_answer(
+        alloc, name, wires, words, views, is_again, named, dump, save, cut,
+    )?;
+    let ending = hand_out(&viewed.answer, out, err)?;
+    viewed.shown?;
+    Ok(ending)
 }
 
 // Writes the part of a dump that the words name, and tells what was not written.

@@ -22,7 +22,7 @@ use scope_words::Views;
 use std::alloc::{AllocError, Global};
 
 /// How a dump is sampled once more.
-pub(crate) fn sampling_again(sampling: &Sampling) -> Result<Sampling, AllocError>
+pub(crate) fn same_sampling(sampling: &Sampling) -> Result<Sampling, AllocError>
     ensures { IfOk result (λ s. rules_for s ≡ rules_for sampling.now) }
 {
     Ok(Sampling {
@@ -135,7 +135,7 @@ fn save_as<S: Source, V: Sink>(
     ensures later { S.faults dump.old ≤ S.faults dump.new }
     ensures holds_stays { IsTrue S.tells → S.holds dump.new ≡ S.holds dump.old }
 {
-    let again = sampling_again(sampling)?;
+    let again = same_sampling(sampling)?;
     let before = time_before(alloc, name, choice, again, broken.clock, dump)?;
     let scale = scale_of(alloc, &header.remarks)?;
     let mark = mark_at(broken, before, scale);
@@ -225,7 +225,7 @@ fn cut_as<S: Source, C: Sink>(
         (IsTrue S.tells → Rose (C.faults cut.old) (C.faults cut.new))
         (IsTrue S.tells → IsTrue C.tells → IsUncopied (S.holds dump.old))) }
 {
-    let again = sampling_again(sampling)?;
+    let again = same_sampling(sampling)?;
     let mut room = vec![in alloc; 0; PIECE]?;
     if cut.begin(file).is_err() {
         return Err(Stop::Cut);

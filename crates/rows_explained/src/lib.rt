@@ -1,0 +1,10 @@
+//! Reports that explain a broken rule, of dumps that are written of worked waveforms.
+//!
+//! `dumps` writes the dump of a few clocks and checks it; `reports` has a trace for each reason that a check finds, and
+//! asks that its report says the sentence. Nothing is promised.
+#![tactic(auto)]
+
+#[cfg(test)]
+mod dumps;
+#[cfg(test)]
+mod reports;

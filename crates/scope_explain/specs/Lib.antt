@@ -1,0 +1,4 @@
+pub mod Reasons
+pub mod Explained
+pub mod Standing
+pub mod Explanations
