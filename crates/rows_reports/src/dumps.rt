@@ -116,7 +116,11 @@ fn written_to(
 {
     let mut out = MemSink::new(alloc, 100_000, writes)?;
     let mut err = MemSink::new(alloc, 100_000, &[])?;
-    let end = perform(alloc, order, true, lines, source, &mut out, &mut err);
+    let mut save = MemSink::new(alloc, 0, &[])?;
+    let mut cut = MemSink::new(alloc, 0, &[])?;
+    let end = perform(
+        alloc, order, true, lines, source, &mut out, &mut err, &mut save, &mut cut,
+    );
     Ok(came_of(alloc, end, out.holds(), err.holds())?)
 }
 

@@ -13,7 +13,7 @@ use crate::reasons::{reasons_of, sampling_again};
 use crate::settled::{Settled, plan_of, settled_part};
 use crate::stop::Stop;
 use crate::stopped::{PIECE, stop_answer};
-use crate::viewed::{Viewed, told_of, unviewed};
+use crate::viewed::{Viewed, unviewed, viewed};
 use crate::views::{same_sampling, show_found};
 use fsb_io::{Sink, Source};
 use reason_texts::Sentence;
@@ -182,12 +182,11 @@ fn judged_answer<S: Source, V: Sink, C: Sink>(
         }
         Ok(checked) => {
             let answer = tried_answer(alloc, name, choice, plan, again, &checked, dump)?;
-            let is_broken = broken_found(&checked.finding).is_some();
-            let answer = told_of(alloc, name, views, is_broken, answer)?;
             let shown = show_found(
                 alloc, name, choice, &same, views, &checked, dump, save, cut,
             );
-            Ok(Viewed { answer, shown })
+            let is_broken = broken_found(&checked.finding).is_some();
+            Ok(viewed(alloc, name, views, is_broken, answer, shown)?)
         }
     }
 }

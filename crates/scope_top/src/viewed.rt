@@ -2,7 +2,7 @@
 
 ghost use Rattle.std.specs.Prelude.{◌≡◌, IfOk, Ok};
 
-use crate::answer::{Answer};
+use crate::answer::Answer;
 use crate::stop::Stop;
 use scope_report::views_text;
 use scope_words::Views;
@@ -15,7 +15,7 @@ pub(crate) struct Viewed {
     pub(crate) shown: Result<(), Stop>,
 }
 
-/// An answer without a broken rule: it tells of the files that the words name that they are not written.
+/// An answer of a dump that is not judged: it tells of the files that the words name that they are not written.
 pub(crate) fn unviewed(
     alloc: Global,
     name: &str,
@@ -24,25 +24,25 @@ pub(crate) fn unviewed(
 ) -> Result<Viewed, AllocError>
     ensures { IfOk result (λ v. (v.answer.ending ≡ answer.ending) × (v.shown ≡ Ok tt)) }
 {
-    let answer = told_of(alloc, name, views, false, answer)?;
-    Ok(Viewed {
-        answer,
-        shown: Ok(()),
-    })
+    viewed(alloc, name, views, false, answer, Ok(()))
 }
 
-/// The answer with what is told of the files, where a rule is broken and where none is.
-pub(crate) fn told_of(
+/// An answer of a dump in which a rule is found broken, or none: it tells of the files that they are there, or not written.
+/// Where one could not be written, nothing more is told.
+pub(crate) fn viewed(
     alloc: Global,
     name: &str,
     views: Views<'_>,
     is_broken: bool,
     answer: Answer,
-) -> Result<Answer, AllocError>
-    ensures { IfOk result (λ told. told.ending ≡ answer.ending) }
+    shown: Result<(), Stop>,
+) -> Result<Viewed, AllocError>
+    ensures { IfOk result (λ v. (v.answer.ending ≡ answer.ending) × (v.shown ≡ shown)) }
 {
     let mut answer = answer;
-    let text = views_text(alloc, name, views.save, views.cut, is_broken)?;
-    answer.text.extend_from_slice(&text)?;
-    Ok(answer)
+    if shown.is_ok() {
+        let text = views_text(alloc, name, views.save, views.cut, is_broken)?;
+        answer.text.extend_from_slice(&text)?;
+    }
+    Ok(Viewed { answer, shown })
 }
