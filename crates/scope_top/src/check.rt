@@ -13,7 +13,7 @@ use crate::reasons::{reasons_of, sampling_again};
 use crate::settled::{Settled, plan_of, settled_part};
 use crate::stop::Stop;
 use crate::stopped::{PIECE, stop_answer};
-use crate::viewed::{Viewed, unviewed, viewed};
+use crate::viewed::{Viewed, unviewed, viewed_as};
 use crate::views::{same_sampling, show_found};
 use fsb_io::{Sink, Source};
 use reason_texts::Sentence;
@@ -186,7 +186,7 @@ fn judged_answer<S: Source, V: Sink, C: Sink>(
                 alloc, name, choice, &same, views, &checked, dump, save, cut,
             );
             let is_broken = broken_found(&checked.finding).is_some();
-            Ok(viewed(alloc, name, views, is_broken, answer, shown)?)
+            Ok(viewed_as(alloc, name, views, is_broken, answer, shown)?)
         }
     }
 }

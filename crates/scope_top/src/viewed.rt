@@ -24,12 +24,12 @@ pub(crate) fn unviewed(
 ) -> Result<Viewed, AllocError>
     ensures { IfOk result (λ v. (v.answer.ending ≡ answer.ending) × (v.shown ≡ Ok tt)) }
 {
-    viewed(alloc, name, views, false, answer, Ok(()))
+    viewed_as(alloc, name, views, false, answer, Ok(()))
 }
 
 /// An answer of a dump in which a rule is found broken, or none: it tells of the files that they are there, or not written.
 /// Where one could not be written, nothing more is told.
-pub(crate) fn viewed(
+pub(crate) fn viewed_as(
     alloc: Global,
     name: &str,
     views: Views<'_>,
