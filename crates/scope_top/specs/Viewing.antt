@@ -2,7 +2,7 @@
 use Rattle.std.specs.Prelude.{◌≡◌, ◌⊎◌, ℕ, ◌+◌, ◌-◌, ◌^◌, max, min, List, [], ◌∷◌, Option, Some, None, IfSome, Result, Ok, Err}
 use Rattle.fsb_io.specs.Faults.{Rose}
 use Rattle.vcd_course.specs.declared.event.Stamp.{Stamp}
-use Rattle.vcd_header.specs.declared.section.Section.{Section}
+use Rattle.vcd_header.specs.declared.declared.Section.{Section}
 use Rattle.scope_check.specs.declared.finding.Verdict.{Verdict}
 use Rattle.scope_check.specs.declared.finding.Verdict.TheVariants as verdicts
 use Rattle.scope_check.specs.declared.part.Begin.TheVariants as begins
