@@ -1,11 +1,10 @@
 //! Dumps of a few clocks, and what a check says of them.
 
+ghost use Rattle.std.specs.Prelude.{[], Bool, List};
 ghost use Rattle.scope_words.specs.Orders.{KeepsLimits};
 ghost use Rattle.scope_write.specs.Standing.{Stands};
-ghost use Rattle.fsb_signal.specs.declared.sample.Sample.{Sample as SampleIs};
-ghost use Rattle.std.specs.Prelude.{Bool, List};
 
-use fsb_io::{MemSink, MemSource, Memory};
+use fsb_io::{Failed, MemSink, MemSource, Memory};
 use fsb_signal::Sample;
 use scope_top::perform;
 use scope_words::{Order, Reading, read_order};
@@ -22,25 +21,27 @@ pub(crate) fn written(
     there[20] = has_parity;
     there[21] = has_parity;
     let mut sink = MemSink::new(alloc, 100_000, &[])?;
-    if let Ok(mut writer) = DumpWriter::begin(&mut sink, there) {
-        for sample in samples {
-            put(&mut sink, &mut writer, sample);
-        }
+    match DumpWriter::begin(&mut sink, there) {
+        Ok(mut writer) => put_each(&mut sink, &mut writer, samples)?,
+        Err(Failed) => return Err(Memory),
     }
     Ok(sink)
 }
 
-// Writes the next sample, where that can be.
-fn put(sink: &mut MemSink, writer: &mut DumpWriter, sample: &Sample)
-    requires { (there : List Bool) × (w : List SampleIs) × Stands writer.old there w }
-    ensures { (there : List Bool) × (w : List SampleIs) × Stands writer.new there w }
+// Writes the samples behind the header.
+fn put_each(sink: &mut MemSink, writer: &mut DumpWriter, samples: &[Sample]) -> Result<(), Memory>
+    requires { (there : List Bool) × Stands writer.old there [] }
 {
-    if !writer.is_full() {
-        let before = *writer;
-        if writer.put(sink, sample).is_err() {
-            *writer = before;
+    for sample in samples {
+        if writer.is_full() {
+            return Err(Memory);
+        }
+        match writer.put(sink, sample) {
+            Ok(()) => {}
+            Err(Failed) => return Err(Memory),
         }
     }
+    Ok(())
 }
 
 /// What a check says of a dump, in one line: where a line is indented, a space stands in place of its beginning.

@@ -301,6 +301,7 @@ fn report(alloc: Global, found: &PartsFound, comment: &[&str]) -> Result<String,
         found,
         None,
         &ring,
+        &[],
     )?;
     String::from_str(alloc, std::str::from_utf8(&text).unwrap_or("no text"))
 }

@@ -44,8 +44,7 @@ pub(crate) fn reasons_of<S: Source>(
 {
     match (sampling, first_fault(finding)) {
         (Some(sampling), Some(fault)) => {
-            read_again(alloc, name, choice, part, sampling, &fault, dump)
-                .unwrap_or(Vec::new(alloc))
+            read_again(alloc, name, choice, part, sampling, &fault, dump).unwrap_or(Vec::new(alloc))
         }
         _ => Vec::new(alloc),
     }
@@ -56,13 +55,7 @@ fn first_fault(finding: &Finding) -> Option<PartFound> {
     match finding {
         Finding::Refused(_) => None,
         Finding::Judged(_, told) => match told.judged.faults.as_slice().first() {
-            Some(fault) => {
-                if fault.is_later {
-                    None
-                } else {
-                    Some(*fault)
-                }
-            }
+            Some(fault) => { if fault.is_later { None } else { Some(*fault) } }
             None => None,
         },
     }
@@ -95,25 +88,39 @@ fn sentences_of(
     explained: &Explained,
     fault: &PartFound,
 ) -> Result<Vec<Sentence>, AllocError> {
-    let mut sentences = Vec::new(alloc);
-    if is_same(explained, fault) {
-        let before = fault.start as u32;
-        let clock = explained.clock;
-        for reason in &explained.reasons {
-            let reason = *reason;
-            sentences.push(counted_behind(before, Sentence { clock, reason }))?;
-        }
+    match clocks_before(explained, fault) {
+        None => Ok(Vec::new(alloc)),
+        Some(before) => sentences_behind(alloc, explained, before),
     }
-    Ok(sentences)
 }
 
-// Whether this clock and rule were explained: a file may have changed since. No clock is counted above 32 bits.
-fn is_same(explained: &Explained, fault: &PartFound) -> bool {
+// How many clocks come before those of the part, if this clock and rule were explained: a file may have changed since. Where
+// a clock is not counted in 32 bits, none was.
+fn clocks_before(explained: &Explained, fault: &PartFound) -> Option<u32> {
     match fault.verdict {
-        Verdict::Nothing | Verdict::Accepted => false,
+        Verdict::Nothing | Verdict::Accepted => None,
         Verdict::Broken { clock, rule, .. } => {
-            let found = fault.start.saturating_add(u64::from(explained.clock));
-            found == clock && clock < 4_294_967_296 && rule == explained.rule
+            let before = clock.checked_sub(u64::from(explained.clock))?;
+            if clock < 4_294_967_296 && before == fault.start && rule == explained.rule {
+                Some(before as u32)
+            } else {
+                None
+            }
         }
     }
+}
+
+// The sentences of what was explained, behind so many clocks.
+fn sentences_behind(
+    alloc: Global,
+    explained: &Explained,
+    before: u32,
+) -> Result<Vec<Sentence>, AllocError> {
+    let clock = explained.clock;
+    let mut sentences = Vec::new(alloc);
+    for reason in &explained.reasons {
+        let reason = *reason;
+        sentences.push(counted_behind(before, Sentence { clock, reason }))?;
+    }
+    Ok(sentences)
 }

@@ -14,8 +14,8 @@ returns-in-Err-clause-ends g c = λ tells. IfOk-weaker c.stop_answer.result
     })
     c.stop_answer.ensures.ends
 
-pub returns-clause-ends : goal.returns-clause-ends
-returns-clause-ends g c = λ tells. record {
+pub returns-in_ok-tried_answer-in-Ok-clause-ends : goal.returns-in_ok-tried_answer-in-Ok-clause-ends
+returns-in_ok-tried_answer-in-Ok-clause-ends g c = λ tells. record {
   answer = Ok c.in-Ok.checked;
   is_checked = c.in-Ok.ensures.checked tells;
   ends = c.in_ok-tried_answer-in-Ok.ensures;
