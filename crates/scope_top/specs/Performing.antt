@@ -1,5 +1,5 @@
 -- How an order ends, over what the file of `--lines` and the dump hold.
-use Rattle.std.specs.Prelude.{◌≡◌, ◌≤◌, ◌<◌, ◌^◌, ◌⊎◌, ℕ, IsSome, List, [], ◌++◌, map, Option, Some, None, length, Result, Ok, Err}
+use Rattle.std.specs.Prelude.{◌≡◌, ◌≤◌, ◌<◌, ◌^◌, ◌⊎◌, ℕ, Bool, false, IsSome, List, [], ◌++◌, map, Option, Some, None, length, Result, Ok, Err}
 use Rattle.scope_check.specs.declared.part.Part.{Part}
 use Rattle.scope_parts.specs.declared.plan.Plan.{Plan}
 use Rattle.scope_copy.specs.declared.copy.Copied.{Copied}
@@ -142,26 +142,29 @@ abbrev pub EndsChecked : Result Checked ScopeStop → Ending → Type 0
 EndsChecked (Ok checked) ending = ending ≡ ending_found checked.finding
 EndsChecked (Err stop) ending = EndsStopped stop ending
 
--- a dump of this name, the files that are to show a broken rule in it, and what these held before, and hold now
-pub record Viewed : Type 0 where
+-- a dump of this name, the files that are to show a broken rule in it, what these held before, and hold now, and whether one
+-- could not be written
+pub record Viewing : Type 0 where
   pub name : List ℕ
   pub views : Views
   pub files : Files
+  pub is_unwritten : Bool
 
--- how a check of these parts of a dump ends, by this choice and sampling; where a rule was found broken the files show it
-pub record EndsJudged (choice : Choice) (plan : Plan) (s : Sampling) (dumped : List ℕ) (v : Viewed) (ending : Ending) : Type 0 where
+-- how a check of these parts of a dump ends, by this choice and sampling; where a rule was found broken the
+-- files show it, unless one could not be written
+pub record EndsJudged (choice : Choice) (plan : Plan) (s : Sampling) (dumped : List ℕ) (v : Viewing) (ending : Ending) : Type 0 where
   pub answer : Result Checked ScopeStop
   pub is_checked : IsChecked answer choice plan s dumped
   pub ends : EndsChecked answer ending
-  pub shows : Shows v.views choice s dumped v.name answer v.files
+  pub shows : v.is_unwritten ≡ false → Shows v.views choice s dumped v.name answer v.files
 
 -- how a check of the parts that the words name ends, by this choice and sampling; where they name none no file was written
-abbrev pub EndsPlanned : Words → Sampling → List ℕ → Viewed → Choice → Ending → Type 0
+abbrev pub EndsPlanned : Words → Sampling → List ℕ → Viewing → Choice → Ending → Type 0
 EndsPlanned words s dumped v choice ending =
     EndsSettled (λ part. EndsJudged choice (plan_of words part) s dumped v) (Untouched v.files) words dumped ending
 
 -- how a check ends; where its wires can't be chosen no file was written
-abbrev pub EndsCheck : Wires → Words → List ℕ → List ℕ → Viewed → Ending → Type 0
+abbrev pub EndsCheck : Wires → Words → List ℕ → List ℕ → Viewing → Ending → Type 0
 EndsCheck wires words listed dumped v ending =
     EndsWired (EndsPlanned words (sampling_of wires) dumped v) (Untouched v.files) wires listed ending
 
@@ -213,14 +216,15 @@ pub record EndsLines (dumped : List ℕ) (ending : Ending) : Type 0 where
 -- ---- the row of each order
 
 -- how an order ends, where the file of `--lines` holds the first text and the dump the second, and the sink of answers the
--- third before and the fourth now; only a check writes the files that show a broken rule
-abbrev pub Ends : Order → List ℕ → List ℕ → List ℕ → List ℕ → Files → Ending → Type 0
-Ends (orders.Lines dump) listed dumped old new f ending = EndsLines dumped ending × Untouched f
-Ends (orders.Check wires part views dump) listed dumped old new f ending =
-    EndsCheck wires part listed dumped (record { name = dump.now; views = views; files = f }) ending
-Ends (orders.Pick wires part dump) listed dumped old new f ending =
+-- third before and the fourth now; the files that show a broken rule hold these, and only a check writes them
+abbrev pub Ends : Order → List ℕ → List ℕ → List ℕ → List ℕ → Files → Bool → Ending → Type 0
+Ends (orders.Lines dump) listed dumped old new f is_unwritten ending = EndsLines dumped ending × Untouched f
+Ends (orders.Check wires part views dump) listed dumped old new f is_unwritten ending =
+    EndsCheck wires part listed dumped
+    (record { name = dump.now; views = views; files = f; is_unwritten = is_unwritten }) ending
+Ends (orders.Pick wires part dump) listed dumped old new f is_unwritten ending =
     EndsPick wires part listed dumped old new ending × Untouched f
-Ends (orders.Rule number) listed dumped old new f ending = (ending ≡ endings.Clean) × Untouched f
+Ends (orders.Rule number) listed dumped old new f is_unwritten ending = (ending ≡ endings.Clean) × Untouched f
 
 -- ---- parts of it
 

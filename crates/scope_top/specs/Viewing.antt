@@ -2,7 +2,6 @@
 use Rattle.std.specs.Prelude.{◌≡◌, ◌⊎◌, ℕ, ◌+◌, ◌-◌, ◌^◌, max, min, List, [], ◌∷◌, Option, Some, None, IfSome, Result, Ok, Err}
 use Rattle.fsb_io.specs.Faults.{Rose}
 use Rattle.vcd_course.specs.declared.event.Stamp.{Stamp}
-use Rattle.vcd_header.specs.declared.declared.Section.{Section}
 use Rattle.scope_check.specs.declared.finding.Verdict.{Verdict}
 use Rattle.scope_check.specs.declared.finding.Verdict.TheVariants as verdicts
 use Rattle.scope_check.specs.declared.part.Begin.TheVariants as begins
@@ -28,8 +27,8 @@ use Rattle.scope_wiring.specs.declared.wiring.Choice.{Choice}
 use Rattle.scope_wiring.specs.declared.wiring.Wiring.{Wiring}
 use Rattle.scope_words.specs.declared.order.Views.{Views}
 use Rattle.scope_top.specs.declared.broken.BrokenAt.{BrokenAt}
-use Rattle.scope_top.specs.declared.stop.Stop.{Stop}
-use Rattle.scope_top.specs.declared.stop.Stop.TheVariants as stops
+use Rattle.scope_top.specs.declared.stop.ViewStop.{ViewStop}
+use Rattle.scope_top.specs.declared.stop.ViewStop.TheVariants as stops
 
 -- what the save file and the cut held before, and hold now
 pub record Files : Type 0 where
@@ -67,9 +66,9 @@ abbrev pub factor_by : Option Scale → ℕ
 factor_by None = 1
 factor_by (Some scale) = factor_of scale.factor
 
--- the edge of the broken clock, with the time of the clock before it
-abbrev pub mark_of : BrokenAt → Option ℕ → List Section → Mark
-mark_of b before remarks = record { time = stamp_time b.stamp; before = before; factor = factor_by (scale_of remarks) }
+-- the edge of the broken clock, with the time of the clock before it, in a dump with this scale
+abbrev pub mark_at : BrokenAt → Option ℕ → Option Scale → Mark
+mark_at b before scale = record { time = stamp_time b.stamp; before = before; factor = factor_by scale }
 
 -- the file holds the text of the broken clock, by the time of the clock before it, where that is known
 pub record HoldsSave (choice : Choice) (s : Sampling) (dumped name : List ℕ) (h : Header) (w : Wiring) (b : BrokenAt) (new : List ℕ) : Type 0 where
@@ -77,7 +76,7 @@ pub record HoldsSave (choice : Choice) (s : Sampling) (dumped name : List ℕ) (
   pub again : Sampling
   pub same : rules_for again ≡ rules_for s
   pub is_before : IfSome before (IsClockTime choice again dumped (b.clock - 1))
-  pub text : new ≡ save_text name h.variables.items w.wires.items (mark_of b before h.remarks.items)
+  pub text : new ≡ save_text name h.variables.items w.wires.items (mark_at b before (scale_of h.remarks.items))
 
 -- the same, where a file is named
 abbrev pub SavesAs : {F : Type 0} → Option F → Choice → Sampling → List ℕ → List ℕ → Header → Wiring → BrokenAt → List ℕ → List ℕ → Type 0
@@ -97,12 +96,16 @@ part_around b = record {
   to = Some (bounds.Clock (named_clock (b.clock + 8)));
 }
 
+-- the copy of that part stands behind what the file held
+pub record IsCutBehind (choice : Choice) (s : Sampling) (dumped : List ℕ) (b : BrokenAt) (old new : List ℕ) : Type 0 where
+  pub copied : Copied
+  pub is_copied : IsCopied (Ok copied) choice (part_around b) s dumped old new
+
 -- the file holds the copy of that part
 pub record HoldsCut (choice : Choice) (s : Sampling) (dumped : List ℕ) (b : BrokenAt) (new : List ℕ) : Type 0 where
-  pub copied : Copied
   pub again : Sampling
   pub same : rules_for again ≡ rules_for s
-  pub is_copied : IsCopied (Ok copied) choice (part_around b) again dumped [] new
+  pub cut : IsCutBehind choice again dumped b [] new
 
 -- the same, where a file is named
 abbrev pub CutsAs : {F : Type 0} → Option F → Choice → Sampling → List ℕ → BrokenAt → List ℕ → List ℕ → Type 0
@@ -140,7 +143,7 @@ IsOfText scopes.WriteFault = ⊥
 IsOfText scopes.Memory = ⊥
 
 -- why the clocks around a broken one are not written, where their copy stopped so
-abbrev pub uncut : ScopeStop → Stop
+abbrev pub uncut : ScopeStop → ViewStop
 uncut (scopes.Bad fault) = stops.Changed
 uncut scopes.TooLong = stops.Changed
 uncut scopes.TooMany = stops.Changed
@@ -160,11 +163,9 @@ pub record IsUncopied (dumped : List ℕ) : Type 0 where
   pub of_text : IsOfText stop
 
 -- why the files are not written: want of memory, a fault of the dump, of one of the files, or a copy that stopped
-abbrev pub MayStop : Type 0 → Type 0 → Type 0 → Type 0 → Stop → Type 0
+abbrev pub MayStop : Type 0 → Type 0 → Type 0 → Type 0 → ViewStop → Type 0
 MayStop dump save cut uncopied stops.Memory = Unit {0}
-MayStop dump save cut uncopied stops.Lines = ⊥
 MayStop dump save cut uncopied stops.Dump = dump
-MayStop dump save cut uncopied stops.Out = ⊥
 MayStop dump save cut uncopied stops.Save = save
 MayStop dump save cut uncopied stops.Cut = cut
 MayStop dump save cut uncopied stops.Changed = uncopied

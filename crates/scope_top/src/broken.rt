@@ -1,7 +1,7 @@
 //! The broken clock that is shown.
 
 ghost use Rattle.std.specs.Prelude.{◌≡◌};
-ghost use Rattle.scope_top.specs.Viewing.{broken_with, factor_by, first_broken, named_clock, part_around, stamp_time};
+ghost use Rattle.scope_top.specs.Viewing.{broken_with, factor_by, first_broken, mark_at, named_clock, part_around, stamp_time};
 
 use scope_check::{Begin, Bound, Part, Verdict};
 use scope_parts::PartFound;
@@ -64,9 +64,7 @@ fn named_clock(number: u64) -> u32
 
 /// The edge of the broken clock in a dump with this scale.
 pub(crate) fn mark_at(broken: BrokenAt, before: Option<u64>, scale: Option<Scale>) -> Mark
-    ensures time { result.time ≡ stamp_time broken.stamp }
-    ensures before { result.before ≡ before }
-    ensures factor { result.factor ≡ factor_by scale }
+    ensures { result ≡ mark_at broken before scale }
 {
     Mark {
         time: stamp_time(broken.stamp),

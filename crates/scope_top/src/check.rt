@@ -1,6 +1,7 @@
 //! `check`: a dump, judged.
 
-ghost use Rattle.std.specs.Prelude.{◌≡◌, ◌≢◌, ◌≤◌, Err, IsTrue, IfErr, IfOk, OnOk, length};
+ghost use Rattle.std.specs.Prelude.{◌≡◌, ◌≢◌, ◌≤◌, Err, IsTrue, IfErr, IfOk, length};
+ghost use Rattle.std.specs.Result.{is_err};
 ghost use Rattle.fsb_io.specs.Faults.{Rose};
 ghost use Rattle.scope_words.specs.Orders.{KeepsViews, KeepsWires};
 ghost use Rattle.scope_top.specs.Ends.{ending_found};
@@ -43,8 +44,8 @@ pub(crate) fn check_answer<L: Source, S: Source, V: Sink, C: Sink>(
     requires wires { KeepsWires wires }
     requires views { KeepsViews views }
     ensures ends { IsTrue L.tells → IsTrue S.tells → IsTrue V.tells → IsTrue C.tells →
-        IfOk result (λ v. OnOk v.shown
-        (EndsCheck wires.entry words.now (L.holds named.old) (S.holds dump.old) (record {
+        IfOk result (λ v.
+        EndsCheck wires.entry words.now (L.holds named.old) (S.holds dump.old) (record {
           name = name.now;
           views = views.entry;
           files = record {
@@ -53,7 +54,8 @@ pub(crate) fn check_answer<L: Source, S: Source, V: Sink, C: Sink>(
             cut_old = C.holds cut.old;
             cut_new = C.holds cut.new;
           };
-        }) v.answer.ending)) }
+          is_unwritten = is_err v.shown;
+        }) v.answer.ending) }
     ensures shown { IfOk result (λ v. IfErr v.shown
         (MayStop (Rose (S.faults dump.old) (S.faults dump.new))
         (Rose (V.faults save.old) (V.faults save.new))
@@ -102,8 +104,8 @@ fn parted_answer<S: Source, V: Sink, C: Sink>(
     requires named { length name.now ≤ 4096 }
     requires views { KeepsViews views }
     ensures ends { IsTrue S.tells → IsTrue V.tells → IsTrue C.tells →
-        IfOk result (λ v. OnOk v.shown
-        (EndsPlanned words.now sampling (S.holds dump.old) (record {
+        IfOk result (λ v.
+        EndsPlanned words.now sampling (S.holds dump.old) (record {
           name = name.now;
           views = views.entry;
           files = record {
@@ -112,7 +114,8 @@ fn parted_answer<S: Source, V: Sink, C: Sink>(
             cut_old = C.holds cut.old;
             cut_new = C.holds cut.new;
           };
-        }) choice.now v.answer.ending)) }
+          is_unwritten = is_err v.shown;
+        }) choice.now v.answer.ending) }
     ensures shown { IfOk result (λ v. IfErr v.shown
         (MayStop (Rose (S.faults dump.old) (S.faults dump.new))
         (Rose (V.faults save.old) (V.faults save.new))
@@ -149,8 +152,8 @@ fn judged_answer<S: Source, V: Sink, C: Sink>(
     requires named { length name.now ≤ 4096 }
     requires views { KeepsViews views }
     ensures ends { IsTrue S.tells → IsTrue V.tells → IsTrue C.tells →
-        IfOk result (λ v. OnOk v.shown
-        (EndsJudged choice.now plan sampling (S.holds dump.old) (record {
+        IfOk result (λ v.
+        EndsJudged choice.now plan sampling (S.holds dump.old) (record {
           name = name.now;
           views = views.entry;
           files = record {
@@ -159,7 +162,8 @@ fn judged_answer<S: Source, V: Sink, C: Sink>(
             cut_old = C.holds cut.old;
             cut_new = C.holds cut.new;
           };
-        }) v.answer.ending)) }
+          is_unwritten = is_err v.shown;
+        }) v.answer.ending) }
     ensures shown { IfOk result (λ v. IfErr v.shown
         (MayStop (Rose (S.faults dump.old) (S.faults dump.new))
         (Rose (V.faults save.old) (V.faults save.new))

@@ -15,7 +15,7 @@ pub use check::ending_found;
 pub use named::{LineFault, read_options};
 pub use orders::perform;
 pub use pick::ending_copied;
-pub use stop::{Stop, ending_at};
+pub use stop::{Ended, Stop, ViewStop, ending_at};
 
 mod answer;
 mod broken;

@@ -3,7 +3,7 @@
 ghost use Rattle.std.specs.Prelude.{◌≡◌, IfOk, Ok};
 
 use crate::answer::Answer;
-use crate::stop::Stop;
+use crate::stop::ViewStop;
 use scope_report::views_text;
 use scope_words::Views;
 use std::alloc::{AllocError, Global};
@@ -12,7 +12,7 @@ use std::alloc::{AllocError, Global};
 #[derive(Drop)]
 pub(crate) struct Viewed {
     pub(crate) answer: Answer,
-    pub(crate) shown: Result<(), Stop>,
+    pub(crate) shown: Result<(), ViewStop>,
 }
 
 /// An answer of a dump that is not judged: it tells of the files that the words name that they are not written.
@@ -35,7 +35,7 @@ pub(crate) fn viewed_as(
     views: Views<'_>,
     is_broken: bool,
     answer: Answer,
-    shown: Result<(), Stop>,
+    shown: Result<(), ViewStop>,
 ) -> Result<Viewed, AllocError>
     ensures { IfOk result (λ v. (v.answer.ending ≡ answer.ending) × (v.shown ≡ shown)) }
 {

@@ -1,15 +1,15 @@
 //! The files that show a broken rule.
 
-ghost use Rattle.std.specs.Prelude.{◌≡◌, ◌≤◌, ◌⊎◌, ◌-◌, Err, IsTrue, IfErr, IfOk, IfSome, OnErr, OnOk, length};
+ghost use Rattle.std.specs.Prelude.{◌≡◌, ◌≤◌, ◌<◌, ◌⊎◌, ◌-◌, Err, IsTrue, IfErr, IfOk, IfSome, OnErr, OnOk, length};
 ghost use Rattle.std.specs.Option.{ForSome};
 ghost use Rattle.fsb_io.specs.Faults.{HasCause, Rose};
 ghost use Rattle.scope_clock.specs.Times.{IsClockTime};
 ghost use Rattle.scope_watch.specs.Watching.{rules_for};
 ghost use Rattle.scope_words.specs.Orders.{KeepsViews};
-ghost use Rattle.scope_top.specs.Viewing.{CutsAs, Files, HoldsCut, HoldsSave, IsUncopied, MayStop, SavesAs, ShowsFinding, uncut};
+ghost use Rattle.scope_top.specs.Viewing.{CutsAs, Files, HoldsCut, HoldsSave, IsCutBehind, IsUncopied, MayStop, SavesAs, ShowsFinding, uncut};
 
 use crate::broken::{BrokenAt, first_broken, mark_at, part_around};
-use crate::stop::Stop;
+use crate::stop::ViewStop;
 use crate::stopped::PIECE;
 use fsb_io::{Failed, Sink, Source, put_all};
 use scope_clock::clock_time;
@@ -43,7 +43,7 @@ pub(crate) fn show_found<S: Source, V: Sink, C: Sink>(
     dump: &mut S,
     save: &mut V,
     cut: &mut C,
-) -> Result<(), Stop>
+) -> Result<(), ViewStop>
     requires named { length name.now ≤ 4096 }
     requires views { KeepsViews views }
     ensures shown { IsTrue S.tells → IsTrue V.tells → IsTrue C.tells → OnOk result
@@ -94,14 +94,14 @@ fn save_broken<S: Source, V: Sink>(
     broken: BrokenAt,
     dump: &mut S,
     save: &mut V,
-) -> Result<(), Stop>
+) -> Result<(), ViewStop>
     requires named { length name.now ≤ 4096 }
     requires file { ForSome file (λ file. length file.now ≤ 4096) }
     ensures saved { IsTrue S.tells → IsTrue V.tells → OnOk result
         (SavesAs file.entry choice.now sampling.now (S.holds dump.old) name.now header.now wiring.now
         broken (V.holds save.old) (V.holds save.new)) }
-    ensures stop { IfErr result (λ stop. (stop ≡ Stop.Memory)
-        ⊎ ((stop ≡ Stop.Save) × Rose (V.faults save.old) (V.faults save.new))) }
+    ensures stop { IfErr result (λ stop. (stop ≡ ViewStop.Memory)
+        ⊎ ((stop ≡ ViewStop.Save) × Rose (V.faults save.old) (V.faults save.new))) }
     ensures later { S.faults dump.old ≤ S.faults dump.new }
     ensures holds_stays { IsTrue S.tells → S.holds dump.new ≡ S.holds dump.old }
 {
@@ -124,14 +124,14 @@ fn save_as<S: Source, V: Sink>(
     broken: BrokenAt,
     dump: &mut S,
     save: &mut V,
-) -> Result<(), Stop>
+) -> Result<(), ViewStop>
     requires named { length name.now ≤ 4096 }
     requires file { length file.now ≤ 4096 }
     ensures saved { IsTrue S.tells → IsTrue V.tells → OnOk result
         (HoldsSave choice.now sampling.now (S.holds dump.old) name.now header.now wiring.now
         broken (V.holds save.new)) }
-    ensures stop { IfErr result (λ stop. (stop ≡ Stop.Memory)
-        ⊎ ((stop ≡ Stop.Save) × Rose (V.faults save.old) (V.faults save.new))) }
+    ensures stop { IfErr result (λ stop. (stop ≡ ViewStop.Memory)
+        ⊎ ((stop ≡ ViewStop.Save) × Rose (V.faults save.old) (V.faults save.new))) }
     ensures later { S.faults dump.old ≤ S.faults dump.new }
     ensures holds_stays { IsTrue S.tells → S.holds dump.new ≡ S.holds dump.old }
 {
@@ -142,7 +142,7 @@ fn save_as<S: Source, V: Sink>(
     let text = save_text(alloc, name, &header.variables, &wiring.wires, mark)?;
     match put_file(save, file, &text) {
         Ok(()) => Ok(()),
-        Err(Failed) => Err(Stop::Save),
+        Err(Failed) => Err(ViewStop::Save),
     }
 }
 
@@ -191,7 +191,7 @@ fn cut_broken<S: Source, C: Sink>(
     broken: BrokenAt,
     dump: &mut S,
     cut: &mut C,
-) -> Result<(), Stop>
+) -> Result<(), ViewStop>
     requires named { length name.now ≤ 4096 }
     requires file { ForSome file (λ file. length file.now ≤ 4096) }
     ensures cut { IsTrue S.tells → IsTrue C.tells → OnOk result
@@ -216,7 +216,7 @@ fn cut_as<S: Source, C: Sink>(
     broken: BrokenAt,
     dump: &mut S,
     cut: &mut C,
-) -> Result<(), Stop>
+) -> Result<(), ViewStop>
     requires named { length name.now ≤ 4096 }
     requires file { length file.now ≤ 4096 }
     ensures cut { IsTrue S.tells → IsTrue C.tells → OnOk result
@@ -227,24 +227,47 @@ fn cut_as<S: Source, C: Sink>(
 {
     let again = same_sampling(sampling)?;
     let mut room = vec![in alloc; 0; PIECE]?;
-    if cut.begin(file).is_err() {
-        return Err(Stop::Cut);
+    match cut.begin(file) {
+        Err(Failed) => Err(ViewStop::Cut),
+        Ok(()) => copy_around(alloc, name, choice, again, &mut room, broken, dump, cut),
     }
+}
+
+// Writes the clocks around a broken one behind what the sink holds.
+fn copy_around<S: Source, C: Sink>(
+    alloc: Global,
+    name: &str,
+    choice: &Choice,
+    again: Sampling,
+    room: &mut [u8],
+    broken: BrokenAt,
+    dump: &mut S,
+    cut: &mut C,
+) -> Result<(), ViewStop>
+    requires named { length name.now ≤ 4096 }
+    requires some { 0 < length room.old }
+    ensures cut { IsTrue S.tells → IsTrue C.tells → OnOk result
+        (IsCutBehind choice.now again (S.holds dump.old) broken (C.holds cut.old)
+        (C.holds cut.new)) }
+    ensures stop { IfErr result (MayStop (Rose (S.faults dump.old) (S.faults dump.new)) ⊥
+        (IsTrue S.tells → Rose (C.faults cut.old) (C.faults cut.new))
+        (IsTrue S.tells → IsTrue C.tells → IsUncopied (S.holds dump.old))) }
+{
     let part = part_around(broken);
-    match copy_dump(alloc, name, dump, &mut room, choice, part, again, cut) {
+    match copy_dump(alloc, name, dump, room, choice, part, again, cut) {
         Ok(_copied) => Ok(()),
         Err(stop) => Err(uncut(stop)),
     }
 }
 
 // Why the clocks around a broken one are not written, where their copy stopped so.
-fn uncut(stop: ScopeStop) -> Stop
+fn uncut(stop: ScopeStop) -> ViewStop
     ensures { result ≡ uncut stop }
 {
     match stop {
-        ScopeStop::Memory => Stop::Memory,
-        ScopeStop::ReadFault => Stop::Dump,
-        ScopeStop::WriteFault => Stop::Cut,
-        ScopeStop::Bad(_) | ScopeStop::TooLong | ScopeStop::TooMany => Stop::Changed,
+        ScopeStop::Memory => ViewStop::Memory,
+        ScopeStop::ReadFault => ViewStop::Dump,
+        ScopeStop::WriteFault => ViewStop::Cut,
+        ScopeStop::Bad(_) | ScopeStop::TooLong | ScopeStop::TooMany => ViewStop::Changed,
     }
 }
