@@ -1,7 +1,7 @@
 //! The program `p6scope`: the real files and standard output under the top call.
 #![tactic(auto)]
 
-ghost use Rattle.std.specs.Prelude.{◌≡◌, ◌≢◌, ◌⊎◌, Err, IfErr};
+ghost use Rattle.std.specs.Prelude.{◌≡◌, ◌≢◌, Err, IfErr, IfOk};
 ghost use Rattle.std.specs.IoError.{error_kind};
 ghost use Rattle.std.specs.Process.{exit_status};
 ghost use Rattle.scope_report.specs.Endings.{status_of};
@@ -13,7 +13,7 @@ mod views;
 use crate::views::{refused, warn_unwritten};
 use fsb_io::{FileSink, FileSource, Memory, Sink, StdoutSink, put_all};
 use scope_report::{Ending, status, unread_text};
-use scope_top::{Stop, ending_at, perform};
+use scope_top::{Ended, Stop, ViewStop, ending_at, perform};
 use scope_words::{Order, Reading, Told, Views, read_order};
 use std::alloc::{AllocError, Global};
 use std::env::Args;
@@ -137,20 +137,35 @@ const NO_VIEWS: Views<'static> = Views {
 
 // The end of a command, once the system has stored the files that were written.
 fn stored<R: Files + Print>(
-    end: Result<Ending, Stop>,
+    end: Result<Ended, Stop>,
     save: &mut FileSink<'_, R>,
     cut: &mut FileSink<'_, R>,
-) -> Result<Ending, Stop>
-    ensures { (result ≡ end) ⊎ ((result ≡ Err Stop.Save) ⊎ (result ≡ Err Stop.Cut)) }
+) -> Result<Ended, Stop>
+    ensures err { IfErr end (λ stop. result ≡ Err stop) }
+    ensures ok { IfOk end (λ told. IfOk result (λ ended. ended.ending ≡ told.ending)) }
 {
-    let ending = end?;
+    let told = end?;
+    let shown = match told.shown {
+        Err(stop) => Err(stop),
+        Ok(()) => stored_files(save, cut),
+    };
+    Ok(Ended {
+        ending: told.ending,
+        shown,
+    })
+}
+
+fn stored_files<R: Files + Print>(
+    save: &mut FileSink<'_, R>,
+    cut: &mut FileSink<'_, R>,
+) -> Result<(), ViewStop> {
     if save.store().is_err() {
-        return Err(Stop::Save);
+        return Err(ViewStop::Save);
     }
     if cut.store().is_err() {
-        return Err(Stop::Cut);
+        return Err(ViewStop::Cut);
     }
-    Ok(ending)
+    Ok(())
 }
 
 // Whether a file can be read again: a regular one, and no pipe. Without a name there is none.
@@ -188,27 +203,43 @@ fn views_of<'a>(order: &Order<'a>) -> Views<'a> {
     }
 }
 
-// The end of a command: where it did not come to its end, why is told.
+// The end of a command: where it did not come to its end, or a file was not written, why is told.
 fn ended<E: Sink>(
     rt: &(impl Files + AllocGlobal),
-    end: Result<Ending, Stop>,
+    end: Result<Ended, Stop>,
     names: Names<'_>,
     err: &mut E,
 ) -> Ending
     ensures { result ≡ ending_at end }
 {
     match end {
-        Ok(_) => {}
-        Err(Stop::Memory) => warn(err, b"p6scope: out of memory\n"),
+        Ok(ended) => warn_unshown(rt, ended.shown, names, err),
+        Err(Stop::Memory) => warn(err, NO_MEMORY),
         Err(Stop::Out) => warn(err, b"p6scope: its text could not be written\n"),
         Err(Stop::Lines) => warn_unread(rt, names.lines, err),
         Err(Stop::Dump) => warn_unread(rt, names.dump, err),
-        Err(Stop::Save) => warn_unwritten(rt, names.views.save.unwrap_or(""), err),
-        Err(Stop::Cut) => warn_unwritten(rt, names.views.cut.unwrap_or(""), err),
-        Err(Stop::Changed) => warn(err, b"p6scope: the dump has changed while it was read\n"),
     }
     ending_at(end)
 }
+
+// Tells why a file that shows a broken rule is not written.
+fn warn_unshown<E: Sink>(
+    rt: &(impl Files + AllocGlobal),
+    shown: Result<(), ViewStop>,
+    names: Names<'_>,
+    err: &mut E,
+) {
+    match shown {
+        Ok(()) => {}
+        Err(ViewStop::Memory) => warn(err, NO_MEMORY),
+        Err(ViewStop::Dump) => warn_unread(rt, names.dump, err),
+        Err(ViewStop::Save) => warn_unwritten(rt, names.views.save.unwrap_or(""), err),
+        Err(ViewStop::Cut) => warn_unwritten(rt, names.views.cut.unwrap_or(""), err),
+        Err(ViewStop::Changed) => warn(err, b"p6scope: the dump has changed while it was read\n"),
+    }
+}
+
+const NO_MEMORY: &[u8] = b"p6scope: out of memory\n";
 
 // Tells that a file was not read, with the reason of the system.
 fn warn_unread<E: Sink>(rt: &(impl Files + AllocGlobal), name: &str, err: &mut E) {

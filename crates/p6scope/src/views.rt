@@ -29,11 +29,7 @@ pub(crate) fn refused(
         return Ok(Some(unread_text(alloc, dump, CUT_IS_DUMP)?));
     }
     if is_named(rt, views.save, views.cut) {
-        return Ok(Some(unread_text(
-            alloc,
-            views.save.unwrap_or(""),
-            ONE_FILE,
-        )?));
+        return Ok(Some(unread_text(alloc, views.save.unwrap_or(""), ONE_FILE)?));
     }
     Ok(None)
 }
@@ -75,11 +71,7 @@ fn is_same(one: &Metadata, other: &Metadata) -> bool {
 }
 
 /// Tells that a file was not written, with the reason of the system.
-pub(crate) fn warn_unwritten<E: Sink>(
-    rt: &(impl Files + AllocGlobal),
-    name: &str,
-    err: &mut E,
-) {
+pub(crate) fn warn_unwritten<E: Sink>(rt: &(impl Files + AllocGlobal), name: &str, err: &mut E) {
     match unwritten(rt, name) {
         Ok(text) => warn(err, &text),
         Err(AllocError) => warn(err, b"p6scope: a file could not be written\n"),

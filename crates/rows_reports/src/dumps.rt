@@ -3,8 +3,8 @@
 ghost use Rattle.scope_words.specs.Orders.{KeepsLimits};
 
 use fsb_io::{MemSink, MemSource, Memory};
-use scope_report::{Ending, status};
-use scope_top::{Stop, ending_at, perform};
+use scope_report::status;
+use scope_top::{Ended, Stop, ending_at, perform};
 use scope_words::{Order, Reading, read_order};
 use std::alloc::{AllocError, Global};
 
@@ -127,7 +127,7 @@ fn written_to(
 // What came, of the end and of the bytes that were written.
 fn came_of(
     alloc: Global,
-    end: Result<Ending, Stop>,
+    end: Result<Ended, Stop>,
     out: &[u8],
     err: &[u8],
 ) -> Result<Came, AllocError> {

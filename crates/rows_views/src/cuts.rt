@@ -30,7 +30,11 @@ fn cut_has_the_clocks_around_the_fault(alloc: Global) -> Result<(), Memory> {
         assert_eq!(picked.status, 0);
         assert_eq!(checked.cut, picked.out);
         assert_eq!(checked.save.as_str(), "");
-        assert!(checked.out.ends_with("the clocks around it: gtkwave y.vcd\n"));
+        assert!(
+            checked
+                .out
+                .ends_with("the clocks around it: gtkwave y.vcd\n")
+        );
     }
     Ok(())
 }

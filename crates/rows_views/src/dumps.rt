@@ -33,7 +33,9 @@ pub(crate) fn faulty(
     idle: u32,
     count: u32,
 ) -> Result<String, AllocError> {
-    let mut text = format!(in alloc; "$timescale {scale} $end\n$scope module tb $end\n$scope module dut $end\n{bus}$upscope $end\n$upscope $end\n$enddefinitions $end\n#0\n0! 1a 1b bx c bx d\n1e 1f b111 g 1h 1i 1j bx k\n")?;
+    let mut text = format!(in alloc;
+        "$timescale {scale} $end\n$scope module tb $end\n$scope module dut $end\n{bus}$upscope $end\n$upscope $end\n$enddefinitions $end\n#0\n0! 1a 1b bx c bx d\n1e 1f b111 g 1h 1i 1j bx k\n"
+    )?;
     for clock in 0..count {
         let rise = u64::from(clock) * 10 + 5;
         let fall = rise + 5;

@@ -99,7 +99,10 @@ $var wire 64 k d_n [63:0] $end
 /// Options, and what the save file has of a line.
 const ROWS: [(&str, &str); 5] = [
     ("", "\n@28\ntb.dut.\\breq0_n\n"),
-    ("", "\n@68\n#{RS_n[2:0]} tb.dut.rs_n[2] tb.dut.rs_n[1] tb.dut.rs_n[0]\n"),
+    (
+        "",
+        "\n@68\n#{RS_n[2:0]} tb.dut.rs_n[2] tb.dut.rs_n[1] tb.dut.rs_n[0]\n",
+    ),
     ("|--line|HIT_n=ctl[1]", "\n@28\n(1)tb.dut.ctl[0:3]\n"),
     (
         "|--line|REQ_n=!cmd[7:3]",

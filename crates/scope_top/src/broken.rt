@@ -49,9 +49,7 @@ pub(crate) fn part_around(broken: BrokenAt) -> Part
     let first = broken.start.max(broken.clock.saturating_sub(16));
     Part {
         begin: Begin::At(Bound::Clock(named_clock(first))),
-        to: Some(Bound::Clock(named_clock(
-            broken.clock.saturating_add(8),
-        ))),
+        to: Some(Bound::Clock(named_clock(broken.clock.saturating_add(8)))),
     }
 }
 

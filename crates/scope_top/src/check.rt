@@ -186,9 +186,7 @@ fn judged_answer<S: Source, V: Sink, C: Sink>(
         }
         Ok(checked) => {
             let answer = tried_answer(alloc, name, choice, plan, again, &checked, dump)?;
-            let shown = show_found(
-                alloc, name, choice, &same, views, &checked, dump, save, cut,
-            );
+            let shown = show_found(alloc, name, choice, &same, views, &checked, dump, save, cut);
             let is_broken = broken_found(&checked.finding).is_some();
             Ok(viewed_as(alloc, name, views, is_broken, answer, shown)?)
         }
