@@ -39,7 +39,11 @@ pub(crate) fn faulty(
     for clock in 0..count {
         let rise = u64::from(clock) * 10 + 5;
         let fall = rise + 5;
-        let ads = if clock + 1 == idle { "0b\n" } else { "" };
+        let ads = if clock.saturating_add(1) == idle {
+            "0b\n"
+        } else {
+            ""
+        };
         write!(text, "#{rise}\n1!\n#{fall}\n0!\n{ads}")?;
     }
     Ok(text)
@@ -56,7 +60,7 @@ pub(crate) struct Seen {
 
 /// Does what the words of a row ask for, with a bar between them, over this dump, where these calls of the sinks of the two
 /// files fail.
-pub(crate) fn seen(
+pub(crate) fn see(
     alloc: Global,
     row: &str,
     dump: &str,
@@ -73,7 +77,7 @@ pub(crate) fn seen(
                 cut: String::new(alloc),
             })
         }
-        Reading::Order(order) => seen_in(alloc, order, dump, save_fails, cut_fails),
+        Reading::Order(order) => see_in(alloc, order, dump, save_fails, cut_fails),
     }
 }
 
@@ -85,7 +89,7 @@ fn words_of(alloc: Global, row: &str) -> Result<Vec<String>, AllocError> {
     Ok(words)
 }
 
-fn seen_in(
+fn see_in(
     alloc: Global,
     order: Order<'_>,
     dump: &str,
