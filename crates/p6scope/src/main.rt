@@ -76,7 +76,7 @@ fn print_told<E: Sink>(
 fn obey<E: Sink>(rt: &(impl Files + Print + AllocGlobal), order: Order<'_>, err: &mut E) -> Ending
     requires { KeepsLimits order }
 {
-    match refused(rt, dump_of(&order), views_of(&order)) {
+    match refused(rt, dump_of(&order), lines_of(&order), views_of(&order)) {
         Err(AllocError) => ended(rt, Err(Stop::Memory), NAMES, err),
         Ok(Some(text)) => {
             warn(err, &text);

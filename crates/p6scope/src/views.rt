@@ -8,38 +8,50 @@ use std::alloc::AllocError;
 use std::fs::{self, Files, Metadata, OpenOptions};
 use std::os::unix::fs::MetadataExt;
 
-/// Why the files of an order are refused, if they are: the dump can't be read a second time, or a name is that of the dump
-/// or of the other file.
+/// Why the files of an order are refused, if they are: the dump can't be read a second time, or a name is that of a file that
+/// is read or of the other file.
 pub(crate) fn refused(
     rt: &(impl Files + AllocGlobal),
     dump: &str,
+    lines: &str,
     views: Views<'_>,
 ) -> Result<Option<Vec<u8>>, AllocError> {
-    if views.save.is_none() && views.cut.is_none() {
-        return Ok(None);
+    match cause_of(rt, dump, lines, views) {
+        None => Ok(None),
+        Some((name, cause)) => Ok(Some(unread_text(rt.alloc(), name, cause)?)),
     }
-    let alloc = rt.alloc();
-    if is_irregular(rt, dump) {
-        return Ok(Some(unread_text(alloc, dump, IRREGULAR)?));
+}
+
+// The file that is refused, and why.
+fn cause_of<'a>(
+    rt: &impl Files,
+    dump: &'a str,
+    lines: &'a str,
+    views: Views<'a>,
+) -> Option<(&'a str, &'static str)> {
+    let save = views.save.unwrap_or("");
+    let cut = views.cut.unwrap_or("");
+    if save.is_empty() && cut.is_empty() {
+        None
+    } else if is_irregular(rt, dump) {
+        Some((dump, IRREGULAR))
+    } else if is_one(rt, save, dump) || is_one(rt, save, lines) {
+        Some((save, SAVE_IS_READ))
+    } else if is_one(rt, cut, dump) || is_one(rt, cut, lines) {
+        Some((cut, CUT_IS_READ))
+    } else if is_one(rt, save, cut) {
+        Some((save, ONE_FILE))
+    } else {
+        None
     }
-    if is_named(rt, views.save, Some(dump)) {
-        return Ok(Some(unread_text(alloc, dump, SAVE_IS_DUMP)?));
-    }
-    if is_named(rt, views.cut, Some(dump)) {
-        return Ok(Some(unread_text(alloc, dump, CUT_IS_DUMP)?));
-    }
-    if is_named(rt, views.save, views.cut) {
-        return Ok(Some(unread_text(alloc, views.save.unwrap_or(""), ONE_FILE)?));
-    }
-    Ok(None)
 }
 
 const IRREGULAR: &str =
     "no regular file: --save and --cut read the dump a second time, which a pipe cannot give";
 
-const SAVE_IS_DUMP: &str = "--save names the dump itself, and a dump is never written over";
+const SAVE_IS_READ: &str = "--save names a file that is read, which is never written over";
 
-const CUT_IS_DUMP: &str = "--cut names the dump itself, and a dump is never written over";
+const CUT_IS_READ: &str = "--cut names a file that is read, which is never written over";
 
 const ONE_FILE: &str = "--save and --cut name one file";
 
@@ -51,15 +63,14 @@ fn is_irregular(rt: &impl Files, name: &str) -> bool {
     }
 }
 
-// Whether both are names of one file: the same name, or what the system tells is one.
-fn is_named(rt: &impl Files, one: Option<&str>, other: Option<&str>) -> bool {
-    match (one, other) {
-        (Some(one), Some(other)) => one == other || is_one(rt, one, other),
-        _ => false,
-    }
-}
-
+// Whether both are names of one file: the same name, or what the system tells is one. Where none is named there is none.
 fn is_one(rt: &impl Files, one: &str, other: &str) -> bool {
+    if one.is_empty() || other.is_empty() {
+        return false;
+    }
+    if one == other {
+        return true;
+    }
     match (fs::metadata(rt, one), fs::metadata(rt, other)) {
         (Ok(one), Ok(other)) => is_same(&one, &other),
         _ => false,
