@@ -1,17 +1,20 @@
 //! The program `p6scope`: the real files and standard output under the top call.
 #![tactic(auto)]
 
-ghost use Rattle.std.specs.Prelude.{◌≡◌, ◌≢◌, IfErr};
+ghost use Rattle.std.specs.Prelude.{◌≡◌, ◌≢◌, Err, IfErr, IfOk};
 ghost use Rattle.std.specs.IoError.{error_kind};
 ghost use Rattle.std.specs.Process.{exit_status};
 ghost use Rattle.scope_report.specs.Endings.{status_of};
 ghost use Rattle.scope_top.specs.Ends.{ending_at};
 ghost use Rattle.scope_words.specs.Orders.{KeepsLimits};
 
-use fsb_io::{FileSource, Memory, Sink, StdoutSink, put_all};
+mod views;
+
+use crate::views::{refused, warn_unwritten};
+use fsb_io::{FileSink, FileSource, Memory, Sink, StdoutSink, put_all};
 use scope_report::{Ending, status, unread_text};
-use scope_top::{Stop, ending_at, perform};
-use scope_words::{Order, Reading, Told, read_order};
+use scope_top::{Ended, Stop, ViewStop, ending_at, perform};
+use scope_words::{Order, Reading, Told, Views, read_order};
 use std::alloc::{AllocError, Global};
 use std::env::Args;
 use std::fs;
@@ -40,7 +43,7 @@ fn run<E: Sink>(rt: &(impl Files + Env + Print + AllocGlobal), err: &mut E) -> E
             ending
         }
         Ok(words) => match read_order(rt.alloc(), &words) {
-            Err(Memory) => ended(rt, Err(Stop::Memory), "", "", err),
+            Err(Memory) => ended(rt, Err(Stop::Memory), NAMES, err),
             Ok(Reading::Told(told)) => print_told(rt, &told, err),
             Ok(Reading::Order(order)) => obey(rt, order, err),
         },
@@ -48,7 +51,7 @@ fn run<E: Sink>(rt: &(impl Files + Env + Print + AllocGlobal), err: &mut E) -> E
 }
 
 // Writes to standard error, as far as that can be written.
-fn warn<E: Sink>(err: &mut E, text: &[u8]) {
+pub(crate) fn warn<E: Sink>(err: &mut E, text: &[u8]) {
     let _ = put_all(err, text);
 }
 
@@ -65,26 +68,104 @@ fn print_told<E: Sink>(
     }
     match put_all(&mut StdoutSink::new(rt), text) {
         Ok(()) => Ending::Clean,
-        Err(_) => ended(rt, Err(Stop::Out), "", "", err),
+        Err(_) => ended(rt, Err(Stop::Out), NAMES, err),
     }
 }
 
-// Does what an order asks for.
+// Does what an order asks for, unless the files that it names to be written are refused.
 fn obey<E: Sink>(rt: &(impl Files + Print + AllocGlobal), order: Order<'_>, err: &mut E) -> Ending
     requires { KeepsLimits order }
 {
-    let dump = dump_of(&order);
-    let lines = lines_of(&order);
+    match refused(rt, dump_of(&order), lines_of(&order), views_of(&order)) {
+        Err(AllocError) => ended(rt, Err(Stop::Memory), NAMES, err),
+        Ok(Some(text)) => {
+            warn(err, &text);
+            Ending::BadWords
+        }
+        Ok(None) => carry_out(rt, order, err),
+    }
+}
+
+// Does what an order asks for. The save file is never the dump, and the cut never one of the two.
+fn carry_out<E: Sink>(
+    rt: &(impl Files + Print + AllocGlobal),
+    order: Order<'_>,
+    err: &mut E,
+) -> Ending
+    requires { KeepsLimits order }
+{
+    let names = Names {
+        lines: lines_of(&order),
+        dump: dump_of(&order),
+        views: views_of(&order),
+    };
+    let mut save = FileSink::new(rt, Some(names.dump));
+    let mut cut = FileSink::new(rt, Some(names.views.save.unwrap_or(names.dump)));
     let end = perform(
         rt.alloc(),
         order,
-        is_again(rt, dump),
+        is_again(rt, names.dump),
         &mut FileSource::new(rt),
         &mut FileSource::new(rt),
         &mut StdoutSink::new(rt),
         err,
+        &mut save,
+        &mut cut,
     );
-    ended(rt, end, lines, dump, err)
+    let end = stored(end, &mut save, &mut cut);
+    ended(rt, end, names, err)
+}
+
+// The names of the files of an order.
+#[derive(Clone, Copy)]
+struct Names<'a> {
+    lines: &'a str,
+    dump: &'a str,
+    views: Views<'a>,
+}
+
+const NAMES: Names<'static> = Names {
+    lines: "",
+    dump: "",
+    views: NO_VIEWS,
+};
+
+const NO_VIEWS: Views<'static> = Views {
+    save: None,
+    cut: None,
+};
+
+// The end of a command, once the system has stored the files that were written.
+fn stored<R: Files + Print>(
+    end: Result<Ended, Stop>,
+    save: &mut FileSink<'_, R>,
+    cut: &mut FileSink<'_, R>,
+) -> Result<Ended, Stop>
+    ensures err { IfErr end (λ stop. result ≡ Err stop) }
+    ensures ok { IfOk end (λ told. IfOk result (λ ended. ended.ending ≡ told.ending)) }
+{
+    let told = end?;
+    let shown = match told.shown {
+        Err(stop) => Err(stop),
+        Ok(()) => stored_files(save, cut),
+    };
+    Ok(Ended {
+        ending: told.ending,
+        shown,
+    })
+}
+
+fn stored_files<R: Files + Print>(
+    save: &mut FileSink<'_, R>,
+    cut: &mut FileSink<'_, R>,
+) -> Result<(), ViewStop> {
+    if save.store().is_err() {
+        return Err(ViewStop::Save);
+    }
+    if cut.store().is_err() {
+        return Err(ViewStop::Cut);
+    }
+    Ok(())
 }
 
 // Whether a file can be read again: a regular one, and no pipe. Without a name there is none.
@@ -114,25 +195,51 @@ fn lines_of<'a>(order: &Order<'a>) -> &'a str {
     }
 }
 
-// The end of a command: where it did not come to its end, why is told.
+// The files that an order names to show a broken rule.
+fn views_of<'a>(order: &Order<'a>) -> Views<'a> {
+    match order {
+        Order::Check { views, .. } => *views,
+        Order::Lines { .. } | Order::Pick { .. } | Order::Rule { .. } => NO_VIEWS,
+    }
+}
+
+// The end of a command: where it did not come to its end, or a file was not written, why is told.
 fn ended<E: Sink>(
     rt: &(impl Files + AllocGlobal),
-    end: Result<Ending, Stop>,
-    lines: &str,
-    dump: &str,
+    end: Result<Ended, Stop>,
+    names: Names<'_>,
     err: &mut E,
 ) -> Ending
     ensures { result ≡ ending_at end }
 {
     match end {
-        Ok(_) => {}
-        Err(Stop::Memory) => warn(err, b"p6scope: out of memory\n"),
+        Ok(ended) => warn_unshown(rt, ended.shown, names, err),
+        Err(Stop::Memory) => warn(err, NO_MEMORY),
         Err(Stop::Out) => warn(err, b"p6scope: its text could not be written\n"),
-        Err(Stop::Lines) => warn_unread(rt, lines, err),
-        Err(Stop::Dump) => warn_unread(rt, dump, err),
+        Err(Stop::Lines) => warn_unread(rt, names.lines, err),
+        Err(Stop::Dump) => warn_unread(rt, names.dump, err),
     }
     ending_at(end)
 }
+
+// Tells why a file that shows a broken rule is not written.
+fn warn_unshown<E: Sink>(
+    rt: &(impl Files + AllocGlobal),
+    shown: Result<(), ViewStop>,
+    names: Names<'_>,
+    err: &mut E,
+) {
+    match shown {
+        Ok(()) => {}
+        Err(ViewStop::Memory) => warn(err, NO_MEMORY),
+        Err(ViewStop::Dump) => warn_unread(rt, names.dump, err),
+        Err(ViewStop::Save) => warn_unwritten(rt, names.views.save.unwrap_or(""), err),
+        Err(ViewStop::Cut) => warn_unwritten(rt, names.views.cut.unwrap_or(""), err),
+        Err(ViewStop::Changed) => warn(err, b"p6scope: the dump has changed while it was read\n"),
+    }
+}
+
+const NO_MEMORY: &[u8] = b"p6scope: out of memory\n";
 
 // Tells that a file was not read, with the reason of the system.
 fn warn_unread<E: Sink>(rt: &(impl Files + AllocGlobal), name: &str, err: &mut E) {

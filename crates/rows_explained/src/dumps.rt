@@ -72,6 +72,8 @@ fn checked(alloc: Global, order: Order<'_>, dump: &[u8]) -> Result<String, Memor
         &mut source,
         &mut out,
         &mut err,
+        &mut MemSink::new(alloc, 0, &[])?,
+        &mut MemSink::new(alloc, 0, &[])?,
     );
     Ok(joined(alloc, out.holds())?)
 }

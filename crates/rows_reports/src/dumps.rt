@@ -3,8 +3,8 @@
 ghost use Rattle.scope_words.specs.Orders.{KeepsLimits};
 
 use fsb_io::{MemSink, MemSource, Memory};
-use scope_report::{Ending, status};
-use scope_top::{Stop, ending_at, perform};
+use scope_report::status;
+use scope_top::{Ended, Stop, ending_at, perform};
 use scope_words::{Order, Reading, read_order};
 use std::alloc::{AllocError, Global};
 
@@ -116,14 +116,18 @@ fn written_to(
 {
     let mut out = MemSink::new(alloc, 100_000, writes)?;
     let mut err = MemSink::new(alloc, 100_000, &[])?;
-    let end = perform(alloc, order, true, lines, source, &mut out, &mut err);
+    let mut save = MemSink::new(alloc, 0, &[])?;
+    let mut cut = MemSink::new(alloc, 0, &[])?;
+    let end = perform(
+        alloc, order, true, lines, source, &mut out, &mut err, &mut save, &mut cut,
+    );
     Ok(came_of(alloc, end, out.holds(), err.holds())?)
 }
 
 // What came, of the end and of the bytes that were written.
 fn came_of(
     alloc: Global,
-    end: Result<Ending, Stop>,
+    end: Result<Ended, Stop>,
     out: &[u8],
     err: &[u8],
 ) -> Result<Came, AllocError> {

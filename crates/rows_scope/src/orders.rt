@@ -1,6 +1,6 @@
 //! Command lines of p6scope, and what each asks for.
 
-use scope_words::{Edge, Moment, Order, Part, Reading, Wires, read_order};
+use scope_words::{Edge, Moment, Order, Part, Reading, Views, Wires, read_order};
 use std::alloc::{AllocError, Global};
 use std::test::Fail;
 
@@ -62,14 +62,31 @@ fn told_wires(alloc: Global, wires: &Wires<'_>) -> Result<String, AllocError> {
     Ok(text)
 }
 
+fn told_views(alloc: Global, views: Views<'_>) -> Result<String, AllocError> {
+    let mut text = String::new(alloc);
+    if let Some(save) = views.save {
+        write!(text, " save {save}")?;
+    }
+    if let Some(cut) = views.cut {
+        write!(text, " cut {cut}")?;
+    }
+    Ok(text)
+}
+
 /// What an order asks for, in a few words.
 fn told_order(alloc: Global, order: &Order<'_>) -> Result<String, AllocError> {
     match order {
         Order::Lines { dump } => format!(in alloc; "lines {dump}"),
-        Order::Check { wires, part, dump } => {
+        Order::Check {
+            wires,
+            part,
+            views,
+            dump,
+        } => {
             let wires = told_wires(alloc, wires)?;
             let part = told_part(alloc, part)?;
-            format!(in alloc; "check {dump}; {wires}; {part}")
+            let views = told_views(alloc, *views)?;
+            format!(in alloc; "check {dump}; {wires}; {part}{views}")
         }
         Order::Pick { wires, part, dump } => {
             let wires = told_wires(alloc, wires)?;
@@ -95,7 +112,15 @@ pub(crate) fn told(alloc: Global, row: &str) -> Result<String, AllocError> {
 }
 
 /// Command lines, and what each asks for.
-const ORDERS: [(&str, &str); 44] = [
+const ORDERS: [(&str, &str); 46] = [
+    (
+        "check|--save|a.gtkw|a.vcd",
+        "check a.vcd; NOTHING; at - from - to - quiet 32 save a.gtkw",
+    ),
+    (
+        "check|--cut|b.vcd|--save=a b|a.vcd",
+        "check a.vcd; NOTHING; at - from - to - quiet 32 save a b cut b.vcd",
+    ),
     ("lines|a.vcd", "lines a.vcd"),
     ("lines|--|-a.vcd", "lines -a.vcd"),
     ("rule", "rule None"),

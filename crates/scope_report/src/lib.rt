@@ -16,6 +16,7 @@ pub use lines::lines_text;
 pub use refusal::refusal_text;
 pub use rules::{rule_list, rule_text};
 pub use verdict::{put_verdict, verdict_over};
+pub use views::views_text;
 
 mod check;
 mod ending;
@@ -31,3 +32,4 @@ mod scale;
 mod scopes;
 mod text;
 mod verdict;
+mod views;

@@ -1,2 +1,3 @@
 mod ReadLines
 mod Settling
+mod Viewing

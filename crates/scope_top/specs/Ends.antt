@@ -9,8 +9,11 @@ use Rattle.scope_watch.specs.declared.check.Finding.{Finding}
 use Rattle.scope_watch.specs.declared.check.Finding.TheVariants as findings
 use Rattle.scope_copy.specs.declared.copy.CopyFinding.{CopyFinding}
 use Rattle.scope_copy.specs.declared.copy.CopyFinding.TheVariants as copies
+use Rattle.scope_top.specs.declared.stop.Ended.{Ended}
 use Rattle.scope_top.specs.declared.stop.Stop.{Stop}
 use Rattle.scope_top.specs.declared.stop.Stop.TheVariants as stops
+use Rattle.scope_top.specs.declared.stop.ViewStop.{ViewStop}
+use Rattle.scope_top.specs.declared.stop.ViewStop.TheVariants as views
 
 -- how a check ends that found this
 abbrev pub ending_found : Finding → Ending
@@ -27,9 +30,18 @@ abbrev pub ending_picked : Picking → Ending
 ending_picked (pickings.Wired wiring) = endings.Clean
 ending_picked (pickings.Refused refusal) = endings.Unjudged
 
+-- how the program ends that has told what it found: a file that is not written takes its place
+abbrev pub ending_shown : {U : Type 0} → Result U ViewStop → Ending → Ending
+ending_shown (Ok u) ending = ending
+ending_shown (Err views.Memory) ending = endings.NoMemory
+ending_shown (Err views.Dump) ending = endings.Failed
+ending_shown (Err views.Save) ending = endings.Failed
+ending_shown (Err views.Cut) ending = endings.Failed
+ending_shown (Err views.Changed) ending = endings.Failed
+
 -- how the program ends
-abbrev pub ending_at : Result Ending Stop → Ending
-ending_at (Ok ending) = ending
+abbrev pub ending_at : Result Ended Stop → Ending
+ending_at (Ok ended) = ending_shown ended.shown ended.ending
 ending_at (Err stops.Memory) = endings.NoMemory
 ending_at (Err stops.Lines) = endings.Failed
 ending_at (Err stops.Dump) = endings.Failed

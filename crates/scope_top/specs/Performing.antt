@@ -1,5 +1,5 @@
 -- How an order ends, over what the file of `--lines` and the dump hold.
-use Rattle.std.specs.Prelude.{◌≡◌, ◌≤◌, ◌<◌, ◌^◌, ◌⊎◌, ℕ, IsSome, List, [], ◌++◌, map, Option, Some, None, length, Result, Ok, Err}
+use Rattle.std.specs.Prelude.{◌≡◌, ◌≤◌, ◌<◌, ◌^◌, ◌⊎◌, ℕ, Bool, false, IsSome, List, [], ◌++◌, map, Option, Some, None, length, Result, Ok, Err}
 use Rattle.scope_check.specs.declared.part.Part.{Part}
 use Rattle.scope_parts.specs.declared.plan.Plan.{Plan}
 use Rattle.scope_copy.specs.declared.copy.Copied.{Copied}
@@ -14,6 +14,7 @@ use Rattle.scope_words.specs.declared.order.Edge.TheVariants as words
 use Rattle.scope_words.specs.declared.order.Order.{Order}
 use Rattle.scope_words.specs.declared.order.Order.TheVariants as orders
 use Rattle.scope_words.specs.declared.order.Part.{Part as Words}
+use Rattle.scope_words.specs.declared.order.Views.{Views}
 use Rattle.scope_words.specs.declared.order.Wires.{Wires}
 use Rattle.vcd_way.specs.declared.tap.Edge.{Edge as WayEdge}
 use Rattle.vcd_way.specs.declared.tap.Edge.TheVariants as edges
@@ -36,6 +37,7 @@ use Rattle.scope_top.specs.declared.settled.Settled.TheVariants as settlings
 use Rattle.scope_top.specs.Ends.{ending_copied, ending_found, ending_picked}
 use Rattle.scope_top.specs.Named.{read_of}
 use Rattle.scope_top.specs.Parts.{NamesPart, NamesScaled, plan_of}
+use Rattle.scope_top.specs.Viewing.{Files, Shows, Untouched}
 
 -- ---- what the words say
 
@@ -140,21 +142,31 @@ abbrev pub EndsChecked : Result Checked ScopeStop → Ending → Type 0
 EndsChecked (Ok checked) ending = ending ≡ ending_found checked.finding
 EndsChecked (Err stop) ending = EndsStopped stop ending
 
--- how a check of these parts of a dump ends, by this choice and sampling
-pub record EndsJudged (choice : Choice) (plan : Plan) (s : Sampling) (dumped : List ℕ) (ending : Ending) : Type 0 where
+-- a dump of this name, the files that are to show a broken rule in it, what these held before, and hold now, and whether one
+-- could not be written
+pub record Viewing : Type 0 where
+  pub name : List ℕ
+  pub views : Views
+  pub files : Files
+  pub is_unwritten : Bool
+
+-- how a check of these parts of a dump ends, by this choice and sampling; where a rule was found broken the
+-- files show it, unless one could not be written
+pub record EndsJudged (choice : Choice) (plan : Plan) (s : Sampling) (dumped : List ℕ) (v : Viewing) (ending : Ending) : Type 0 where
   pub answer : Result Checked ScopeStop
   pub is_checked : IsChecked answer choice plan s dumped
   pub ends : EndsChecked answer ending
+  pub shows : v.is_unwritten ≡ false → Shows v.views choice s dumped v.name answer v.files
 
--- how a check of the parts that the words name ends, by this choice and sampling
-abbrev pub EndsPlanned : Words → Sampling → List ℕ → Choice → Ending → Type 0
-EndsPlanned words s dumped choice ending =
-    EndsSettled (λ part. EndsJudged choice (plan_of words part) s dumped) (Unit {0}) words dumped ending
+-- how a check of the parts that the words name ends, by this choice and sampling; where they name none no file was written
+abbrev pub EndsPlanned : Words → Sampling → List ℕ → Viewing → Choice → Ending → Type 0
+EndsPlanned words s dumped v choice ending =
+    EndsSettled (λ part. EndsJudged choice (plan_of words part) s dumped v) (Untouched v.files) words dumped ending
 
--- how a check ends
-abbrev pub EndsCheck : Wires → Words → List ℕ → List ℕ → Ending → Type 0
-EndsCheck wires words listed dumped ending =
-    EndsWired (EndsPlanned words (sampling_of wires) dumped) (Unit {0}) wires listed ending
+-- how a check ends; where its wires can't be chosen no file was written
+abbrev pub EndsCheck : Wires → Words → List ℕ → List ℕ → Viewing → Ending → Type 0
+EndsCheck wires words listed dumped v ending =
+    EndsWired (EndsPlanned words (sampling_of wires) dumped v) (Untouched v.files) wires listed ending
 
 -- ---- `pick`
 
@@ -204,12 +216,15 @@ pub record EndsLines (dumped : List ℕ) (ending : Ending) : Type 0 where
 -- ---- the row of each order
 
 -- how an order ends, where the file of `--lines` holds the first text and the dump the second, and the sink of answers the
--- third before and the fourth now
-abbrev pub Ends : Order → List ℕ → List ℕ → List ℕ → List ℕ → Ending → Type 0
-Ends (orders.Lines dump) listed dumped old new ending = EndsLines dumped ending
-Ends (orders.Check wires part dump) listed dumped old new ending = EndsCheck wires part listed dumped ending
-Ends (orders.Pick wires part dump) listed dumped old new ending = EndsPick wires part listed dumped old new ending
-Ends (orders.Rule number) listed dumped old new ending = ending ≡ endings.Clean
+-- third before and the fourth now; the files that show a broken rule hold these, and only a check writes them
+abbrev pub Ends : Order → List ℕ → List ℕ → List ℕ → List ℕ → Files → Bool → Ending → Type 0
+Ends (orders.Lines dump) listed dumped old new f is_unwritten ending = EndsLines dumped ending × Untouched f
+Ends (orders.Check wires part views dump) listed dumped old new f is_unwritten ending =
+    EndsCheck wires part listed dumped
+    (record { name = dump.now; views = views; files = f; is_unwritten = is_unwritten }) ending
+Ends (orders.Pick wires part dump) listed dumped old new f is_unwritten ending =
+    EndsPick wires part listed dumped old new ending × Untouched f
+Ends (orders.Rule number) listed dumped old new f is_unwritten ending = (ending ≡ endings.Clean) × Untouched f
 
 -- ---- parts of it
 

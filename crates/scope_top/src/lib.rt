@@ -2,20 +2,23 @@
 //!
 //! `perform` does what an order asks for, writes its text, and answers how it ended, or which of the objects failed. How
 //! it ends is one relation, `Ends` in `specs/Performing.antt`, with a row for each form of an order: a check ends clean
-//! exactly where at least one clock was judged and no rule is broken. `ending_at` is the end of the program.
+//! exactly where at least one clock was judged and no rule is broken. Where a rule is broken, the files that the order names
+//! show it, as `Shows` in `specs/Viewing.antt` says. `ending_at` is the end of the program.
 //!
 //! Next: scope_watch, which reads and judges, scope_tries, which reads a rejected dump in other ways, scope_explain,
 //! which finds its reasons, scope_copy, which writes what was picked, and scope_report, whose texts these
 //! are.
 #![tactic(auto)]
 
+pub use broken::BrokenAt;
 pub use check::ending_found;
 pub use named::{LineFault, read_options};
 pub use orders::perform;
 pub use pick::ending_copied;
-pub use stop::{Stop, ending_at};
+pub use stop::{Ended, Stop, ViewStop, ending_at};
 
 mod answer;
+mod broken;
 mod check;
 mod lines;
 mod listed;
@@ -26,3 +29,5 @@ mod reasons;
 mod settled;
 mod stop;
 mod stopped;
+mod viewed;
+mod views;

@@ -1,18 +1,20 @@
 //! What an order asks for, done.
 
-ghost use Rattle.std.specs.Prelude.{◌≡◌, ◌≤◌, ◌⊎◌, Err, IsTrue, IfOk, length};
+ghost use Rattle.std.specs.Prelude.{◌≡◌, ◌≤◌, ◌⊎◌, Err, IsTrue, IfErr, IfOk, Ok, length};
+ghost use Rattle.std.specs.Result.{is_err};
 ghost use Rattle.fsb_io.specs.Faults.{Rose};
-ghost use Rattle.scope_words.specs.Orders.{KeepsLimits, KeepsWires};
+ghost use Rattle.scope_words.specs.Orders.{KeepsLimits, KeepsViews, KeepsWires};
 ghost use Rattle.scope_top.specs.Performing.{Ends, EndsCheck, EndsLines, EndsPick};
+ghost use Rattle.scope_top.specs.Viewing.{Files, IsUncopied, MayStop};
 
 use crate::answer::{Answer, Stream, hand_err, hand_out};
 use crate::check::check_answer;
 use crate::lines::lines_answer;
 use crate::pick::pick_answer;
-use crate::stop::Stop;
+use crate::stop::{Ended, Stop};
 use fsb_io::{Sink, Source};
 use scope_report::{Ending, rule_list, rule_text};
-use scope_words::{Order, Part, Wires};
+use scope_words::{Order, Part, Views, Wires};
 use std::alloc::{AllocError, Global};
 
 /// Does what the order asks for. The answer goes to `out`; a refusal, and why a file says nothing, to `err`. `named` is the
@@ -21,9 +23,13 @@ use std::alloc::{AllocError, Global};
 /// which `explained_of` answers, and for each other way to sample it, and tells those in which it gets further, which
 /// `hints_of` answers. That changes no ending.
 ///
+/// Where a check finds a rule broken, and the words name files that show it, `save` and `cut` are begun under these names,
+/// and the dump is read again for them, whatever `is_again` says: the report is told, and then why a file was not written.
+/// Else neither is begun.
+///
 /// How it ends is one relation, `Ends`, with a row for each form of an order. Where it comes to no end, the source or the
 /// sink that it names has failed in this call, or memory lacked.
-pub fn perform<L: Source, S: Source, O: Sink, E: Sink>(
+pub fn perform<L: Source, S: Source, O: Sink, E: Sink, V: Sink, C: Sink>(
     alloc: Global,
     order: Order<'_>,
     is_again: bool,
@@ -31,30 +37,59 @@ pub fn perform<L: Source, S: Source, O: Sink, E: Sink>(
     dump: &mut S,
     out: &mut O,
     err: &mut E,
-) -> Result<Ending, Stop>
+    save: &mut V,
+    cut: &mut C,
+) -> Result<Ended, Stop>
     requires { KeepsLimits order }
-    ensures ends { IsTrue L.tells → IsTrue S.tells → IsTrue O.tells →
-        IfOk result (Ends order.entry (L.holds named.old) (S.holds dump.old) (O.holds out.old)
-        (O.holds out.new)) }
+    ensures ends { IsTrue L.tells → IsTrue S.tells → IsTrue O.tells → IsTrue V.tells →
+        IsTrue C.tells → IfOk result (λ ended. Ends order.entry (L.holds named.old)
+        (S.holds dump.old) (O.holds out.old) (O.holds out.new) (record {
+          save_old = V.holds save.old;
+          save_new = V.holds save.new;
+          cut_old = C.holds cut.old;
+          cut_new = C.holds cut.new;
+        }) (is_err ended.shown) ended.ending) }
     ensures lines_fault { result ≡ Err Stop.Lines →
         Rose (L.faults named.old) (L.faults named.new) }
     ensures dump_fault { result ≡ Err Stop.Dump → Rose (S.faults dump.old) (S.faults dump.new) }
     ensures out_fault { IsTrue S.tells → result ≡ Err Stop.Out →
         Rose (O.faults out.old) (O.faults out.new) ⊎ Rose (E.faults err.old) (E.faults err.new) }
+    ensures shown { IfOk result (λ ended. IfErr ended.shown
+        (MayStop (Rose (S.faults dump.old) (S.faults dump.new))
+        (Rose (V.faults save.old) (V.faults save.new))
+        (IsTrue S.tells → Rose (C.faults cut.old) (C.faults cut.new))
+        (IsTrue S.tells → IsTrue C.tells → IsUncopied (S.holds dump.old)))) }
 {
     match order {
-        Order::Rule { number } => tell_rule(alloc, number, out, err),
-        Order::Lines { dump: name } => tell_lines(alloc, name, dump, out, err),
+        Order::Rule { number } => told(tell_rule(alloc, number, out, err)),
+        Order::Lines { dump: name } => told(tell_lines(alloc, name, dump, out, err)),
         Order::Check {
             wires,
             part,
+            views,
             dump: name,
-        } => check(alloc, name, wires, &part, is_again, named, dump, out, err),
+        } => check(
+            alloc, name, wires, &part, views, is_again, named, dump, out, err, save, cut,
+        ),
         Order::Pick {
             wires,
             part,
             dump: name,
-        } => pick(alloc, name, wires, &part, named, dump, out, err),
+        } => told(pick(alloc, name, wires, &part, named, dump, out, err)),
+    }
+}
+
+// A command that names no file to show what it found.
+fn told(end: Result<Ending, Stop>) -> Result<Ended, Stop>
+    ensures ok { IfOk end (λ ending. result ≡ Ok (record { ending = ending; shown = Ok tt })) }
+    ensures err { IfErr end (λ stop. result ≡ Err stop) }
+{
+    match end {
+        Ok(ending) => Ok(Ended {
+            ending,
+            shown: Ok(()),
+        }),
+        Err(stop) => Err(stop),
     }
 }
 
@@ -94,30 +129,54 @@ fn tell_lines<S: Source, O: Sink, E: Sink>(
     hand_out(&answer, out, err)
 }
 
-// Judges the parts of a dump that the words name, and tells what was found.
-fn check<L: Source, S: Source, O: Sink, E: Sink>(
+// Judges the parts of a dump that the words name, tells what was found, and says why a file that shows it is not written.
+fn check<L: Source, S: Source, O: Sink, E: Sink, V: Sink, C: Sink>(
     alloc: Global,
     name: &str,
     wires: Wires<'_>,
     words: &Part,
+    views: Views<'_>,
     is_again: bool,
     named: &mut L,
     dump: &mut S,
     out: &mut O,
     err: &mut E,
-) -> Result<Ending, Stop>
+    save: &mut V,
+    cut: &mut C,
+) -> Result<Ended, Stop>
     requires named { length name.now ≤ 4096 }
     requires wires { KeepsWires wires }
-    ensures ends { IsTrue L.tells → IsTrue S.tells →
-        IfOk result (EndsCheck wires.entry words.now (L.holds named.old) (S.holds dump.old)) }
+    requires views { KeepsViews views }
+    ensures ends { IsTrue L.tells → IsTrue S.tells → IsTrue V.tells → IsTrue C.tells →
+        IfOk result (λ ended.
+        EndsCheck wires.entry words.now (L.holds named.old) (S.holds dump.old) (record {
+          name = name.now;
+          views = views.entry;
+          files = record {
+            save_old = V.holds save.old;
+            save_new = V.holds save.new;
+            cut_old = C.holds cut.old;
+            cut_new = C.holds cut.new;
+          };
+          is_unwritten = is_err ended.shown;
+        }) ended.ending) }
     ensures lines_fault { result ≡ Err Stop.Lines →
         Rose (L.faults named.old) (L.faults named.new) }
     ensures dump_fault { result ≡ Err Stop.Dump → Rose (S.faults dump.old) (S.faults dump.new) }
     ensures out_fault { result ≡ Err Stop.Out →
         Rose (O.faults out.old) (O.faults out.new) ⊎ Rose (E.faults err.old) (E.faults err.new) }
+    ensures shown { IfOk result (λ ended. IfErr ended.shown
+        (MayStop (Rose (S.faults dump.old) (S.faults dump.new))
+        (Rose (V.faults save.old) (V.faults save.new))
+        (IsTrue S.tells → Rose (C.faults cut.old) (C.faults cut.new))
+        (IsTrue S.tells → IsTrue C.tells → IsUncopied (S.holds dump.old)))) }
 {
-    let answer = check_answer(alloc, name, wires, words, is_again, named, dump)?;
-    hand_out(&answer, out, err)
+    let viewed = check_answer(
+        alloc, name, wires, words, views, is_again, named, dump, save, cut,
+    )?;
+    let ending = hand_out(&viewed.answer, out, err)?;
+    let shown = viewed.shown;
+    Ok(Ended { ending, shown })
 }
 
 // Writes the part of a dump that the words name, and tells what was not written.

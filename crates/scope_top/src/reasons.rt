@@ -1,6 +1,6 @@
 //! The reasons of a rejected dump, which is read once more for them.
 
-ghost use Rattle.std.specs.Prelude.{◌≤◌, length};
+ghost use Rattle.std.specs.Prelude.{◌≡◌, ◌≤◌, IsTrue, length};
 
 use crate::stopped::PIECE;
 use fsb_io::Source;
@@ -39,6 +39,8 @@ pub(crate) fn reasons_of<S: Source>(
     dump: &mut S,
 ) -> Vec<Sentence>
     requires { length name.now ≤ 4096 }
+    ensures later { S.faults dump.old ≤ S.faults dump.new }
+    ensures holds_stays { IsTrue S.tells → S.holds dump.new ≡ S.holds dump.old }
 {
     match (sampling, first_fault(finding)) {
         (Some(sampling), Some(fault)) => {
@@ -70,6 +72,8 @@ fn read_again<S: Source>(
     dump: &mut S,
 ) -> Result<Vec<Sentence>, AllocError>
     requires { length name.now ≤ 4096 }
+    ensures later { S.faults dump.old ≤ S.faults dump.new }
+    ensures holds_stays { IsTrue S.tells → S.holds dump.new ≡ S.holds dump.old }
 {
     let mut room = vec![in alloc; 0; PIECE]?;
     match explained_of(alloc, name, dump, &mut room, choice, part, sampling) {

@@ -66,6 +66,8 @@ pub fn hints_of<S: Source>(
     requires { length name.now ≤ 4096 }
     ensures hints { IsTrue S.tells → IfOk result (λ v.
         All (IsHint choice.now plan edge broken (S.holds dump.old)) v.items) }
+    ensures later { S.faults dump.old ≤ S.faults dump.new }
+    ensures holds_stays { IsTrue S.tells → S.holds dump.new ≡ S.holds dump.old }
 {
     let mut hints = Vec::new(alloc);
     for by in &TRIES {
@@ -102,6 +104,7 @@ fn hint_of<S: Source>(
     requires { length name.now ≤ 4096 }
     ensures hint { IsTrue S.tells → IfOk result (λ o.
         IfSome o (IsHint choice.now plan edge broken (S.holds dump.old))) }
+    ensures later { S.faults dump.old ≤ S.faults dump.new }
     ensures holds_stays { IsTrue S.tells → S.holds dump.new ≡ S.holds dump.old }
 {
     let sampling = sampling_by(alloc, by, edge)?;

@@ -5,6 +5,7 @@ use Rattle.scope_words.specs.declared.moment.Moment.{Moment}
 use Rattle.scope_words.specs.declared.moment.Moment.TheVariants.{Clock, Time}
 use Rattle.scope_words.specs.declared.order.Order.{Order}
 use Rattle.scope_words.specs.declared.order.Order.TheVariants as orders
+use Rattle.scope_words.specs.declared.order.Views.{Views}
 use Rattle.scope_words.specs.declared.order.Wires.{Wires}
 use Rattle.scope_words.specs.declared.order.Part.{Part}
 use Rattle.scope_words.specs.declared.orders.Reading.{Reading}
@@ -49,10 +50,15 @@ KeepsPart part =
     ((part.at ≡ None) ⊎ (part.from ≡ None)) × (ends_before part.at part.to ≡ false)
     × (ends_before part.from part.to ≡ false) × (1 ≤ part.quiet) × IsMost part.most
 
+-- what an order says of the files that show a broken rule
+abbrev pub KeepsViews : Views → Type 0
+KeepsViews views = IfSome views.save (λ file. IsName file.now) × IfSome views.cut (λ file. IsName file.now)
+
 -- names have 1 to 4,096 bytes, and a rule is one of 1 to 31
 abbrev pub KeepsLimits : Order → Type 0
 KeepsLimits (orders.Lines dump) = IsName dump.now
-KeepsLimits (orders.Check wires part dump) = KeepsWires wires × KeepsPart part × IsName dump.now
+KeepsLimits (orders.Check wires part views dump) =
+    KeepsWires wires × KeepsPart part × KeepsViews views × IsName dump.now
 KeepsLimits (orders.Pick wires part dump) = KeepsWires wires × KeepsPart part × IsName dump.now
 KeepsLimits (orders.Rule number) = IfSome number (λ n. (1 ≤ n) × (n ≤ 31))
 

@@ -14,6 +14,7 @@ pub enum Order<'a> {
     Check {
         wires: Wires<'a>,
         part: Part,
+        views: Views<'a>,
         dump: &'a str,
     },
     /// To write the picked lines as a dump of its own.
@@ -39,6 +40,15 @@ pub struct Wires<'a> {
     pub is_first: bool,
     /// The lines that are sampled after the changes of the edge's own time, by their numbers.
     pub after: Vec<u8>,
+}
+
+/// The files that show the first broken rule.
+#[derive(Clone, Copy, Debug)]
+pub struct Views<'a> {
+    /// A save file for GTKWave.
+    pub save: Option<&'a str>,
+    /// A dump of the clocks around it.
+    pub cut: Option<&'a str>,
 }
 
 /// The edge of the clock at which the lines are sampled.

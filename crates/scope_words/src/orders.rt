@@ -8,6 +8,7 @@ use crate::order::Order;
 use crate::part::part_of;
 use crate::told::{Stop, Told, told_by_clap, wrong, wrong_value};
 use crate::usage::usage;
+use crate::views::views_of;
 use crate::wires::{named, wires_of};
 use clap::ArgMatches;
 use fsb_io::Memory;
@@ -72,6 +73,7 @@ fn order_behind<'a>(alloc: Global, verb: &str, found: &ArgMatches<'a>) -> Result
         "check" => Ok(Order::Check {
             wires: wires_of(alloc, found)?,
             part: part_of(alloc, found)?,
+            views: views_of(alloc, found)?,
             dump: dump_of(alloc, found)?,
         }),
         "pick" => Ok(Order::Pick {

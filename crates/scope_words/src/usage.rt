@@ -12,6 +12,8 @@ const WIRES: &str = "Which wires are the bus";
 
 const PART: &str = "Which clocks are judged, or written";
 
+const VIEWS: &str = "What is written beside the report of a broken rule";
+
 /// The program with its verbs.
 pub(crate) fn usage<'a>(alloc: Global) -> Result<Command<'a>, AllocError> {
     let usage = with_verb(program(alloc), lines(alloc));
@@ -40,7 +42,8 @@ fn lines<'a>(alloc: Global) -> Result<Command<'a>, AllocError> {
 
 fn check<'a>(alloc: Global) -> Result<Command<'a>, AllocError> {
     let about = "Says whether the bus keeps its rules, and explains the first one that it breaks";
-    with_resumed(alloc, with_judged(alloc, verb(alloc, "check", about)))
+    let judged = with_resumed(alloc, with_judged(alloc, verb(alloc, "check", about)));
+    with_views(alloc, judged)
 }
 
 fn pick<'a>(alloc: Global) -> Result<Command<'a>, AllocError> {
@@ -122,6 +125,17 @@ fn with_resumed<'a>(
     with(verb, part(alloc, "max", "N", help))
 }
 
+// The options that name files which show the first broken rule.
+fn with_views<'a>(
+    alloc: Global,
+    verb: Result<Command<'a>, AllocError>,
+) -> Result<Command<'a>, AllocError> {
+    let help = "Writes a save file for GTKWave: the wires, and a marker on the broken clock";
+    let verb = with(verb, view(alloc, "save", help));
+    let help = "Writes the lines of the bus around the broken clock as a dump of its own";
+    with(verb, view(alloc, "cut", help))
+}
+
 fn dump<'a>(alloc: Global) -> Arg<'a> {
     argument(alloc, "dump", "A VCD file")
         .required(true)
@@ -153,6 +167,13 @@ fn part<'a>(alloc: Global, name: &'a str, value: &'a str, help: &'a str) -> Arg<
     option(alloc, name, help)
         .value_name(value)
         .help_heading(PART)
+}
+
+// An option that names a file to be written.
+fn view<'a>(alloc: Global, name: &'a str, help: &'a str) -> Arg<'a> {
+    option(alloc, name, help)
+        .value_name("FILE")
+        .help_heading(VIEWS)
 }
 
 // An option that may stand more than once.

@@ -1,0 +1,4 @@
+pub mod Names
+pub mod Bits
+pub mod Views
+pub mod SaveText
