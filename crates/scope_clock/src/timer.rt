@@ -72,6 +72,8 @@ impl EventWatcher for Timer {
 
     ghost has_failed = { λ _ _. ⊥ };
 
+    ghost most = { 0 };
+
     fn see(&mut self, event: &CourseEvent) -> Result<(), WatchStop> {
         match event.told {
             Told::Sampled(_) => self.pass(time_at(event.stamp)),
