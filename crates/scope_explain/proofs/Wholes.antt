@@ -5,7 +5,6 @@ use Rattle.fsb_signal.specs.declared.sample.Sample.{Sample}
 use Rattle.vcd_way.specs.Declarations.{Declaration}
 use Rattle.vcd_way.specs.Ways.{Way}
 use Rattle.vcd_way.specs.Events.{DumpEvent}
-use Rattle.vcd_scan.specs.declared.early.EarlyEnd.{EarlyEnd}
 use Rattle.scope_check.specs.declared.part.Part.{Part}
 use Rattle.scope_check.specs.declared.parting.Parting.{Parting}
 use Rattle.scope_check.specs.Bounds.{most_counted}
@@ -16,6 +15,7 @@ use Rattle.scope_way.specs.Wired.{wired_way}
 use Rattle.scope_watch.specs.declared.header.Header.{Header}
 use Rattle.scope_watch.specs.declared.stop.ScopeStop.{ScopeStop}
 use Rattle.scope_watch.specs.declared.stop.ScopeStop.TheVariants as stops
+use Rattle.scope_watch.specs.declared.values.Ended.{Ended}
 use Rattle.scope_watch.specs.declared.values.Sampling.{Sampling}
 use Rattle.scope_watch.specs.Checking.{IsWiredBy}
 use Rattle.scope_watch.specs.Heading.{IsHeaded}
@@ -50,7 +50,7 @@ none-more first old es e g s parted = record {
 -- ---- the text
 
 -- a watcher that stops does so for want of memory or of numbers
-abbrev pub watched : ScopeStop → Result (Option EarlyEnd) ScopeStop
+abbrev pub watched : ScopeStop → Result Ended ScopeStop
 watched stop = Err stop
 
 pub found-stop : (stop : ScopeStop) (seen : List DumpEvent → Type 0) (p : Part) (m : Marks)
@@ -64,12 +64,12 @@ found-stop stops.WriteFault seen p m way text never h = never refl
 found-stop stops.Memory seen p m way text never h = tt
 
 -- what a watcher tells at the end of a text
-pub found-whole : (first last : Explainer) (early : Option EarlyEnd) (found : Option Explained) (p : Part) (m : Marks)
+pub found-whole : (first last : Explainer) (ended : Ended) (found : Option Explained) (p : Part) (m : Marks)
     (way : Way (List Declaration)) (text : List ℕ) → first.part ≡ p → first.marks ≡ m
-    → IsRead early (λ es. HasExplained first last es) way text
+    → IsRead ended (λ es. HasExplained first last es) way text
     → ((n : Marks) (w : List Sample) → Stands last.explaining n w → IsExplainedBy found n w)
     → IsFound found p m way text
-found-whole first last early found p m way text e f r told =
+found-whole first last ended found p m way text e f r told =
     let here : IsFound found first.part first.marks way text = record {
       none = r.none;
       before = r.shown.parted.before;
