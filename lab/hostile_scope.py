@@ -291,11 +291,11 @@ def differs_edited(text, answer):
 
 GOOD = {"--max": ["1", "16", "07"], "--scope": ["fsb"], "--line": ["ADS_n=fsb.ADS_n", "hit#=HIT_n", "D_n=!fsb.D_n", "A_n=fsb.A_n[35:3]", "REQ_n=REQ_n[4:0]"],
         "--lines": ["good.lines", "empty.lines"], "--without": ["D_n", "BREQ1_n", "bnr#", "AP_n"], "--edge": ["rise", "fall"],
-        "--after": ["ADS_n", "A_n,REQ_n", "BCLK", "ads_l,D_n"], "--at": ["0", "3", "0007", "4294967295", "55ns"], "--from": ["0", "5", "4294967295"],
+        "--after": ["ADS_n", "A_n,REQ_n", "LOCK_n", "ads_l,D_n"], "--at": ["0", "3", "0007", "4294967295", "55ns"], "--from": ["0", "5", "4294967295"],
         "--to": ["0", "9", "4294967295"], "--quiet": ["1", "2", "4294967295"]}
 BAD = {"--scope": ["", "x" * 4097], "--line": ["", "ADS", "ADS_n", "ADS_n=", "=x", "ADS_n=!", "ADQ_n=x", "ADS_n=" + "x" * 5000],
        "--lines": ["", "y" * 4097], "--without": ["", "ADS", "D_n,A_n", "d n"], "--edge": ["", "Rise", "both", "rise "],
-       "--after": ["", ",", "ADS_n,", "ADS", "ADS_n, A_n"], "--max": ["", "0", "17", "-1", "x"], "--at": ["", "-1", "ns", "5Ns", "5 ns", "5xs", "1.5", "4294967296", "x", "+1", "0x1", "1 ", "\u0661", "12345678901"],
+       "--after": ["", ",", "ADS_n,", "ADS", "ADS_n, A_n", "BCLK", "A_n,BCLK"], "--max": ["", "0", "17", "-1", "x"], "--at": ["", "-1", "ns", "5Ns", "5 ns", "5xs", "1.5", "4294967296", "x", "+1", "0x1", "1 ", "\u0661", "12345678901"],
        "--from": ["", "-2", "4294967296", "ten"], "--to": ["", "4294967296", "1e3"], "--quiet": ["", "0", "00", "4294967296", "-1"]}
 SINGLE = [name for name in GOOD if name not in ("--line", "--without", "--after")]
 FLAGS = ["--first", "--resume"]
@@ -588,17 +588,26 @@ def fail_each(program, folder, words, call, errors, path):
             program.expect(shown, "the same answer, or a failure that is told", answer, is_failure_told(answer, whole, call, error, path))
 
 
-def untried(report):
-    """A report without what other ways to sample the dump would give."""
-    return [line for line in report.split(b"\n") if not line.startswith(b"with --")]
+def is_read_once(report, whole):
+    """The report lacks nothing but what a dump that is read again gives: the reasons, and what other ways to sample it would give."""
+    rest = iter(whole.split(b"\n"))
+    for line in report.split(b"\n"):
+        for other in rest:
+            if other == line:
+                break
+            if not other.startswith((b"with --", b"  ")):
+                return False
+        else:
+            return False
+    return all(line.startswith((b"with --", b"  ")) or not line for line in rest)
 
 
 def is_failure_told(answer, whole, call, error, path):
     status, out, err = answer
     if answer == whole and (error == "EINTR" or whole[0] == 4):
         return True
-    # a try of another way to sample, after a reject, that fails is left out
-    if call != "write" and status == whole[0] == 1 and err == whole[2] and untried(out) == untried(whole[1]):
+    # a reading after a reject, for the reasons or in another way, that fails is left out
+    if call != "write" and status == whole[0] == 1 and err == whole[2] and is_read_once(out, whole[1]):
         return True
     if call == "write":
         if whole[1]:          # its text goes to standard output: lost, so 4
@@ -640,7 +649,7 @@ def refuse_each(program, folder, library, words):
             counts[answer[0]] += 1
             # (a dump that is picked is written as it is read)
             is_lacking = answer[0] == 5 and answer[2] in LACKING and (not answer[1] or words[0] == "pick" and whole[1].startswith(answer[1]))
-            is_tried = answer[0] == whole[0] == 1 and answer[2] == whole[2] and untried(answer[1]) == untried(whole[1])
+            is_tried = answer[0] == whole[0] == 1 and answer[2] == whole[2] and is_read_once(answer[1], whole[1])
             is_right = is_lacking or is_tried or answer == whole and (number > total or not to_the_end)
             is_reason = words[-1] == "none.vcd" and answer[0] in (4, 5) and not answer[1] and answer[2].count(b"\n") == 1
             program.expect(["(allocation %d of %d refused%s)" % (number, total, ", and all behind" if to_the_end else "")] + words,
