@@ -1,16 +1,8 @@
 -- A timely run whose plan keeps the bounds is accepted: no rule is broken at any of its clocks.
-use Rattle.std.proofs.Common.{ℕ, ◌<◌, ◌≡◌, false, None, is_some, length, refl, ap, arith, below_more}
-use Rattle.fsb_count.proofs.Interface.{first_where-off}
-use Rattle.fsb_signal.specs.declared.marks.Marks.{Marks}
-use Rattle.fsb_signal.specs.Parity.{marks_in}
-use Rattle.fsb_trace.specs.At.{Trace}
-use Rattle.fsb_trace.specs.Verdict.{is_broken, breaks_a_rule, least_rule, verdict}
-use Rattle.fsb_trace.proofs.Interface.{breaks-none}
-use Rattle.fsb_timely.specs.Runs.{Run}
-use Rattle.fsb_timely.specs.Timely.{Timely}
-use Rattle.fsb_lawful.specs.Beginning.{KeepsBounds}
-use Rattle.fsb_lawful.specs.Keeps.{Keeps}
-use Rattle.fsb_lawful.specs.Premises.{WritesBackAlone}
+use Rattle.fsb_lawful.proofs.Words
+use Words.{ℕ, ◌<◌, ◌≡◌, false, None, is_some, length, refl, ap, arith, below_more, first_where-off, Marks, marks_in}
+use Words.{Trace, is_broken, breaks_a_rule, least_rule, verdict, breaks-none, Run, Timely, KeepsBounds, Keeps}
+use Words.{WritesBackAlone}
 use Rattle.fsb_lawful.proofs.AddressErrors.{keeps-10}
 use Rattle.fsb_lawful.proofs.Answers.{keeps-13, keeps-15}
 use Rattle.fsb_lawful.proofs.Beginnings.{keeps-2, keeps-4, keeps-5, keeps-6}

@@ -1,16 +1,8 @@
 -- Rule 10: an address error of a timely run cancels a request.
-use Rattle.std.proofs.Common.{ℕ, ◌+◌, ◌<◌, ◌≡◌, true, length, take, arith}
-use Rattle.fsb_signal.specs.declared.lines.TheConstants.Lines.{ADS, AERR}
-use Rattle.fsb_signal.specs.declared.marks.Marks.{Marks}
-use Rattle.fsb_signal.specs.Samples.{line_at}
-use Rattle.fsb_trace.specs.At.{line_back}
-use Rattle.fsb_trace.specs.Rules.{is_error_alone}
-use Rattle.fsb_trace.proofs.Interface.{breaks-10}
-use Rattle.fsb_timely.specs.Past.{Past}
-use Rattle.fsb_timely.specs.Runs.{Run, run_to, past_of, past_to}
-use Rattle.fsb_timely.specs.Snoops.{is_error_chosen, drives_aerr, drives_hazards}
-use Rattle.fsb_timely.specs.Timely.{holds_in, holds_at, Timely}
-use Rattle.fsb_lawful.specs.Keeps.{Keeps}
+use Rattle.fsb_lawful.proofs.Words
+use Words.{ℕ, ◌+◌, ◌<◌, ◌≡◌, true, length, take, arith, ADS, AERR, Marks, line_at, line_back, is_error_alone, breaks-10}
+use Words.{Past, Run, run_to, past_of, past_to, is_error_chosen, drives_aerr, drives_hazards, holds_in, holds_at}
+use Words.{Timely, Keeps}
 use Rattle.fsb_lawful.proofs.Keeping.{keeps}
 
 chosen : (r : Run) (c : ℕ) → is_error_chosen r c ≡ true → line_back ADS r.trace c 3 ≡ true

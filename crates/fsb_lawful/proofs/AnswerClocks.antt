@@ -1,21 +1,11 @@
 -- The clock from which a live request is answered: what it rests on, and that it stays.
-use Rattle.std.proofs.Common.{ℕ, zero, suc, ◌+◌, ◌<◌, ◌≤◌, ◌≡◌, true, ◌||◌, Option, Some, max, refl, ap, arith}
-use Rattle.std.proofs.Common.{add-one, subst, length}
-use Rattle.std.specs.Option.{option_map}
-use Rattle.fsb_count.specs.Options.{is_some_and, is_before, greater_of}
-use Rattle.fsb_count.specs.Clocks.{count_where, nth_where}
-use Rattle.fsb_count.proofs.Interface.{count_where-above, nth_where-found, nth_where-there, nth_where-at}
-use Rattle.fsb_signal.specs.declared.lines.TheConstants.Lines.{HITM}
-use Rattle.fsb_trace.specs.At.{Trace, responds_at}
-use Rattle.fsb_trace.specs.Agree.{AgreeTo}
-use Rattle.fsb_trace.specs.Requests.{is_write_back}
-use Rattle.fsb_trace.specs.Snoop.{snoop_end_of}
-use Rattle.fsb_trace.specs.Outcome.{response_clock_of}
-use Rattle.fsb_trace.specs.Response.{takes, end_of, is_clear_before, two_after_snoop, answer_from}
-use Rattle.fsb_trace.specs.Rules.{next_response}
-use Rattle.fsb_trace.proofs.Interface.{snoop_end_of-stays, snoop_end_of-before, end_of-stays, end_of-response}
-use Rattle.fsb_trace.proofs.Interface.{live_request_of-stays, line_at_snoop_end-stays}
-use Rattle.fsb_laws.proofs.Interface.{HasAnswer, clear_parts}
+use Rattle.fsb_lawful.proofs.Words
+use Words.{ℕ, zero, suc, ◌+◌, ◌<◌, ◌≤◌, ◌≡◌, true, ◌||◌, Option, Some, max, refl, ap, arith, add-one, subst, length}
+use Words.{option_map, is_some_and, is_before, greater_of, count_where, nth_where, count_where-above, nth_where-found}
+use Words.{nth_where-there, nth_where-at, HITM, Trace, responds_at, AgreeTo, is_write_back, snoop_end_of}
+use Words.{response_clock_of, takes, end_of, is_clear_before, two_after_snoop, answer_from, next_response}
+use Words.{snoop_end_of-stays, snoop_end_of-before, end_of-stays, end_of-response, live_request_of-stays}
+use Words.{line_at_snoop_end-stays, HasAnswer, clear_parts}
 
 -- the parts of the clock from which the first request is answered, and of that of another one
 first_parts : (w : Trace) (f : ℕ) (o : Option ℕ) → snoop_end_of w 0 ≡ o → option_map (λ s. s + 2) o ≡ Some f

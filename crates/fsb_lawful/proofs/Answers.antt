@@ -1,24 +1,10 @@
 -- Rules 13 and 15: responses and TRDY# of a timely run come in time.
-use Rattle.std.proofs.Common.{ℕ, ◌+◌, ◌<◌, ◌≡◌, Bool, true, false, not, ◌&&◌, length, take, refl, sym, ap, ◌∙◌, arith}
-use Rattle.std.proofs.Common.{subst}
-use Rattle.std.proofs.lemmas.Bool.{and_parts, or_from}
-use Rattle.fsb_count.specs.Options.{is_some_and, is_before}
-use Rattle.fsb_count.proofs.Interface.{any_where-found, count_where-mono, is_before-parts}
-use Rattle.fsb_signal.specs.declared.lines.TheConstants.Lines.{TRDY}
-use Rattle.fsb_signal.specs.declared.marks.Marks.{Marks}
-use Rattle.fsb_signal.specs.Samples.{line_at}
-use Rattle.fsb_trace.specs.At.{Trace, responds_at}
-use Rattle.fsb_trace.specs.Requests.{live_count}
-use Rattle.fsb_trace.specs.Response.{takes, ready_clock_of}
-use Rattle.fsb_trace.specs.Rules.{next_response, may_answer, is_response_early, responds_soundly, is_ready_in_time}
-use Rattle.fsb_trace.specs.Rules.{is_ready_wrongly, is_target_ready_wrong}
-use Rattle.fsb_trace.proofs.Interface.{breaks-13, breaks-15}
-use Rattle.fsb_laws.proofs.Interface.{may_answer-from}
-use Rattle.fsb_timely.specs.Runs.{Run, run_to}
-use Rattle.fsb_timely.specs.Snoops.{live_choice}
-use Rattle.fsb_timely.specs.Timely.{Timely}
-use Rattle.fsb_timely.specs.Transfers.{is_ready_due}
-use Rattle.fsb_lawful.specs.Keeps.{Keeps}
+use Rattle.fsb_lawful.proofs.Words
+use Words.{ℕ, ◌+◌, ◌<◌, ◌≡◌, Bool, true, false, not, ◌&&◌, length, take, refl, sym, ap, ◌∙◌, arith, subst, and_parts}
+use Words.{or_from, is_some_and, is_before, any_where-found, count_where-mono, is_before-parts, TRDY, Marks, line_at}
+use Words.{Trace, responds_at, live_count, takes, ready_clock_of, next_response, may_answer, is_response_early}
+use Words.{responds_soundly, is_ready_in_time, is_ready_wrongly, is_target_ready_wrong, breaks-13, breaks-15}
+use Words.{may_answer-from, Run, run_to, live_choice, Timely, is_ready_due, Keeps}
 use Rattle.fsb_lawful.proofs.Keeping.{and-fails, keeps}
 use Rattle.fsb_lawful.proofs.OneAnswer.{transfers-at, one_answer, answered-next, ready-then}
 use Rattle.fsb_lawful.proofs.Responding.{Responding, IsReadyDue, responding-answer, ready-answer, one-ready}

@@ -1,23 +1,10 @@
 -- Rules 2, 4, 5 and 6: a request of a timely run begins only where it may.
-use Rattle.std.proofs.Common.{ℕ, ◌+◌, ◌<◌, ◌≡◌, Bool, true, false, not, ◌||◌, Option, Some, length, take, nat_lt}
-use Rattle.std.proofs.Common.{nat_le, is_none, refl, ◌∙◌, ap, arith}
-use Rattle.std.proofs.lemmas.Bool.{and_parts, ltb-true, lt-leb}
-use Rattle.fsb_count.specs.Options.{is_some_and}
-use Rattle.fsb_signal.specs.declared.lines.TheConstants.Lines.{ADS, BNR}
-use Rattle.fsb_signal.specs.declared.marks.Marks.{Marks}
-use Rattle.fsb_signal.specs.Samples.{line_at}
-use Rattle.fsb_trace.specs.At.{Trace, line_back}
-use Rattle.fsb_trace.specs.Winner.{winner_at}
-use Rattle.fsb_trace.specs.Flight.{in_flight}
-use Rattle.fsb_trace.specs.declared.who.Who.{Who}
-use Rattle.fsb_trace.specs.Rules.{is_request_too_soon, is_queue_full, is_request_blocked, has_no_winner}
-use Rattle.fsb_trace.proofs.Interface.{breaks-2, breaks-4, breaks-5, breaks-6, winner_after-low}
-use Rattle.fsb_timely.specs.Past.{Past}
-use Rattle.fsb_timely.specs.Runs.{Run, run_to, past_of, past_to}
-use Rattle.fsb_timely.specs.Starts.{is_kept_back, is_spaced, has_room, has_free_winner, may_begin, drives_ads}
-use Rattle.fsb_timely.specs.Starts.{starts_requests}
-use Rattle.fsb_timely.specs.Timely.{holds_in, holds_at, Timely}
-use Rattle.fsb_lawful.specs.Keeps.{Keeps}
+use Rattle.fsb_lawful.proofs.Words
+use Words.{ℕ, ◌+◌, ◌<◌, ◌≡◌, Bool, true, false, not, ◌||◌, Option, Some, length, take, nat_lt, nat_le, is_none, refl}
+use Words.{◌∙◌, ap, arith, and_parts, ltb-true, lt-leb, is_some_and, ADS, BNR, Marks, line_at, Trace, line_back}
+use Words.{winner_at, in_flight, Who, is_request_too_soon, is_queue_full, is_request_blocked, has_no_winner, breaks-2}
+use Words.{breaks-4, breaks-5, breaks-6, winner_after-low, Past, Run, run_to, past_of, past_to, is_kept_back, is_spaced}
+use Words.{has_room, has_free_winner, may_begin, drives_ads, starts_requests, holds_in, holds_at, Timely, Keeps}
 use Rattle.fsb_lawful.proofs.Keeping.{and-fails, and4, not-true, keeps}
 
 -- what a trace has at a clock where a request begins

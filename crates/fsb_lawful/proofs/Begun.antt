@@ -1,20 +1,10 @@
 -- The request that begins in a timely run is the one that its winner would begin.
-use Rattle.std.proofs.Common.{ℕ, suc, ◌+◌, ◌<◌, ◌≡◌, Bool, true, false, Option, Some, None, length, refl, sym, ap}
-use Rattle.std.proofs.Common.{arith}
-use Rattle.std.specs.Option.{option_map}
-use Rattle.fsb_count.specs.Options.{is_some_and}
-use Rattle.fsb_encode.specs.Decoded.{is_pair}
-use Rattle.fsb_encode.specs.declared.request.Pair.{Pair}
-use Rattle.fsb_encode.specs.declared.request.Request.{Request}
-use Rattle.fsb_encode.specs.Request.{is_lawful_request, pairs_of}
+use Rattle.fsb_lawful.proofs.Words
+use Words.{ℕ, suc, ◌+◌, ◌<◌, ◌≡◌, Bool, true, false, Option, Some, None, length, refl, sym, ap, arith, option_map}
+use Words.{is_some_and, is_pair, Pair, Request, is_lawful_request, pairs_of, ADS, line_at, Trace, line_back}
+use Words.{known_pair_at, request_at, Past, Run, run_to, past_of, past_to, request_begun, request_begun_before}
+use Words.{pair_due, drives_pair, starts_requests, holds_in, holds_at, Timely}
 use Rattle.fsb_encode.proofs.Interface.{request_of_coded}
-use Rattle.fsb_signal.specs.declared.lines.TheConstants.Lines.{ADS}
-use Rattle.fsb_signal.specs.Samples.{line_at}
-use Rattle.fsb_trace.specs.At.{Trace, line_back, known_pair_at, request_at}
-use Rattle.fsb_timely.specs.Past.{Past}
-use Rattle.fsb_timely.specs.Runs.{Run, run_to, past_of, past_to}
-use Rattle.fsb_timely.specs.Starts.{request_begun, request_begun_before, pair_due, drives_pair, starts_requests}
-use Rattle.fsb_timely.specs.Timely.{holds_in, holds_at, Timely}
 use Rattle.fsb_lawful.proofs.Beginnings.{spaced}
 use Rattle.fsb_lawful.proofs.Cuts.{slice_get-take, past-twice, line-to}
 use Rattle.fsb_lawful.proofs.CutRuns.{run-twice}

@@ -1,33 +1,16 @@
 -- Rule 9: the bus lock of a timely run begins with a request.
-use Rattle.std.proofs.Common.{ℕ, zero, suc, ◌+◌, ◌-◌, ◌<◌, ◌≤◌, ◌≡◌, Bool, true, false, ◌&&◌, Option, Some, None}
-use Rattle.std.proofs.Common.{length, take, nat_eq, nat_le, refl, sym, ap, ◌∙◌, ◌⊎◌, arith, inl, inr, add-one}
-use Rattle.std.specs.List.{slice_get, list_any}
-use Rattle.std.specs.Option.{option_and_then, option_map}
-use Rattle.std.proofs.lemmas.Bool.{eqb-true, le-leb}
-use Rattle.std.proofs.lemmas.List.{length-take-le}
-use Rattle.fsb_count.specs.Options.{is_some_and}
-use Rattle.fsb_count.specs.Clocks.{AgreeBelow, any_where, from_clock, count_where, nth_where, last_where, holds_since}
-use Rattle.fsb_count.proofs.Interface.{any_where-at, any_where-found, any_where-same, holds_since-more}
-use Rattle.fsb_count.proofs.Interface.{nth_where-found}
-use Rattle.fsb_signal.specs.declared.lines.TheConstants.Lines.{ADS, LOCK}
-use Rattle.fsb_signal.specs.declared.marks.Marks.{Marks}
-use Rattle.fsb_signal.specs.Samples.{line_at}
-use Rattle.fsb_trace.specs.At.{Trace, line_back, responds_at, response_code_at}
+use Rattle.fsb_lawful.proofs.Words
+use Words.{ℕ, zero, suc, ◌+◌, ◌-◌, ◌<◌, ◌≤◌, ◌≡◌, Bool, true, false, ◌&&◌, Option, Some, None, length, take, nat_eq}
+use Words.{nat_le, refl, sym, ap, ◌∙◌, ◌⊎◌, arith, inl, inr, add-one, slice_get, list_any, option_and_then, option_map}
+use Words.{eqb-true, le-leb, length-take-le, is_some_and, AgreeBelow, any_where, from_clock, count_where, nth_where}
+use Words.{last_where, holds_since, any_where-at, any_where-found, any_where-same, holds_since-more, nth_where-found}
+use Words.{ADS, LOCK, Marks, line_at, Trace, line_back, responds_at, response_code_at, response_code_of, is_live}
+use Words.{live_clock_of, is_lock_alone, breaks-9, moment_at, begun_with, retried_at, responded_at, cancelled_at, Past}
+use Words.{Owing, Run, run_to, past_of, past_to, begun_at, items_of, is_locked, holds_in, holds_at, Timely, last-same}
+use Words.{moment_of, moment-at, Keeps}
 use Rattle.fsb_trace.specs.declared.outcome.Outcome.TheVariants.{Retried}
-use Rattle.fsb_trace.specs.Outcome.{response_code_of}
-use Rattle.fsb_trace.specs.Requests.{is_live, live_clock_of}
-use Rattle.fsb_trace.specs.Rules.{is_lock_alone}
-use Rattle.fsb_trace.proofs.Interface.{breaks-9}
 use Rattle.fsb_timely.specs.BusLock.{is_begun_by, is_locked_request, ends_locked_item, is_lock_retried}
 use Rattle.fsb_timely.specs.BusLock.{is_lock_cancelled, is_release, is_released_before, keeps_lock, drives_lock}
-use Rattle.fsb_timely.specs.Moments.{moment_at, begun_with, retried_at, responded_at, cancelled_at}
-use Rattle.fsb_timely.specs.Past.{Past, Owing}
-use Rattle.fsb_timely.specs.Runs.{Run, run_to, past_of, past_to}
-use Rattle.fsb_timely.specs.Grants.{begun_at}
-use Rattle.fsb_timely.specs.Scripts.{items_of, is_locked}
-use Rattle.fsb_timely.specs.Timely.{holds_in, holds_at, Timely}
-use Rattle.fsb_timely.proofs.Interface.{last-same, moment_of, moment-at}
-use Rattle.fsb_lawful.specs.Keeps.{Keeps}
 use Rattle.fsb_lawful.proofs.Cuts.{line-to, past-twice, moments-to, begun-to, any-entry}
 use Rattle.fsb_lawful.proofs.Keeping.{and3, same-beq, keeps}
 

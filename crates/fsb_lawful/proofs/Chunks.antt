@@ -1,10 +1,8 @@
 -- The four chunks of a transfer: when they come, and how many came below a clock.
-use Rattle.std.proofs.Common.{ℕ, zero, suc, ◌+◌, ◌*◌, ◌<◌, ◌≤◌, ◌≡◌, Bool, true, ◌||◌, Option, Some, None, is_some}
-use Rattle.std.proofs.Common.{nat_eq, refl, arith, if◌then◌else◌}
-use Rattle.std.proofs.lemmas.Bool.{eq-eqb, or_left}
-use Rattle.fsb_count.specs.Clocks.{count_where}
-use Rattle.fsb_count.proofs.Interface.{count_where-above, first_where-found, first_where-none}
-use Rattle.fsb_trace.specs.Timing.{chunk_from}
+use Rattle.fsb_lawful.proofs.Words
+use Words.{ℕ, zero, suc, ◌+◌, ◌*◌, ◌<◌, ◌≤◌, ◌≡◌, Bool, true, ◌||◌, Option, Some, None, is_some, nat_eq, refl, arith}
+use Words.{if◌then◌else◌, eq-eqb, or_left, count_where, count_where-above, first_where-found, first_where-none}
+use Words.{chunk_from}
 use Rattle.fsb_lawful.proofs.OwnIds.{count-or, count-one-place}
 
 -- a chunk of the transfer that begins at r is due at t

@@ -1,14 +1,7 @@
 -- Rule 3: the words of a request are those of a lawful one.
-use Rattle.std.proofs.Common.{ℕ, zero, suc, ◌+◌, ◌<◌, ◌≡◌, true, false, length, take, is_none, refl, ap, ◌∙◌, arith}
-use Rattle.fsb_signal.specs.declared.lines.TheConstants.Lines.{ADS}
-use Rattle.fsb_signal.specs.declared.marks.Marks.{Marks}
-use Rattle.fsb_trace.specs.At.{Trace, line_back, request_at}
-use Rattle.fsb_trace.specs.Rules.{is_code_unlawful}
-use Rattle.fsb_trace.proofs.Interface.{breaks-3}
-use Rattle.fsb_timely.specs.Runs.{Run, run_to}
-use Rattle.fsb_timely.specs.Timely.{Timely}
-use Rattle.fsb_lawful.specs.Beginning.{WantsLawfully}
-use Rattle.fsb_lawful.specs.Keeps.{Keeps}
+use Rattle.fsb_lawful.proofs.Words
+use Words.{ℕ, zero, suc, ◌+◌, ◌<◌, ◌≡◌, true, false, length, take, is_none, refl, ap, ◌∙◌, arith, ADS, Marks, Trace}
+use Words.{line_back, request_at, is_code_unlawful, breaks-3, Run, run_to, Timely, WantsLawfully, Keeps}
 use Rattle.fsb_lawful.proofs.Begun.{ads-back, begun-decoded}
 use Rattle.fsb_lawful.proofs.Keeping.{keeps}
 

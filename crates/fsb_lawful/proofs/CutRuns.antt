@@ -1,23 +1,11 @@
 -- A run that is cut at a clock is a run, and its past is the past up to that clock.
-use Rattle.std.proofs.Common.{ℕ, zero, suc, ◌+◌, ◌<◌, ◌≤◌, ◌≡◌, true, false, not, Some, length, take, slice_get, refl}
-use Rattle.std.proofs.Common.{sym, ap, ◌∙◌, arith, inl, inr}
-use Rattle.std.specs.Option.{option_map_or}
-use Rattle.std.proofs.lemmas.Bool.{and_parts, cases_lt}
-use Rattle.std.proofs.lemmas.List.{length-take-le, take-append-le, take_all}
-use Rattle.fsb_count.specs.Clocks.{count_where}
-use Rattle.fsb_count.proofs.Interface.{count_where-above, count_where-same, count_where-mono, nth_where-found}
-use Rattle.fsb_hazard.specs.Choice.{quiet_choice}
-use Rattle.fsb_signal.specs.declared.lines.TheConstants.Lines.{ADS}
-use Rattle.fsb_signal.specs.Samples.{has_line, line_at}
-use Rattle.fsb_trace.specs.At.{Trace}
-use Rattle.fsb_trace.specs.Agree.{AgreeTo}
-use Rattle.fsb_trace.specs.Requests.{is_live, is_cancelled, live_clock_of}
-use Rattle.fsb_trace.specs.Snoop.{snoop_end_of}
-use Rattle.fsb_trace.proofs.Interface.{AgreeTo-sym, live_clock_of-stays, snoop_end_of-clock}
-use Rattle.fsb_timely.specs.Moments.{choice_at}
-use Rattle.fsb_timely.specs.Runs.{Run, requests_below, run_to, moments_below, past_of, past_to}
-use Rattle.fsb_timely.specs.Snoops.{live_choice}
-use Rattle.fsb_timely.proofs.Interface.{length-moments}
+use Rattle.fsb_lawful.proofs.Words
+use Words.{ℕ, zero, suc, ◌+◌, ◌<◌, ◌≤◌, ◌≡◌, true, false, not, Some, length, take, refl, sym, ap, ◌∙◌, arith, inl, inr}
+use Words.{option_map_or, and_parts, cases_lt, length-take-le, take-append-le, take_all, count_where, count_where-above}
+use Words.{count_where-same, count_where-mono, nth_where-found, quiet_choice, ADS, has_line, line_at, Trace, AgreeTo}
+use Words.{is_live, is_cancelled, live_clock_of, snoop_end_of, AgreeTo-sym, live_clock_of-stays, snoop_end_of-clock}
+use Words.{choice_at, Run, requests_below, run_to, moments_below, past_of, past_to, live_choice, length-moments}
+use Rattle.std.proofs.Common.{slice_get}
 use Rattle.fsb_lawful.proofs.Cuts.{slice_get-take, take-twice, entries-twice, run_to-agrees}
 
 -- the run up to t of the run up to c

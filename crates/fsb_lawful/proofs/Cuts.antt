@@ -1,17 +1,9 @@
 -- A past that is cut at a clock has the same up to that clock.
-use Rattle.std.proofs.Common.{ℕ, zero, suc, ◌+◌, ◌<◌, ◌≤◌, ◌≡◌, Bool, true, false, ◌||◌, List, [], ◌∷◌, length, take}
-use Rattle.std.proofs.Common.{nat_le, refl, sym, ap, ◌∙◌, arith, inl, inr}
-use Rattle.std.specs.List.{slice_get, list_any}
-use Rattle.std.specs.Option.{option_and_then}
+use Rattle.fsb_lawful.proofs.Words
+use Words.{ℕ, zero, suc, ◌+◌, ◌<◌, ◌≤◌, ◌≡◌, Bool, true, false, ◌||◌, List, [], ◌∷◌, length, take, nat_le, refl, sym}
+use Words.{ap, ◌∙◌, arith, inl, inr, slice_get, list_any, option_and_then, line_at, cases_Bool, length-take-le, Done}
+use Words.{AgreeTo, Past, Run, run_to, entries_to, past_to, begun_at, snooped_at}
 use Rattle.fsb_signal.specs.declared.lines.Lines.{Lines}
-use Rattle.fsb_signal.specs.Samples.{line_at}
-use Rattle.std.proofs.lemmas.Bool.{cases_Bool}
-use Rattle.std.proofs.lemmas.List.{length-take-le}
-use Rattle.fsb_access.specs.declared.log.Done.{Done}
-use Rattle.fsb_trace.specs.Agree.{AgreeTo}
-use Rattle.fsb_timely.specs.Past.{Past}
-use Rattle.fsb_timely.specs.Runs.{Run, run_to, entries_to, past_to}
-use Rattle.fsb_timely.specs.Grants.{begun_at, snooped_at}
 
 pub slice_get-take : {X : Type 0} (n : ℕ) (xs : List X) (k : ℕ) → k < n → slice_get (take n xs) k ≡ slice_get xs k
 slice_get-take zero xs k l = absurd (omega arith)

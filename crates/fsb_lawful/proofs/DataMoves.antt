@@ -1,31 +1,15 @@
 -- Rule 16: DRDY# and DBSY# of a timely run are those of the request that responded last.
-use Rattle.std.proofs.Common.{ℕ, zero, suc, ◌+◌, ◌*◌, ◌<◌, ◌≤◌, ◌≡◌, Bool, true, false, ◌&&◌, Some, None, is_some}
-use Rattle.std.proofs.Common.{length, take, nat_lt, refl, sym, ap, ◌∙◌, arith, inl, inr}
-use Rattle.std.specs.Option.{option_and_then}
-use Rattle.std.proofs.lemmas.Bool.{cases_Bool, cases_lt, le-leb, lt-ltb}
-use Rattle.fsb_count.specs.Options.{is_some_and}
-use Rattle.fsb_count.specs.Clocks.{any_where, count_where, from_clock}
-use Rattle.fsb_count.proofs.Interface.{any_where-at, any_where-off, count_where-mono, count_where-passed}
-use Rattle.fsb_count.proofs.Interface.{count_where-same, nth_where-found}
-use Rattle.fsb_signal.specs.declared.lines.TheConstants.Lines.{DRDY, DBSY}
-use Rattle.fsb_signal.specs.declared.marks.Marks.{Marks}
-use Rattle.fsb_signal.specs.Samples.{line_at}
-use Rattle.fsb_trace.specs.At.{responds_at}
-use Rattle.fsb_trace.specs.Outcome.{does_move, response_clock_of, moves_data}
-use Rattle.fsb_trace.specs.Requests.{live_count}
-use Rattle.fsb_trace.specs.Response.{end_of}
-use Rattle.fsb_trace.specs.Rules.{is_transferring, is_data_wrong}
-use Rattle.fsb_trace.specs.Timing.{chunk_from, is_busy_from}
-use Rattle.fsb_trace.proofs.Interface.{breaks-16, AgreeTo-sym, end_of-moving, line_at-agree, outcome_of-stays}
-use Rattle.fsb_trace.proofs.Interface.{responds_at-agree, response_clock_of-stays}
+use Rattle.fsb_lawful.proofs.Words
+use Words.{ℕ, zero, suc, ◌+◌, ◌*◌, ◌<◌, ◌≤◌, ◌≡◌, Bool, true, false, ◌&&◌, Some, None, is_some, length, take, nat_lt}
+use Words.{refl, sym, ap, ◌∙◌, arith, inl, inr, option_and_then, cases_Bool, cases_lt, le-leb, lt-ltb, is_some_and}
+use Words.{any_where, count_where, from_clock, any_where-at, any_where-off, count_where-mono, count_where-passed}
+use Words.{count_where-same, nth_where-found, DRDY, DBSY, Marks, line_at, responds_at, does_move, response_clock_of}
+use Words.{moves_data, live_count, end_of, is_transferring, is_data_wrong, chunk_from, is_busy_from, breaks-16}
+use Words.{AgreeTo-sym, end_of-moving, line_at-agree, outcome_of-stays, responds_at-agree, response_clock_of-stays}
+use Words.{clear_parts, has_answer, is_transferring-last, is_transferring-none, last_is_live, response_past}
+use Words.{response_there, transferring_form, Run, run_to, past_of, live_choice, Timely, settled_of, settles_to_move}
+use Words.{has_data_at, is_busy_at, Keeps}
 use Rattle.fsb_laws.specs.Progress.{response_count}
-use Rattle.fsb_laws.proofs.Interface.{clear_parts, has_answer, is_transferring-last, is_transferring-none}
-use Rattle.fsb_laws.proofs.Interface.{last_is_live, response_past, response_there, transferring_form}
-use Rattle.fsb_timely.specs.Runs.{Run, run_to, past_of}
-use Rattle.fsb_timely.specs.Snoops.{live_choice}
-use Rattle.fsb_timely.specs.Timely.{Timely}
-use Rattle.fsb_timely.specs.Transfers.{settled_of, settles_to_move, has_data_at, is_busy_at}
-use Rattle.fsb_lawful.specs.Keeps.{Keeps}
 use Rattle.fsb_lawful.proofs.Chunks.{is_chunk, chunk-bounds, chunks-few, chunks-all}
 use Rattle.fsb_lawful.proofs.CutRuns.{cuts-agree, length-cut, live_choice-same}
 use Rattle.fsb_lawful.proofs.Keeping.{keeps}

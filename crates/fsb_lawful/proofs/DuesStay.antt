@@ -1,29 +1,15 @@
 -- A due request stays due until its reply begins.
-use Rattle.std.proofs.Common.{ℕ, suc, ◌+◌, ◌<◌, ◌≤◌, ◌≡◌, true, false, not, ◌&&◌, ◌||◌, List, Option, Some, None}
-use Rattle.std.proofs.Common.{is_some, length, nat_le, slice_index, refl, sym, ap, subst, ◌∙◌, arith, inl, inr}
-use Rattle.std.proofs.lemmas.Bool.{and_from, and_parts, false_from_ne_true, cases_lt, le-leb, lt-ltb, or_right}
-use Rattle.fsb_count.specs.Options.{is_before, is_some_and}
-use Rattle.fsb_count.proofs.Interface.{any_where-at, any_where-off, first_where-found, first_where-none}
+use Rattle.fsb_lawful.proofs.Words
+use Words.{ℕ, suc, ◌+◌, ◌<◌, ◌≤◌, ◌≡◌, true, false, not, ◌&&◌, ◌||◌, List, Option, Some, None, is_some, length, nat_le}
+use Words.{slice_index, refl, sym, ap, subst, ◌∙◌, arith, inl, inr, and_from, and_parts, false_from_ne_true, cases_lt}
+use Words.{le-leb, lt-ltb, or_right, is_before, is_some_and, any_where-at, any_where-off, first_where-found}
+use Words.{first_where-none, ADS, line_at, Priority, Trace, request_at, answers, due_at, is_answered, is_due, later_of}
+use Words.{is_dropped, is_in_flight, is_reply_to, is_deferral, is_settled_deferred, response_clock_of, have_same_id}
+use Words.{is_cancelled, is_live, is_reply, live_count, live_request_of, snoop_end_of, begins_at, line_at-agree}
+use Words.{live_request_of-stays, request_at-agree, response_clock_of-stays, snoop_end_of-stays, last_is_live}
+use Words.{response_counted, number_of_turn, turns_in, Run, past_of, past_to, run_to, due_number, Timely, settled_of}
+use Words.{WantsLawfully}
 use Rattle.fsb_signal.proofs.Interface.{line_at-past}
-use Rattle.fsb_signal.specs.declared.lines.TheConstants.Lines.{ADS}
-use Rattle.fsb_signal.specs.Samples.{line_at}
-use Rattle.fsb_trace.specs.declared.who.Who.TheVariants.{Priority}
-use Rattle.fsb_trace.specs.At.{Trace, request_at}
-use Rattle.fsb_trace.specs.Deferral.{answers, due_at, is_answered, is_due, later_of}
-use Rattle.fsb_trace.specs.Flight.{is_dropped, is_in_flight, is_reply_to}
-use Rattle.fsb_trace.specs.Outcome.{is_deferral, is_settled_deferred, response_clock_of}
-use Rattle.fsb_trace.specs.Requests.{have_same_id, is_cancelled, is_live, is_reply, live_count, live_request_of}
-use Rattle.fsb_trace.specs.Snoop.{snoop_end_of}
-use Rattle.fsb_trace.specs.Winner.{begins_at}
-use Rattle.fsb_trace.proofs.Interface.{line_at-agree, live_request_of-stays, request_at-agree}
-use Rattle.fsb_trace.proofs.Interface.{response_clock_of-stays, snoop_end_of-stays}
-use Rattle.fsb_laws.proofs.Interface.{last_is_live, response_counted}
-use Rattle.fsb_timely.specs.Moments.{number_of_turn, turns_in}
-use Rattle.fsb_timely.specs.Runs.{Run, past_of, past_to, run_to}
-use Rattle.fsb_timely.specs.Starts.{due_number}
-use Rattle.fsb_timely.specs.Timely.{Timely}
-use Rattle.fsb_timely.specs.Transfers.{settled_of}
-use Rattle.fsb_lawful.specs.Beginning.{WantsLawfully}
 use Rattle.fsb_lawful.proofs.CutRuns.{cuts-agree, length-cut, past-cut}
 use Rattle.fsb_lawful.proofs.OrderlyRuns.{orderly-at}
 use Rattle.fsb_lawful.proofs.RepliesBegun.{reply-before, reply-is}

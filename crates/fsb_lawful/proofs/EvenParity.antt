@@ -1,18 +1,10 @@
 -- Rules 19 and 20: the parity of a timely run of profile 2 is even; in profile 1 no parity is declared.
-use Rattle.std.proofs.Common.{ℕ, ◌+◌, ◌<◌, ◌≡◌, Bool, true, false, Option, length, take, nat_eq, arith}
-use Rattle.std.specs.List.{slice_get}
-use Rattle.std.specs.Option.{option_map_or}
-use Rattle.fsb_count.specs.Options.{is_some_and}
-use Rattle.fsb_signal.specs.declared.sample.Sample.{Sample}
-use Rattle.fsb_signal.specs.Parity.{marks_in, is_address_odd, is_request_odd}
-use Rattle.fsb_trace.specs.Rules.{is_address_parity_wrong, is_request_parity_wrong, is_marked_address_wrong}
-use Rattle.fsb_trace.specs.Rules.{is_marked_request_wrong}
-use Rattle.fsb_trace.proofs.Interface.{breaks-19, breaks-20}
+use Rattle.fsb_lawful.proofs.Words
+use Words.{ℕ, ◌+◌, ◌<◌, ◌≡◌, Bool, true, false, Option, length, take, nat_eq, arith, slice_get, option_map_or}
+use Words.{is_some_and, Sample, marks_in, is_address_odd, is_request_odd, is_address_parity_wrong}
+use Words.{is_request_parity_wrong, is_marked_address_wrong, is_marked_request_wrong, breaks-19, breaks-20, Past, Run}
+use Words.{run_to, past_of, past_to, holds_in, holds_at, Timely, Keeps}
 use Rattle.fsb_timely.specs.ParityLines.{is_even_sample, drives_parity}
-use Rattle.fsb_timely.specs.Past.{Past}
-use Rattle.fsb_timely.specs.Runs.{Run, run_to, past_of, past_to}
-use Rattle.fsb_timely.specs.Timely.{holds_in, holds_at, Timely}
-use Rattle.fsb_lawful.specs.Keeps.{Keeps}
 use Rattle.fsb_lawful.proofs.Keeping.{keeps}
 
 not_odd-address : (s : Sample) → is_even_sample s ≡ true → is_address_odd s ≡ false

@@ -1,47 +1,21 @@
 -- What an agent is granted, and what is brought to it, is for one of its outstanding requests.
-use Rattle.std.proofs.Common.{ℕ, zero, suc, ◌+◌, ◌<◌, ◌≤◌, ◌≡◌, Bool, true, false, not, ◌&&◌, ◌||◌, Option, Some}
-use Rattle.std.proofs.Common.{None, length, nat_eq, refl, sym, ap, subst, ◌∙◌, arith, inl, inr}
-use Rattle.std.specs.List.{filter, list_any}
-use Rattle.std.specs.Option.{option_and_then, option_map}
-use Rattle.std.proofs.lemmas.Bool.{and_from, and_parts, cases_Bool, eq-eqb, false_from_ne_true}
-use Rattle.fsb_count.specs.Clocks.{AgreeBelow}
-use Rattle.fsb_count.specs.Options.{is_before, is_some_and}
-use Rattle.fsb_count.proofs.Interface.{any_where-found, count_where-same, first_where-carried, is_at-some}
-use Rattle.fsb_count.proofs.Interface.{is_before-parts, nth_where-found, nth_where-one}
-use Rattle.fsb_encode.specs.declared.request.Kind.{Kind}
-use Rattle.fsb_encode.specs.declared.request.Request.{Request}
-use Rattle.fsb_hazard.specs.declared.choice.Turn.{Turn}
-use Rattle.fsb_hazard.specs.declared.choice.Turn.TheVariants.{Keep}
-use Rattle.fsb_hazard.specs.Choice.{is_never_held_up}
-use Rattle.fsb_signal.specs.declared.lines.TheConstants.Lines.{ADS, HITM}
-use Rattle.fsb_signal.specs.Samples.{line_at}
-use Rattle.fsb_trace.specs.At.{Trace, request_at, responds_at}
-use Rattle.fsb_trace.specs.Agree.{AgreeTo}
-use Rattle.fsb_trace.specs.Flight.{is_live_reply_to, is_outstanding, is_reply_to, last_clock_of, outstanding}
-use Rattle.fsb_trace.specs.Flight.{reply_clock_of, reply_end_of, reply_number_of}
-use Rattle.fsb_trace.specs.Outcome.{is_deferral, is_deferred, is_settled_deferred, outcome_by_kind, response_clock_of}
-use Rattle.fsb_trace.specs.Outcome.{settled_by}
-use Rattle.fsb_trace.specs.Requests.{have_same_id, is_live, is_reply, is_reply_kind, line_of, live_clock_of}
-use Rattle.fsb_trace.specs.Requests.{live_number_of, live_request_of}
-use Rattle.fsb_trace.specs.Response.{end_of}
-use Rattle.fsb_trace.specs.Snoop.{snoop_end_of}
-use Rattle.fsb_trace.proofs.Interface.{AgreeTo-sym, end_of-response, is_live-agree, line_at-agree}
-use Rattle.fsb_trace.proofs.Interface.{live_clock_of-number, live_clock_of-stays, live_request_of-stays}
-use Rattle.fsb_trace.proofs.Interface.{request_at-agree, response_clock_of-stays, snoop_end_of-clock}
-use Rattle.fsb_trace.proofs.Interface.{snoop_end_of-rises, snoop_end_of-stays, winner_at-agree}
-use Rattle.fsb_laws.proofs.Interface.{deferred_response, end_after_clock, end_of-kept, is_outstanding-end}
-use Rattle.fsb_laws.proofs.Interface.{last_clock_of-deferred, last_clock_of-plain, live_of_reply}
-use Rattle.fsb_timely.specs.Completions.{brings_at, is_brought}
-use Rattle.fsb_timely.specs.Grants.{ended_requests, grant_at, is_end_at, is_granted}
-use Rattle.fsb_timely.specs.Moments.{agent_at, begun_with, claim_at, moment_at, number_of_turn, owing_at, owing_for}
-use Rattle.fsb_timely.specs.Moments.{requests_ending_at, turns_in}
-use Rattle.fsb_timely.specs.Past.{Claim, Grant, Owing, Past}
-use Rattle.fsb_timely.specs.Runs.{Run, moments_below, past_of, past_with, run_to}
-use Rattle.fsb_timely.specs.Scripts.{Need}
-use Rattle.fsb_timely.specs.Timely.{Timely}
-use Rattle.fsb_timely.specs.Transfers.{settled_of}
-use Rattle.fsb_timely.specs.Wants.{free_id, is_asked_for, owed}
-use Rattle.fsb_timely.proofs.Interface.{moment-at, moment_of, snoop-tied}
+use Rattle.fsb_lawful.proofs.Words
+use Words.{ℕ, zero, suc, ◌+◌, ◌<◌, ◌≤◌, ◌≡◌, Bool, true, false, not, ◌&&◌, ◌||◌, Option, Some, None, length, nat_eq}
+use Words.{refl, sym, ap, subst, ◌∙◌, arith, inl, inr, filter, list_any, option_and_then, option_map, and_from}
+use Words.{and_parts, cases_Bool, eq-eqb, false_from_ne_true, AgreeBelow, is_before, is_some_and, any_where-found}
+use Words.{count_where-same, first_where-carried, is_at-some, is_before-parts, nth_where-found, nth_where-one, Kind}
+use Words.{Request, Turn, Keep, is_never_held_up, ADS, HITM, line_at, Trace, request_at, responds_at, AgreeTo}
+use Words.{is_live_reply_to, is_outstanding, is_reply_to, last_clock_of, outstanding, reply_clock_of, reply_end_of}
+use Words.{reply_number_of, is_deferral, is_deferred, is_settled_deferred, outcome_by_kind, response_clock_of}
+use Words.{settled_by, have_same_id, is_live, is_reply, is_reply_kind, line_of, live_clock_of, live_number_of}
+use Words.{live_request_of, end_of, snoop_end_of, AgreeTo-sym, end_of-response, is_live-agree, line_at-agree}
+use Words.{live_clock_of-number, live_clock_of-stays, live_request_of-stays, request_at-agree, response_clock_of-stays}
+use Words.{snoop_end_of-clock, snoop_end_of-rises, snoop_end_of-stays, winner_at-agree, deferred_response}
+use Words.{end_after_clock, end_of-kept, is_outstanding-end, last_clock_of-deferred, last_clock_of-plain, live_of_reply}
+use Words.{brings_at, is_brought, ended_requests, grant_at, is_end_at, is_granted, agent_at, begun_with, claim_at}
+use Words.{moment_at, number_of_turn, owing_at, owing_for, requests_ending_at, turns_in, Claim, Grant, Owing, Past, Run}
+use Words.{moments_below, past_of, past_with, run_to, Need, Timely, settled_of, free_id, is_asked_for, owed, moment-at}
+use Words.{moment_of, snoop-tied}
 use Rattle.fsb_lawful.specs.Owed.{GrantsAreOwed}
 use Rattle.fsb_lawful.proofs.Cuts.{run_to-agrees}
 use Rattle.fsb_lawful.proofs.CutRuns.{length-cut, live-ads}

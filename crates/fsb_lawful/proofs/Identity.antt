@@ -1,25 +1,10 @@
 -- Rule 7: a request is identified by its winner.
-use Rattle.std.proofs.Common.{ℕ, zero, suc, ◌+◌, ◌/◌, ◌<◌, ◌≤◌, ◌≡◌, true, false, Option, Some, length, take, refl}
-use Rattle.std.proofs.Common.{sym, ap, ◌∙◌, arith}
-use Rattle.std.specs.Option.{option_map, option_and_then}
-use Rattle.std.proofs.lemmas.Bool.{eq-eqb}
-use Rattle.fsb_count.specs.Options.{is_some_and}
-use Rattle.fsb_encode.specs.declared.request.Request.{Request}
-use Rattle.fsb_signal.specs.declared.lines.TheConstants.Lines.{ADS}
-use Rattle.fsb_signal.specs.declared.marks.Marks.{Marks}
-use Rattle.fsb_trace.specs.declared.who.Who.{Who}
-use Rattle.fsb_trace.specs.declared.who.Who.TheVariants.{Symmetric, Priority}
-use Rattle.fsb_trace.specs.At.{Trace, line_back, request_at}
-use Rattle.fsb_trace.specs.Requests.{is_reply, is_reply_kind, live_request_of}
-use Rattle.fsb_trace.specs.Winner.{winner_at, is_agent, is_same_agent}
-use Rattle.fsb_trace.specs.Rules.{is_own_id, is_identified, is_identity_wrong}
-use Rattle.fsb_trace.proofs.Interface.{breaks-7, winner_at-agree}
-use Rattle.fsb_timely.specs.Past.{Past}
-use Rattle.fsb_timely.specs.Runs.{Run, run_to, past_of, past_to}
-use Rattle.fsb_timely.specs.Starts.{reply_to, due_number, would_begin, request_begun}
-use Rattle.fsb_timely.specs.Timely.{Timely}
-use Rattle.fsb_lawful.specs.Beginning.{WantsLawfully}
-use Rattle.fsb_lawful.specs.Keeps.{Keeps}
+use Rattle.fsb_lawful.proofs.Words
+use Words.{ℕ, zero, suc, ◌+◌, ◌/◌, ◌<◌, ◌≤◌, ◌≡◌, true, false, Option, Some, length, take, refl, sym, ap, ◌∙◌, arith}
+use Words.{option_map, option_and_then, eq-eqb, is_some_and, Request, ADS, Marks, Who, Symmetric, Priority, Trace}
+use Words.{line_back, request_at, is_reply, is_reply_kind, live_request_of, winner_at, is_agent, is_same_agent}
+use Words.{is_own_id, is_identified, is_identity_wrong, breaks-7, winner_at-agree, Past, Run, run_to, past_of, past_to}
+use Words.{reply_to, due_number, would_begin, request_begun, Timely, WantsLawfully, Keeps}
 use Rattle.fsb_lawful.proofs.Cuts.{run_to-agrees}
 use Rattle.fsb_lawful.proofs.Begun.{ads-back, begun-decoded}
 use Rattle.fsb_lawful.proofs.OwnIds.{want-own}

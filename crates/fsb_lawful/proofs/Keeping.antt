@@ -1,12 +1,8 @@
 -- How a trace keeps a rule: at each clock, over the samples up to it.
-use Rattle.std.proofs.Common.{ℕ, ◌+◌, ◌<◌, ◌≡◌, Bool, true, false, not, ◌&&◌, length, take, nat_lt, arith}
-use Rattle.std.proofs.lemmas.Bool.{and_parts, ltb-true}
+use Rattle.fsb_lawful.proofs.Words
+use Words.{ℕ, ◌+◌, ◌<◌, ◌≡◌, Bool, true, false, not, ◌&&◌, length, take, nat_lt, arith, and_parts, ltb-true, Marks}
+use Words.{Trace, breaks, is_broken, Keeps}
 use Rattle.std.specs.Bool.{beq}
-use Rattle.fsb_signal.specs.declared.marks.Marks.{Marks}
-use Rattle.fsb_trace.specs.At.{Trace}
-use Rattle.fsb_trace.specs.Rules.{breaks}
-use Rattle.fsb_trace.specs.Verdict.{is_broken}
-use Rattle.fsb_lawful.specs.Keeps.{Keeps}
 
 -- what fails wherever the first holds
 pub and-fails : (a b : Bool) → (a ≡ true → b ≡ false) → (a && b) ≡ false

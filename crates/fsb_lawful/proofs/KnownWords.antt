@@ -1,17 +1,8 @@
 -- Rules 1 and 17: nothing in a timely run is unknown.
-use Rattle.std.proofs.Common.{ℕ, zero, suc, ◌≡◌, Bool, true, false, not, List, [], ◌∷◌, take, refl, arith}
-use Rattle.std.specs.List.{list_all, slice_get}
-use Rattle.std.specs.Option.{option_map_or}
-use Rattle.std.proofs.lemmas.Bool.{and_parts}
-use Rattle.fsb_signal.specs.declared.marks.Marks.{Marks}
-use Rattle.fsb_signal.specs.declared.sample.Sample.{Sample}
-use Rattle.fsb_signal.specs.Samples.{has_known_lines, is_known, is_known_trace}
-use Rattle.fsb_trace.specs.At.{Trace}
-use Rattle.fsb_trace.specs.Rules.{has_unknown_line, has_unknown_data}
-use Rattle.fsb_trace.proofs.Interface.{breaks-1, breaks-17}
-use Rattle.fsb_timely.specs.Runs.{Run}
-use Rattle.fsb_timely.specs.Timely.{Timely}
-use Rattle.fsb_lawful.specs.Keeps.{Keeps}
+use Rattle.fsb_lawful.proofs.Words
+use Words.{ℕ, zero, suc, ◌≡◌, Bool, true, false, not, List, [], ◌∷◌, take, refl, arith, list_all, slice_get}
+use Words.{option_map_or, and_parts, Marks, Sample, has_known_lines, is_known, is_known_trace, Trace, has_unknown_line}
+use Words.{has_unknown_data, breaks-1, breaks-17, Run, Timely, Keeps}
 use Rattle.fsb_lawful.proofs.Keeping.{keeps}
 
 -- what holds of all samples holds of those of a cut trace

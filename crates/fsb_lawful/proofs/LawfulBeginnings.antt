@@ -1,46 +1,24 @@
 -- The lines that an agent gets, the IDs that it uses, and so all requests of a run whose plan keeps the bounds.
-use Rattle.std.proofs.Common.{ℕ, zero, suc, ◌+◌, ◌-◌, ◌^◌, ◌<◌, ◌≤◌, ◌≡◌, Bool, true, false, not, ◌&&◌, ◌||◌, List}
-use Rattle.std.proofs.Common.{[], ◌∷◌, Option, Some, None, length, drop, take, nat_le, nat_lt, slice_get, refl, sym}
-use Rattle.std.proofs.Common.{ap, subst, ◌∙◌, arith, inl, inr, add-one, if◌then◌else◌}
-use Rattle.std.specs.List.{filter, find, list_all, range_with_len}
-use Rattle.std.specs.Option.{option_and_then, option_map, option_map_or}
-use Rattle.std.proofs.lemmas.Bool.{and_parts, cases_Bool}
+use Rattle.fsb_lawful.proofs.Words
+use Words.{ℕ, zero, suc, ◌+◌, ◌-◌, ◌^◌, ◌<◌, ◌≤◌, ◌≡◌, Bool, true, false, not, ◌&&◌, ◌||◌, List, [], ◌∷◌, Option, Some}
+use Words.{None, length, drop, take, nat_le, nat_lt, refl, sym, ap, subst, ◌∙◌, arith, inl, inr, add-one, if◌then◌else◌}
+use Words.{filter, find, list_all, range_with_len, option_and_then, option_map, option_map_or, and_parts, cases_Bool}
+use Words.{Item, first_where, first_where-found, Invalidate, Read, Upgrade, Request, Pair, if_coded_as, is_coded_as}
+use Words.{kind_of, read_off, request_of, are_lawful_fields, is_lawful_request, is_lawful_item, is_lawful_script, ADS}
+use Words.{BPRI, LOCK, line_at, Outcome, Who, Symmetric, Trace, known_pair_at, request_at, is_upgrade_kind, line_of}
+use Words.{live_clock_of, live_request_of, requesters_before-begun, requesters_before-kept, requesters_before-start}
+use Words.{winner_after-high, winner_after-low, winner_by-locked, winner_by-priority, winner_by-symmetric}
+use Words.{agent_in_order, first_asking, last_if_asking, requesters_before, Requesters, then_begun, winner_after}
+use Words.{winner_at, winner_by, grant_at, is_rival, line_granted_at, lines_granted, snooped_at, is_dirty, agent_at}
+use Words.{claim_at, gives_line, grant_for, grant_of, grant_to, live_claim_of, moment_at, number_snooped_at, snoop_at}
+use Words.{snoop_end_for, snoop_end_if_begun, snoop_end_with, Claim, Grant, Moment, Owing, Past, SnoopEnd, Run, past_of}
+use Words.{past_to, run_to, Need, is_idling, items_of, needs_from, next_number, window, window_at, reply_to}
+use Words.{request_begun, would_begin, free_id, id_of, is_id_used, is_missing, kind_needed, least_of, owed}
+use Words.{request_of_kind, victim_of, want_for, want_of, write_back_of, length-moments, moment-at, moment_of}
+use Words.{KeepsBounds, WantsLawfully}
+use Rattle.std.proofs.Common.{slice_get}
 use Rattle.std.proofs.lemmas.Option.{slice_get_past, slice_get_within}
 use Rattle.fsb_access.specs.ScriptOrder.{script_of}
-use Rattle.fsb_access.specs.declared.item.Item.{Item}
-use Rattle.fsb_count.specs.Clocks.{first_where}
-use Rattle.fsb_count.proofs.Interface.{first_where-found}
-use Rattle.fsb_encode.specs.declared.request.Kind.TheVariants.{Invalidate, Read, Upgrade}
-use Rattle.fsb_encode.specs.declared.request.Request.{Request}
-use Rattle.fsb_encode.specs.declared.request.Pair.{Pair}
-use Rattle.fsb_encode.specs.Decoded.{if_coded_as, is_coded_as, kind_of, read_off, request_of}
-use Rattle.fsb_encode.specs.Request.{are_lawful_fields, is_lawful_request}
-use Rattle.fsb_script.specs.Bounds.{is_lawful_item, is_lawful_script}
-use Rattle.fsb_signal.specs.declared.lines.TheConstants.Lines.{ADS, BPRI, LOCK}
-use Rattle.fsb_signal.specs.Samples.{line_at}
-use Rattle.fsb_trace.specs.declared.outcome.Outcome.{Outcome}
-use Rattle.fsb_trace.specs.declared.who.Who.{Who}
-use Rattle.fsb_trace.specs.declared.who.Who.TheVariants.{Symmetric}
-use Rattle.fsb_trace.specs.At.{Trace, known_pair_at, request_at}
-use Rattle.fsb_trace.specs.Requests.{is_upgrade_kind, line_of, live_clock_of, live_request_of}
-use Rattle.fsb_trace.proofs.Interface.{requesters_before-begun, requesters_before-kept, requesters_before-start}
-use Rattle.fsb_trace.proofs.Interface.{winner_after-high, winner_after-low, winner_by-locked, winner_by-priority}
-use Rattle.fsb_trace.proofs.Interface.{winner_by-symmetric}
-use Rattle.fsb_trace.specs.Winner.{agent_in_order, first_asking, last_if_asking, requesters_before, Requesters}
-use Rattle.fsb_trace.specs.Winner.{then_begun, winner_after, winner_at, winner_by}
-use Rattle.fsb_timely.specs.Grants.{grant_at, is_rival, line_granted_at, lines_granted, snooped_at}
-use Rattle.fsb_timely.specs.Hits.{is_dirty}
-use Rattle.fsb_timely.specs.Moments.{agent_at, claim_at, gives_line, grant_for, grant_of, grant_to, live_claim_of}
-use Rattle.fsb_timely.specs.Moments.{moment_at, number_snooped_at, snoop_at, snoop_end_for, snoop_end_if_begun}
-use Rattle.fsb_timely.specs.Moments.{snoop_end_with}
-use Rattle.fsb_timely.specs.Past.{Claim, Grant, Moment, Owing, Past, SnoopEnd}
-use Rattle.fsb_timely.specs.Runs.{Run, past_of, past_to, run_to}
-use Rattle.fsb_timely.specs.Scripts.{Need, is_idling, items_of, needs_from, next_number, window, window_at}
-use Rattle.fsb_timely.specs.Starts.{reply_to, request_begun, would_begin}
-use Rattle.fsb_timely.specs.Wants.{free_id, id_of, is_id_used, is_missing, kind_needed, least_of, owed}
-use Rattle.fsb_timely.specs.Wants.{request_of_kind, victim_of, want_for, want_of, write_back_of}
-use Rattle.fsb_timely.proofs.Interface.{length-moments, moment-at, moment_of}
-use Rattle.fsb_lawful.specs.Beginning.{KeepsBounds, WantsLawfully}
 use Rattle.fsb_lawful.proofs.Cuts.{slice_get-take}
 use Rattle.fsb_lawful.proofs.OwnIds.{want-few}
 use Rattle.fsb_lawful.proofs.LawfulWants.{all-at, all-drop, all-filter, all-found, all-given, is_fit, window-fits}

@@ -1,16 +1,13 @@
 -- What begins in a run whose plan keeps the bounds of a bench file is a lawful request.
-use Rattle.std.proofs.Common.{ℕ, zero, suc, ◌-◌, ◌^◌, ◌≡◌, Bool, true, false, ◌&&◌, List, [], ◌∷◌, ◌++◌, map, Option}
-use Rattle.std.proofs.Common.{Some, drop, nat_lt, slice_get, refl, arith, if◌then◌else◌}
-use Rattle.std.specs.List.{filter, filter_map, find, list_all}
-use Rattle.std.specs.Option.{option_map_or}
-use Rattle.std.proofs.lemmas.Bool.{and_from, and_parts}
+use Rattle.fsb_lawful.proofs.Words
+use Words.{ℕ, zero, suc, ◌-◌, ◌^◌, ◌≡◌, Bool, true, false, ◌&&◌, List, [], ◌∷◌, ◌++◌, map, Option, Some, drop, nat_lt}
+use Words.{refl, arith, if◌then◌else◌, filter, filter_map, find, list_all, option_map_or, and_from, and_parts, Item}
+use Words.{is_lawful_item, Need, first_chunk, is_locked, locked_need, needs_after, needs_from, needs_of, plain_items}
+use Words.{plain_need, window_from}
+use Rattle.std.proofs.Common.{slice_get}
 use Rattle.fsb_access.specs.declared.access.Access.{Access}
-use Rattle.fsb_access.specs.declared.item.Item.{Item}
 use Rattle.fsb_access.specs.declared.item.Item.TheVariants.{One, Locked, Idle}
 use Rattle.fsb_access.specs.Access.{accessed_line, addr_of, chunk_of, is_lawful_access}
-use Rattle.fsb_script.specs.Bounds.{is_lawful_item}
-use Rattle.fsb_timely.specs.Scripts.{Need, first_chunk, is_locked, locked_need, needs_after, needs_from, needs_of}
-use Rattle.fsb_timely.specs.Scripts.{plain_items, plain_need, window_from}
 
 -- the line and the chunk of a need have their bits
 abbrev pub is_fit : Need → Bool

@@ -1,12 +1,8 @@
 -- What is listed: of the clocks that pass a test, what each of them gives.
-use Rattle.std.proofs.Common.{ℕ, zero, suc, ◌<◌, ◌≤◌, ◌≡◌, Bool, true, ◌&&◌, ◌||◌, List, [], ◌∷◌, Option, Some}
-use Rattle.std.proofs.Common.{length, arith, inl, inr, if◌then◌else◌}
-use Rattle.std.specs.List.{filter, filter_map, list_any}
-use Rattle.std.proofs.lemmas.Bool.{cases_Bool, or_left, or_right}
-use Rattle.std.proofs.lemmas.List.{length-append}
-use Rattle.std.proofs.lemmas.List.Elements.{filter-append, filter_map-append}
-use Rattle.std.proofs.lemmas.List.Folds.{list_any-append}
-use Rattle.fsb_count.specs.Clocks.{all_where, count_where}
+use Rattle.fsb_lawful.proofs.Words
+use Words.{ℕ, zero, suc, ◌<◌, ◌≤◌, ◌≡◌, Bool, true, ◌&&◌, ◌||◌, List, [], ◌∷◌, Option, Some, length, arith, inl, inr}
+use Words.{if◌then◌else◌, filter, filter_map, list_any, cases_Bool, or_left, or_right, length-append, filter-append}
+use Words.{filter_map-append, list_any-append, all_where, count_where}
 
 -- clock q passes the test, and what it gives passes the other one
 pub record IsListed {Y : Type 0} (t : ℕ → Bool) (g : ℕ → Option Y) (f : Y → Bool) (q : ℕ) : Type 0 where

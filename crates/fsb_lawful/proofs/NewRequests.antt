@@ -1,34 +1,16 @@
 -- Rule 18: what begins in a timely run is a reply that is awaited, or a request with a new ID where few are
 -- outstanding.
-use Rattle.std.proofs.Common.{ℕ, zero, suc, ◌+◌, ◌-◌, ◌<◌, ◌≤◌, ◌≡◌, Bool, true, false, not, ◌&&◌, Option, Some}
-use Rattle.std.proofs.Common.{length, take, nat_le, slice_index, refl, sym, ap, subst, ◌∙◌, arith}
-use Rattle.std.specs.Option.{option_and_then, option_map}
-use Rattle.std.proofs.lemmas.Bool.{and_from, eq-eqb, lt-leb}
-use Rattle.fsb_count.specs.Clocks.{any_where, count_where}
-use Rattle.fsb_count.specs.Options.{is_some_and}
-use Rattle.fsb_count.proofs.Interface.{any_where-at, any_where-off, first_where-found, is_before-from}
-use Rattle.fsb_encode.specs.declared.request.Request.{Request}
-use Rattle.fsb_signal.specs.declared.lines.TheConstants.Lines.{ADS}
-use Rattle.fsb_signal.specs.declared.marks.Marks.{Marks}
-use Rattle.fsb_signal.specs.Samples.{line_at}
-use Rattle.fsb_trace.specs.declared.who.Who.{Who}
-use Rattle.fsb_trace.specs.declared.who.Who.TheVariants.{Symmetric, Priority}
-use Rattle.fsb_trace.specs.At.{Trace, line_back, request_at}
-use Rattle.fsb_trace.specs.Deferral.{due_at, is_answered, is_due, later_of}
-use Rattle.fsb_trace.specs.Outcome.{is_deferral, is_deferred, is_settled_deferred, response_clock_of}
-use Rattle.fsb_trace.specs.Requests.{have_same_id, is_reply, is_reply_kind, live_count, live_request_of}
-use Rattle.fsb_trace.specs.Rules.{awaits_reply, is_begun_wrongly, is_id_taken_by, is_outstanding_of_winner}
-use Rattle.fsb_trace.specs.Rules.{is_outstanding_wrong}
-use Rattle.fsb_trace.specs.Winner.{winner_at}
-use Rattle.fsb_trace.proofs.Interface.{AgreeTo-sym, breaks-18, response_clock_of-stays, winner_at-agree}
-use Rattle.fsb_laws.proofs.Interface.{last_is_live, response_counted, same_answered, same_deferred, same_live_request}
-use Rattle.fsb_timely.specs.Moments.{turns_in}
-use Rattle.fsb_timely.specs.Runs.{Run, past_of, past_to, run_to}
-use Rattle.fsb_timely.specs.Starts.{due_number, reply_to, request_begun, would_begin}
-use Rattle.fsb_timely.specs.Timely.{Timely}
-use Rattle.fsb_timely.specs.Transfers.{settled_of}
-use Rattle.fsb_lawful.specs.Beginning.{WantsLawfully}
-use Rattle.fsb_lawful.specs.Keeps.{Keeps}
+use Rattle.fsb_lawful.proofs.Words
+use Words.{ℕ, zero, suc, ◌+◌, ◌-◌, ◌<◌, ◌≤◌, ◌≡◌, Bool, true, false, not, ◌&&◌, Option, Some, length, take, nat_le}
+use Words.{slice_index, refl, sym, ap, subst, ◌∙◌, arith, option_and_then, option_map, and_from, eq-eqb, lt-leb}
+use Words.{any_where, count_where, is_some_and, any_where-at, any_where-off, first_where-found, is_before-from, Request}
+use Words.{ADS, Marks, line_at, Who, Symmetric, Priority, Trace, line_back, request_at, due_at, is_answered, is_due}
+use Words.{later_of, is_deferral, is_deferred, is_settled_deferred, response_clock_of, have_same_id, is_reply}
+use Words.{is_reply_kind, live_count, live_request_of, awaits_reply, is_begun_wrongly, is_id_taken_by}
+use Words.{is_outstanding_of_winner, is_outstanding_wrong, winner_at, AgreeTo-sym, breaks-18, response_clock_of-stays}
+use Words.{winner_at-agree, last_is_live, response_counted, same_answered, same_deferred, same_live_request, turns_in}
+use Words.{Run, past_of, past_to, run_to, due_number, reply_to, request_begun, would_begin, Timely, settled_of}
+use Words.{WantsLawfully, Keeps}
 use Rattle.fsb_lawful.proofs.Beginnings.{begins-at, not-low}
 use Rattle.fsb_lawful.proofs.Begun.{ads-back, begun-decoded}
 use Rattle.fsb_lawful.proofs.Cuts.{line-to}

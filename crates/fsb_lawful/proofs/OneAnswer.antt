@@ -1,24 +1,11 @@
 -- In a timely run the request that responds is the next one, and so is the one whose target is ready.
-use Rattle.std.proofs.Common.{ℕ, zero, suc, ◌+◌, ◌<◌, ◌≤◌, ◌≡◌, true, Option, Some, length, refl, sym, ap, ◌∙◌, arith}
-use Rattle.std.proofs.Common.{inl, inr, subst}
-use Rattle.std.proofs.lemmas.Bool.{cases_lt}
-use Rattle.fsb_count.specs.Clocks.{any_where}
-use Rattle.fsb_count.proofs.Interface.{any_where-found, count_where-mono, count_where-same, first_where-found}
-use Rattle.fsb_signal.specs.declared.lines.TheConstants.Lines.{TRDY, DRDY, DBSY}
-use Rattle.fsb_signal.specs.Samples.{line_at}
-use Rattle.fsb_trace.specs.At.{responds_at, response_code_at}
-use Rattle.fsb_trace.specs.Requests.{live_count}
-use Rattle.fsb_trace.specs.Response.{ready_clock_of}
-use Rattle.fsb_trace.specs.Rules.{next_response}
-use Rattle.fsb_trace.proofs.Interface.{responds_at-agree, line_at-agree}
-use Rattle.fsb_laws.proofs.Interface.{after_answer, answer_later, has_ready}
-use Rattle.fsb_timely.specs.Past.{Past}
-use Rattle.fsb_timely.specs.Runs.{Run, run_to, past_of}
-use Rattle.fsb_timely.specs.Snoops.{live_choice}
-use Rattle.fsb_timely.specs.Timely.{holds_in, holds_at, Timely}
-use Rattle.fsb_timely.specs.Transfers.{is_ready_due, is_response_clock, number_responding, code_due, has_data_at}
-use Rattle.fsb_timely.specs.Transfers.{is_busy_at, drives_ready, drives_code, drives_data_ready, drives_data_busy}
-use Rattle.fsb_timely.specs.Transfers.{drives_responses}
+use Rattle.fsb_lawful.proofs.Words
+use Words.{ℕ, zero, suc, ◌+◌, ◌<◌, ◌≤◌, ◌≡◌, true, Option, Some, length, refl, sym, ap, ◌∙◌, arith, inl, inr, subst}
+use Words.{cases_lt, any_where, any_where-found, count_where-mono, count_where-same, first_where-found, TRDY, DRDY}
+use Words.{DBSY, line_at, responds_at, response_code_at, live_count, ready_clock_of, next_response, responds_at-agree}
+use Words.{line_at-agree, after_answer, answer_later, has_ready, Past, Run, run_to, past_of, live_choice, holds_in}
+use Words.{holds_at, Timely, is_ready_due, is_response_clock, number_responding, code_due, has_data_at, is_busy_at}
+use Words.{drives_ready, drives_code, drives_data_ready, drives_data_busy, drives_responses}
 use Rattle.fsb_lawful.proofs.AnswerClocks.{answered-before, response-before}
 use Rattle.fsb_lawful.proofs.CutRuns.{cuts-agree, length-cut, past-cut}
 use Rattle.fsb_lawful.proofs.Responding.{Responding, IsReadyDue, responding-answer, responding-stays, one-response}

@@ -1,17 +1,8 @@
 -- A timely run keeps the distance of requests and the order of responses: its trace is orderly at each clock.
-use Rattle.std.proofs.Common.{ℕ, ◌+◌, ◌<◌, ◌≤◌, ◌≡◌, true, false, Some, length, ◌∙◌, arith, inl, inr, subst}
-use Rattle.std.proofs.lemmas.Bool.{cases_lt}
-use Rattle.fsb_count.proofs.Interface.{nth_where-found}
-use Rattle.fsb_signal.specs.declared.lines.TheConstants.Lines.{ADS}
-use Rattle.fsb_signal.specs.Samples.{line_at}
-use Rattle.fsb_trace.specs.At.{Trace, line_back, responds_at}
-use Rattle.fsb_trace.specs.Outcome.{response_clock_of}
-use Rattle.fsb_trace.specs.Rules.{may_answer, next_response}
-use Rattle.fsb_trace.proofs.Interface.{line_at-agree, responds_at-agree}
-use Rattle.fsb_laws.specs.Orderly.{Orderly}
-use Rattle.fsb_laws.proofs.Interface.{ads_before_end, may_answer-stays}
-use Rattle.fsb_timely.specs.Runs.{Run, run_to}
-use Rattle.fsb_timely.specs.Timely.{Timely}
+use Rattle.fsb_lawful.proofs.Words
+use Words.{ℕ, ◌+◌, ◌<◌, ◌≤◌, ◌≡◌, true, false, Some, length, ◌∙◌, arith, inl, inr, subst, cases_lt, nth_where-found}
+use Words.{ADS, line_at, Trace, line_back, responds_at, response_clock_of, may_answer, next_response, line_at-agree}
+use Words.{responds_at-agree, Orderly, ads_before_end, may_answer-stays, Run, run_to, Timely}
 use Rattle.fsb_lawful.proofs.Answers.{answers-in-time}
 use Rattle.fsb_lawful.proofs.Beginnings.{Begins, begins-at}
 use Rattle.fsb_lawful.proofs.Cuts.{line-to}

@@ -1,31 +1,14 @@
 -- Where a symmetric agent's request begins, its ID is not taken, and few of its requests are outstanding.
-use Rattle.std.proofs.Common.{ℕ, zero, suc, ◌+◌, ◌/◌, ◌<◌, ◌≤◌, ◌≡◌, Bool, true, false, ◌&&◌, List, [], ◌∷◌, Option}
-use Rattle.std.proofs.Common.{Some, length, slice_get, nat_eq, refl, sym, ap, subst, ◌∙◌, arith, add-one}
-use Rattle.std.specs.List.{filter, filter_map}
-use Rattle.std.proofs.lemmas.Bool.{and_from, and_parts, eqb-true, eq-eqb}
-use Rattle.fsb_count.specs.Clocks.{all_where, count_where}
-use Rattle.fsb_count.specs.Options.{is_some_and}
-use Rattle.fsb_encode.specs.declared.request.Request.{Request}
-use Rattle.fsb_signal.specs.declared.lines.TheConstants.Lines.{ADS}
-use Rattle.fsb_signal.specs.Samples.{line_at}
-use Rattle.fsb_trace.specs.declared.who.Who.{Who}
-use Rattle.fsb_trace.specs.declared.who.Who.TheVariants.{Symmetric}
-use Rattle.fsb_trace.specs.At.{Trace, request_at}
-use Rattle.fsb_trace.specs.Agree.{AgreeTo}
-use Rattle.fsb_trace.specs.Flight.{is_outstanding, outstanding}
-use Rattle.fsb_trace.specs.Requests.{have_same_id, is_reply, is_reply_kind, line_of}
-use Rattle.fsb_trace.specs.Rules.{is_id_taken_by, is_outstanding_of_winner}
-use Rattle.fsb_trace.specs.Winner.{winner_at, is_agent, is_same_agent}
-use Rattle.fsb_trace.proofs.Interface.{request_at-agree, winner_at-agree}
-use Rattle.fsb_laws.proofs.Interface.{BeginsAfter, same_outstanding}
-use Rattle.fsb_timely.specs.Moments.{agent_at, begun_with, claim_at, moment_at, owing_at, owing_for}
-use Rattle.fsb_timely.specs.Past.{Claim, Owing, Past}
-use Rattle.fsb_timely.specs.Runs.{Run, moments_below, past_of, past_to, past_with, run_to}
-use Rattle.fsb_timely.specs.Starts.{reply_to, request_begun, would_begin}
-use Rattle.fsb_timely.specs.Timely.{Timely}
-use Rattle.fsb_timely.specs.Wants.{free_id, is_id_used, outstanding_at, owed, want_of}
-use Rattle.fsb_timely.proofs.Interface.{moment-at, moment_of}
-use Rattle.fsb_lawful.specs.Beginning.{WantsLawfully}
+use Rattle.fsb_lawful.proofs.Words
+use Words.{ℕ, zero, suc, ◌+◌, ◌/◌, ◌<◌, ◌≤◌, ◌≡◌, Bool, true, false, ◌&&◌, List, [], ◌∷◌, Option, Some, length, nat_eq}
+use Words.{refl, sym, ap, subst, ◌∙◌, arith, add-one, filter, filter_map, and_from, and_parts, eqb-true, eq-eqb}
+use Words.{all_where, count_where, is_some_and, Request, ADS, line_at, Who, Symmetric, Trace, request_at, AgreeTo}
+use Words.{is_outstanding, outstanding, have_same_id, is_reply, is_reply_kind, line_of, is_id_taken_by}
+use Words.{is_outstanding_of_winner, winner_at, is_agent, is_same_agent, request_at-agree, winner_at-agree, BeginsAfter}
+use Words.{same_outstanding, agent_at, begun_with, claim_at, moment_at, owing_at, owing_for, Claim, Owing, Past, Run}
+use Words.{moments_below, past_of, past_to, past_with, run_to, reply_to, request_begun, would_begin, Timely, free_id}
+use Words.{is_id_used, outstanding_at, owed, want_of, moment-at, moment_of, WantsLawfully}
+use Rattle.std.proofs.Common.{slice_get}
 use Rattle.fsb_lawful.proofs.Begun.{begun-decoded}
 use Rattle.fsb_lawful.proofs.Cuts.{line-to, moments-to}
 use Rattle.fsb_lawful.proofs.CutRuns.{cuts-agree, length-cut}

@@ -1,39 +1,16 @@
 -- Where an agent begins no request, its outstanding requests of the next clock are some of those of this one.
-use Rattle.std.proofs.Common.{ℕ, zero, suc, ◌+◌, ◌<◌, ◌≤◌, ◌≡◌, Bool, true, false, not, ◌&&◌, List, [], ◌∷◌, ◌++◌}
-use Rattle.std.proofs.Common.{Option, Some, length, nat_eq, refl, sym, ap, subst, ◌∙◌, ◌⊎◌, arith, add-one}
-use Rattle.std.proofs.Common.{append-nil, if◌then◌else◌}
-use Rattle.std.specs.List.{filter, filter_map, list_any}
-use Rattle.std.specs.Option.{option_map, option_map_or}
-use Rattle.std.proofs.lemmas.Bool.{and_from, and_parts, cases_lt, eq-eqb, false_from_ne_true, ne_eqb, or_left}
-use Rattle.std.proofs.lemmas.List.{length-append}
-use Rattle.std.proofs.lemmas.List.Elements.{filter-append, filter_map-append}
-use Rattle.std.proofs.lemmas.List.Folds.{list_any-append}
-use Rattle.fsb_count.specs.Clocks.{all_where}
-use Rattle.fsb_count.specs.Options.{is_before, is_some_and}
-use Rattle.fsb_count.proofs.Interface.{is_before-parts}
-use Rattle.fsb_signal.specs.declared.lines.TheConstants.Lines.{ADS}
-use Rattle.fsb_signal.specs.declared.sample.Sample.{Sample}
-use Rattle.fsb_signal.specs.Samples.{line_at}
-use Rattle.fsb_trace.specs.declared.who.Who.{Who}
-use Rattle.fsb_trace.specs.declared.who.Who.TheVariants.{Symmetric}
-use Rattle.fsb_trace.specs.At.{Trace, request_at}
-use Rattle.fsb_trace.specs.Agree.{AgreeTo}
-use Rattle.fsb_trace.specs.Flight.{is_outstanding, last_clock_of, outstanding}
-use Rattle.fsb_trace.specs.Outcome.{is_deferred}
-use Rattle.fsb_trace.specs.Requests.{is_live, is_reply, live_number_of}
-use Rattle.fsb_trace.specs.Winner.{begins_at, is_agent, is_same_agent, winner_at}
-use Rattle.fsb_trace.proofs.Interface.{end_of-response, request_at-agree}
+use Rattle.fsb_lawful.proofs.Words
+use Words.{ℕ, zero, suc, ◌+◌, ◌<◌, ◌≤◌, ◌≡◌, Bool, true, false, not, ◌&&◌, List, [], ◌∷◌, ◌++◌, Option, Some, length}
+use Words.{nat_eq, refl, sym, ap, subst, ◌∙◌, ◌⊎◌, arith, add-one, append-nil, if◌then◌else◌, filter, filter_map}
+use Words.{list_any, option_map, option_map_or, and_from, and_parts, cases_lt, eq-eqb, false_from_ne_true, ne_eqb}
+use Words.{or_left, length-append, filter-append, filter_map-append, list_any-append, all_where, is_before, is_some_and}
+use Words.{is_before-parts, ADS, Sample, line_at, Who, Symmetric, Trace, request_at, AgreeTo, is_outstanding}
+use Words.{last_clock_of, outstanding, is_deferred, is_live, is_reply, live_number_of, begins_at, is_agent}
+use Words.{is_same_agent, winner_at, end_of-response, request_at-agree, Orderly, finished-deferred, finished-plain}
+use Words.{is_deferred-old, is_live-ads, is_live-more, is_outstanding-end, last_clock_of-plain, live_number_of-more}
+use Words.{request_at-last, response_counted, agent_at, begun_with, claim_at, moment_at, owing_at, owing_for, Claim}
+use Words.{Owing, Run, moments_below, past_of, past_with, run_to, Timely, outstanding_at, owed, moment-at, moment_of}
 use Rattle.fsb_laws.specs.OneMore.{OneMore}
-use Rattle.fsb_laws.specs.Orderly.{Orderly}
-use Rattle.fsb_laws.proofs.Interface.{finished-deferred, finished-plain, is_deferred-old, is_live-ads, is_live-more}
-use Rattle.fsb_laws.proofs.Interface.{is_outstanding-end, last_clock_of-plain, live_number_of-more, request_at-last}
-use Rattle.fsb_laws.proofs.Interface.{response_counted}
-use Rattle.fsb_timely.specs.Moments.{agent_at, begun_with, claim_at, moment_at, owing_at, owing_for}
-use Rattle.fsb_timely.specs.Past.{Claim, Owing}
-use Rattle.fsb_timely.specs.Runs.{Run, moments_below, past_of, past_with, run_to}
-use Rattle.fsb_timely.specs.Timely.{Timely}
-use Rattle.fsb_timely.specs.Wants.{outstanding_at, owed}
-use Rattle.fsb_timely.proofs.Interface.{moment-at, moment_of}
 use Rattle.fsb_lawful.proofs.CutRuns.{cuts-agree, length-cut}
 use Rattle.fsb_lawful.proofs.OrderlyRuns.{orderly-at}
 use Rattle.fsb_lawful.proofs.OutstandingIds.{get-there}

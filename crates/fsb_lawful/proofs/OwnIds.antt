@@ -1,18 +1,10 @@
 -- What an agent wants has an ID of its own, and is no reply.
-use Rattle.std.proofs.Common.{ℕ, zero, suc, ◌+◌, ◌*◌, ◌/◌, ◌<◌, ◌≤◌, ◌≡◌, Bool, true, false, not, ◌||◌, List, [], ◌∷◌}
-use Rattle.std.proofs.Common.{Option, Some, None, length, nat_eq, nat_le, refl, subst, ap, ◌∙◌, arith, inl, inr}
-use Rattle.std.proofs.Common.{if◌then◌else◌, add-one}
-use Rattle.std.specs.List.{find, list_any}
-use Rattle.std.specs.Option.{option_map}
-use Rattle.std.proofs.lemmas.Bool.{cases_Bool, leb-false, or_parts}
-use Rattle.fsb_count.specs.Clocks.{count_where, first_where}
-use Rattle.fsb_count.proofs.Interface.{first_where-found, first_where-none}
-use Rattle.fsb_encode.specs.declared.request.Request.{Request}
-use Rattle.fsb_trace.specs.Requests.{is_reply_kind}
-use Rattle.fsb_timely.specs.Past.{Owing, Past}
-use Rattle.fsb_timely.specs.Scripts.{Need, is_idling, window, needs_from}
-use Rattle.fsb_timely.specs.Wants.{owed, is_missing, victim_of, id_of, is_id_used, free_id, kind_needed}
-use Rattle.fsb_timely.specs.Wants.{request_of_kind, write_back_of, want_for, want_of}
+use Rattle.fsb_lawful.proofs.Words
+use Words.{ℕ, zero, suc, ◌+◌, ◌*◌, ◌/◌, ◌<◌, ◌≤◌, ◌≡◌, Bool, true, false, not, ◌||◌, List, [], ◌∷◌, Option, Some, None}
+use Words.{length, nat_eq, nat_le, refl, subst, ap, ◌∙◌, arith, inl, inr, if◌then◌else◌, add-one, find, list_any}
+use Words.{option_map, cases_Bool, leb-false, or_parts, count_where, first_where, first_where-found, first_where-none}
+use Words.{Request, is_reply_kind, Owing, Past, Need, is_idling, window, needs_from, owed, is_missing, victim_of, id_of}
+use Words.{is_id_used, free_id, kind_needed, request_of_kind, write_back_of, want_for, want_of}
 
 -- how many pass one of two tests
 pub count-or : (p q : ℕ → Bool) (k : ℕ) → count_where (λ n. p n || q n) k ≤ count_where p k + count_where q k

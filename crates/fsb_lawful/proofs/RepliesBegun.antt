@@ -1,20 +1,8 @@
 -- Replies are begun by the priority agent, and by no other agent.
-use Rattle.std.proofs.Common.{ℕ, suc, ◌-◌, ◌<◌, ◌≤◌, ◌≡◌, Bool, true, ◌&&◌, Option, length, refl, ◌∙◌, arith}
-use Rattle.std.proofs.lemmas.Bool.{le-leb}
-use Rattle.fsb_count.specs.Options.{is_some_and}
-use Rattle.fsb_encode.specs.declared.request.Request.{Request}
-use Rattle.fsb_signal.specs.declared.lines.TheConstants.Lines.{ADS}
-use Rattle.fsb_signal.specs.Samples.{line_at}
-use Rattle.fsb_trace.specs.declared.who.Who.{Who}
-use Rattle.fsb_trace.specs.declared.who.Who.TheVariants.{Priority}
-use Rattle.fsb_trace.specs.At.{Trace, line_back, request_at}
-use Rattle.fsb_trace.specs.Requests.{is_reply}
-use Rattle.fsb_trace.specs.Rules.{is_identified, is_own_id}
-use Rattle.fsb_trace.specs.Winner.{begins_at, is_agent, is_same_agent, winner_at}
-use Rattle.fsb_timely.specs.Runs.{Run, run_to}
-use Rattle.fsb_timely.specs.Starts.{reply_before}
-use Rattle.fsb_timely.specs.Timely.{Timely}
-use Rattle.fsb_lawful.specs.Beginning.{WantsLawfully}
+use Rattle.fsb_lawful.proofs.Words
+use Words.{ℕ, suc, ◌-◌, ◌<◌, ◌≤◌, ◌≡◌, Bool, true, ◌&&◌, Option, length, refl, ◌∙◌, arith, le-leb, is_some_and, Request}
+use Words.{ADS, line_at, Who, Priority, Trace, line_back, request_at, is_reply, is_identified, is_own_id, begins_at}
+use Words.{is_agent, is_same_agent, winner_at, Run, run_to, reply_before, Timely, WantsLawfully}
 use Rattle.fsb_lawful.proofs.Identity.{identified-at}
 
 -- the priority agent begins replies, and no other agent does

@@ -1,26 +1,11 @@
 -- Rule 8: who asks for the bus in a timely run goes on until it begins a request, and then stops.
-use Rattle.std.proofs.Common.{ℕ, zero, suc, ◌+◌, ◌-◌, ◌<◌, ◌≤◌, ◌≡◌, Bool, true, false, not, ◌&&◌, is_some, length}
-use Rattle.std.proofs.Common.{take, refl, sym, ap, ◌∙◌, arith, if◌then◌else◌}
-use Rattle.std.proofs.lemmas.Bool.{and_parts, le-leb}
-use Rattle.fsb_count.specs.Clocks.{each_where}
-use Rattle.fsb_count.proofs.Interface.{any_where-off, each_where-at}
-use Rattle.fsb_signal.specs.declared.lines.TheConstants.Lines.{BPRI}
-use Rattle.fsb_signal.specs.declared.marks.Marks.{Marks}
-use Rattle.fsb_signal.specs.Samples.{line_at}
-use Rattle.fsb_trace.specs.declared.who.Who.{Who}
-use Rattle.fsb_trace.specs.declared.who.Who.TheVariants.{Symmetric, Priority}
-use Rattle.fsb_trace.specs.At.{Trace, line_back}
-use Rattle.fsb_trace.specs.Rules.{is_asked_wrongly, is_some_asked_wrongly}
-use Rattle.fsb_trace.specs.Winner.{begins_at, bus_request_of, request_line_of}
-use Rattle.fsb_trace.proofs.Interface.{breaks-8, winner_at-agree}
-use Rattle.fsb_timely.specs.Past.{Past}
-use Rattle.fsb_timely.specs.Runs.{Run, past_of, past_to, run_to}
-use Rattle.fsb_timely.specs.Starts.{asks_for_bus, asks_for_priority, began_before, drives_request_lines, due_number}
-use Rattle.fsb_timely.specs.Starts.{reply_before}
-use Rattle.fsb_timely.specs.Timely.{holds_in, holds_at, Timely}
-use Rattle.fsb_timely.specs.Wants.{want_of}
-use Rattle.fsb_lawful.specs.Beginning.{WantsLawfully}
-use Rattle.fsb_lawful.specs.Keeps.{Keeps}
+use Rattle.fsb_lawful.proofs.Words
+use Words.{ℕ, zero, suc, ◌+◌, ◌-◌, ◌<◌, ◌≤◌, ◌≡◌, Bool, true, false, not, ◌&&◌, is_some, length, take, refl, sym, ap}
+use Words.{◌∙◌, arith, if◌then◌else◌, and_parts, le-leb, each_where, any_where-off, each_where-at, BPRI, Marks, line_at}
+use Words.{Who, Symmetric, Priority, Trace, line_back, is_asked_wrongly, is_some_asked_wrongly, begins_at}
+use Words.{bus_request_of, request_line_of, breaks-8, winner_at-agree, Past, Run, past_of, past_to, run_to}
+use Words.{asks_for_bus, asks_for_priority, began_before, drives_request_lines, due_number, reply_before, holds_in}
+use Words.{holds_at, Timely, want_of, WantsLawfully, Keeps}
 use Rattle.fsb_lawful.proofs.Cuts.{line-to}
 use Rattle.fsb_lawful.proofs.CutRuns.{cuts-agree}
 use Rattle.fsb_lawful.proofs.DuesStay.{dues-stay}

@@ -1,19 +1,9 @@
 -- When a live request responds and when its target is ready: by its waits, and once.
-use Rattle.std.proofs.Common.{ℕ, ◌+◌, ◌<◌, ◌≤◌, ◌≡◌, ◌⊎◌, Bool, true, false, Option, Some, length, refl, sym, ◌∙◌}
-use Rattle.std.proofs.Common.{arith, inl, inr, subst}
-use Rattle.std.specs.Option.{option_map}
-use Rattle.std.proofs.lemmas.Bool.{and_parts}
-use Rattle.fsb_count.specs.Options.{is_at}
-use Rattle.fsb_count.proofs.Interface.{is_at-some}
-use Rattle.fsb_trace.specs.At.{Trace}
-use Rattle.fsb_trace.specs.Agree.{AgreeTo}
-use Rattle.fsb_trace.specs.Response.{takes, answer_from, ready_clock_of}
-use Rattle.fsb_trace.specs.Timing.{is_ready_from, is_response_from}
-use Rattle.fsb_trace.proofs.Interface.{ready_clock_of-stays}
-use Rattle.fsb_laws.proofs.Interface.{HasAnswer, after_answer, answer_later, has_ready}
-use Rattle.fsb_timely.specs.Runs.{Run, run_to}
-use Rattle.fsb_timely.specs.Snoops.{live_choice}
-use Rattle.fsb_timely.specs.Transfers.{is_ready_due, is_response_clock}
+use Rattle.fsb_lawful.proofs.Words
+use Words.{ℕ, ◌+◌, ◌<◌, ◌≤◌, ◌≡◌, ◌⊎◌, Bool, true, false, Option, Some, length, refl, sym, ◌∙◌, arith, inl, inr, subst}
+use Words.{option_map, and_parts, is_at, is_at-some, Trace, AgreeTo, takes, answer_from, ready_clock_of, is_ready_from}
+use Words.{is_response_from, ready_clock_of-stays, HasAnswer, after_answer, answer_later, has_ready, Run, run_to}
+use Words.{live_choice, is_ready_due, is_response_clock}
 use Rattle.fsb_lawful.proofs.AnswerClocks.{answer_from-answer, answer_from-stays, takes-stays}
 use Rattle.fsb_lawful.proofs.CutRuns.{live_choice-same}
 

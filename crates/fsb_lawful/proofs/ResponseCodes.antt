@@ -1,34 +1,14 @@
 -- Rule 14: each response of a timely run has the code of its settled outcome, which is what is told of it.
-use Rattle.std.proofs.Common.{ℕ, ◌+◌, ◌<◌, ◌≤◌, ◌≡◌, Bool, true, false, not, Option, Some, None, length, take, nat_eq}
-use Rattle.std.proofs.Common.{nat_le, nat_lt, refl, sym, ap, ◌∙◌, arith, subst}
-use Rattle.std.proofs.lemmas.Bool.{and_from, and_parts, le-leb, lt-ltb, ne_eqb}
-use Rattle.fsb_count.specs.Options.{is_some_and}
-use Rattle.fsb_count.proofs.Interface.{nth_where-found}
-use Rattle.fsb_encode.specs.declared.request.Kind.{Kind}
-use Rattle.fsb_encode.specs.declared.request.Request.{Request}
-use Rattle.fsb_hazard.specs.declared.choice.Turn.{Turn}
-use Rattle.fsb_hazard.specs.declared.choice.Turn.TheVariants.{Keep, Retry, Defer}
-use Rattle.fsb_hazard.specs.Choice.{is_never_held_up}
-use Rattle.fsb_signal.specs.declared.lines.TheConstants.Lines.{HITM, DEFER}
-use Rattle.fsb_signal.specs.declared.marks.Marks.{Marks}
-use Rattle.fsb_signal.specs.Samples.{line_at}
-use Rattle.fsb_trace.specs.At.{Trace, responds_at, response_code_at}
-use Rattle.fsb_trace.specs.declared.outcome.Outcome.{Outcome}
-use Rattle.fsb_trace.specs.Outcome.{outcome_by_kind, response_code_of, response_clock_of, told_by, outcome_of}
-use Rattle.fsb_trace.specs.Outcome.{settled_by}
-use Rattle.fsb_trace.specs.Requests.{live_count, live_request_of, is_write_back, is_write_back_kind, is_upgrade}
-use Rattle.fsb_trace.specs.Requests.{is_upgrade_kind}
-use Rattle.fsb_trace.specs.Rules.{has_den, is_code_for, has_code_at, responds_soundly, is_code_wrong, next_response}
-use Rattle.fsb_trace.specs.Snoop.{snoop_end_of, line_at_snoop_end}
-use Rattle.fsb_trace.proofs.Interface.{breaks-14, live_response_of-there, responds_at-agree, response_code_at-agree}
-use Rattle.fsb_trace.proofs.Interface.{snoop_end_of-stays}
-use Rattle.fsb_timely.specs.Moments.{number_of_turn}
-use Rattle.fsb_timely.specs.Snoops.{is_keep, live_choice}
-use Rattle.fsb_timely.specs.Runs.{Run, run_to, past_of}
-use Rattle.fsb_timely.specs.Timely.{Timely}
-use Rattle.fsb_timely.specs.Transfers.{settled_of, code_due, number_responding}
-use Rattle.fsb_lawful.specs.Beginning.{WantsLawfully}
-use Rattle.fsb_lawful.specs.Keeps.{Keeps}
+use Rattle.fsb_lawful.proofs.Words
+use Words.{ℕ, ◌+◌, ◌<◌, ◌≤◌, ◌≡◌, Bool, true, false, not, Option, Some, None, length, take, nat_eq, nat_le, nat_lt}
+use Words.{refl, sym, ap, ◌∙◌, arith, subst, and_from, and_parts, le-leb, lt-ltb, ne_eqb, is_some_and, nth_where-found}
+use Words.{Kind, Request, Turn, Keep, Retry, Defer, is_never_held_up, HITM, DEFER, Marks, line_at, Trace, responds_at}
+use Words.{response_code_at, Outcome, outcome_by_kind, response_code_of, response_clock_of, told_by, outcome_of}
+use Words.{settled_by, live_count, live_request_of, is_write_back, is_write_back_kind, is_upgrade, is_upgrade_kind}
+use Words.{has_den, is_code_for, has_code_at, responds_soundly, is_code_wrong, next_response, snoop_end_of}
+use Words.{line_at_snoop_end, breaks-14, live_response_of-there, responds_at-agree, response_code_at-agree}
+use Words.{snoop_end_of-stays, number_of_turn, is_keep, live_choice, Run, run_to, past_of, Timely, settled_of, code_due}
+use Words.{number_responding, WantsLawfully, Keeps}
 use Rattle.fsb_lawful.proofs.CutRuns.{cuts-agree, length-cut}
 use Rattle.fsb_lawful.proofs.Keeping.{keeps}
 use Rattle.fsb_lawful.proofs.OneAnswer.{transfers-at, answered-next, next-same}

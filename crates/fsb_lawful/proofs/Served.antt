@@ -1,25 +1,12 @@
 -- A grant, as the whole trace shows it: the live request whose snoop end makes it, and the one that it serves.
-use Rattle.std.proofs.Common.{ℕ, ◌+◌, ◌<◌, ◌≡◌, Bool, true, false, ◌&&◌, List, Option, Some, length, nat_eq, refl}
-use Rattle.std.proofs.Common.{sym, ap, subst, ◌∙◌, ◌⊎◌, arith}
-use Rattle.std.specs.Option.{option_and_then}
-use Rattle.std.proofs.lemmas.Bool.{and_parts, eqb-true}
-use Rattle.fsb_count.specs.Options.{is_some_and}
-use Rattle.fsb_count.proofs.Interface.{first_where-found, is_at-some}
-use Rattle.fsb_trace.specs.declared.outcome.Outcome.{Outcome}
-use Rattle.fsb_trace.specs.At.{Trace}
-use Rattle.fsb_trace.specs.Flight.{reply_number_of}
-use Rattle.fsb_trace.specs.Outcome.{is_settled_deferred}
-use Rattle.fsb_trace.specs.Requests.{is_reply, live_clock_of, live_request_of}
-use Rattle.fsb_trace.specs.Snoop.{snoop_end_of}
-use Rattle.fsb_trace.proofs.Interface.{AgreeTo-sym, snoop_end_of-stays}
-use Rattle.fsb_timely.specs.Grants.{grant_at, is_granted, snooped_at}
-use Rattle.fsb_timely.specs.Moments.{claim_at, gives_line, grant_for, grant_of, grant_to, is_answered_by}
-use Rattle.fsb_timely.specs.Moments.{live_claim_of, moment_at, number_snooped_at, served_number, snoop_at}
-use Rattle.fsb_timely.specs.Moments.{snoop_end_if_begun, turns_in}
-use Rattle.fsb_timely.specs.Past.{Claim, Grant, Past, SnoopEnd}
-use Rattle.fsb_timely.specs.Runs.{Run, moments_below, past_of, past_with, run_to}
-use Rattle.fsb_timely.specs.Tied.{IsSnoopOf}
-use Rattle.fsb_timely.proofs.Interface.{moment_of, number-says, snoop-tied, snooped-there}
+use Rattle.fsb_lawful.proofs.Words
+use Words.{ℕ, ◌+◌, ◌<◌, ◌≡◌, Bool, true, false, ◌&&◌, List, Option, Some, length, nat_eq, refl, sym, ap, subst, ◌∙◌}
+use Words.{◌⊎◌, arith, option_and_then, and_parts, eqb-true, is_some_and, first_where-found, is_at-some, Outcome, Trace}
+use Words.{reply_number_of, is_settled_deferred, is_reply, live_clock_of, live_request_of, snoop_end_of, AgreeTo-sym}
+use Words.{snoop_end_of-stays, grant_at, is_granted, snooped_at, claim_at, gives_line, grant_for, grant_of, grant_to}
+use Words.{is_answered_by, live_claim_of, moment_at, number_snooped_at, served_number, snoop_at, snoop_end_if_begun}
+use Words.{turns_in, Claim, Grant, Past, SnoopEnd, Run, moments_below, past_of, past_with, run_to, IsSnoopOf, moment_of}
+use Words.{number-says, snoop-tied, snooped-there}
 use Rattle.fsb_lawful.proofs.Cuts.{run_to-agrees}
 
 pub some-and : {A : Type 0} (o : Option A) (test : A → Bool) → is_some_and o test ≡ true

@@ -1,24 +1,12 @@
 -- Rule 11: the snoop lines of a timely run are at snoop clocks alone.
-use Rattle.std.proofs.Common.{ℕ, ◌+◌, ◌<◌, ◌≡◌, Bool, true, false, not, Option, Some, None, length, take, refl, sym}
-use Rattle.std.proofs.Common.{ap, ◌∙◌, arith}
-use Rattle.std.specs.Option.{option_and_then}
-use Rattle.std.proofs.lemmas.Bool.{le-ltb, lt-ltb}
-use Rattle.fsb_count.specs.Options.{is_some_and, is_before}
-use Rattle.fsb_count.proofs.Interface.{any_where-at, first_where-found}
-use Rattle.fsb_signal.specs.declared.marks.Marks.{Marks}
-use Rattle.fsb_trace.specs.At.{Trace}
-use Rattle.fsb_trace.specs.Requests.{live_count}
-use Rattle.fsb_trace.specs.Snoop.{is_every_second_from, ends_snoop, snoop_end_from, snoop_end_if, snoop_end_of}
-use Rattle.fsb_trace.specs.Snoop.{snoop_start_of, is_snoop_clock_of, is_snoop_clock}
-use Rattle.fsb_trace.specs.Rules.{is_snoop_line_alone}
-use Rattle.fsb_trace.proofs.Interface.{breaks-11, live_below_count, snoop_end_of-clock}
-use Rattle.fsb_timely.specs.Moments.{moment_at, snoop_at, number_snooped_at}
-use Rattle.fsb_timely.specs.Past.{Past, SnoopEnd}
-use Rattle.fsb_timely.specs.Runs.{Run, run_to, past_of, past_to}
-use Rattle.fsb_timely.specs.Snoops.{is_keep, is_put_off, drives_defer, keeps_snoop_lines, drives_hazards}
-use Rattle.fsb_timely.specs.Timely.{holds_in, holds_at, Timely}
-use Rattle.fsb_timely.proofs.Interface.{moment_of, number-says, snooped-there}
-use Rattle.fsb_lawful.specs.Keeps.{Keeps}
+use Rattle.fsb_lawful.proofs.Words
+use Words.{ℕ, ◌+◌, ◌<◌, ◌≡◌, Bool, true, false, not, Option, Some, None, length, take, refl, sym, ap, ◌∙◌, arith}
+use Words.{option_and_then, le-ltb, lt-ltb, is_some_and, is_before, any_where-at, first_where-found, Marks, Trace}
+use Words.{live_count, is_every_second_from, ends_snoop, snoop_end_from, snoop_end_if, snoop_end_of, snoop_start_of}
+use Words.{is_snoop_clock_of, is_snoop_clock, is_snoop_line_alone, breaks-11, live_below_count, snoop_end_of-clock}
+use Words.{moment_at, snoop_at, number_snooped_at, Past, SnoopEnd, Run, run_to, past_of, past_to, is_keep, is_put_off}
+use Words.{drives_defer, keeps_snoop_lines, drives_hazards, holds_in, holds_at, Timely, moment_of, number-says}
+use Words.{snooped-there, Keeps}
 use Rattle.fsb_lawful.proofs.Cuts.{snooped-to}
 use Rattle.fsb_lawful.proofs.Keeping.{keeps}
 

@@ -1,30 +1,12 @@
 -- Rule 12: at the snoop end of a write-back or a reply of a timely run there is nothing to be told.
-use Rattle.std.proofs.Common.{nat_eq, Option, ℕ, ◌<◌, ◌≡◌, Bool, true, false, not, ◌&&◌, ◌||◌, Some, length, refl, ap}
-use Rattle.std.proofs.Common.{◌∙◌, arith}
-use Rattle.std.proofs.lemmas.Bool.{and_right}
-use Rattle.fsb_count.specs.Options.{is_at, is_some_and}
-use Rattle.fsb_count.proofs.Interface.{any_where-none, any_where-off, is_at-some}
-use Rattle.fsb_encode.specs.declared.request.Kind.{Kind}
-use Rattle.fsb_encode.specs.declared.request.Kind.TheVariants.{Reply, WriteBack}
-use Rattle.fsb_encode.specs.declared.request.Request.{Request}
-use Rattle.fsb_hazard.specs.Choice.{is_never_held_up}
-use Rattle.fsb_signal.specs.declared.lines.TheConstants.Lines.{HIT, HITM, DEFER}
-use Rattle.fsb_signal.specs.declared.marks.Marks.{Marks}
-use Rattle.fsb_signal.specs.Samples.{line_at}
-use Rattle.fsb_trace.specs.Requests.{is_reply, is_reply_kind, is_write_back, is_write_back_kind, live_request_of}
-use Rattle.fsb_trace.specs.Rules.{is_result_unfit_for, is_snoop_result_unfit}
-use Rattle.fsb_trace.specs.Snoop.{snoop_end_of}
-use Rattle.fsb_trace.proofs.Interface.{breaks-12}
-use Rattle.fsb_timely.specs.Grants.{holds_line, is_exclusive, snooped_at}
-use Rattle.fsb_timely.specs.Hits.{is_dirty}
-use Rattle.fsb_timely.specs.Past.{Claim, Past, SnoopEnd}
-use Rattle.fsb_timely.specs.Runs.{Run, past_of, past_to, run_to}
-use Rattle.fsb_timely.specs.Snoops.{has_right_result, has_snoop_result, is_dirty_elsewhere, is_dirty_for}
-use Rattle.fsb_timely.specs.Snoops.{is_held_elsewhere, is_held_for, is_keep, is_reply_end}
-use Rattle.fsb_timely.specs.Timely.{holds_in, holds_at, Timely}
-use Rattle.fsb_lawful.specs.Beginning.{WantsLawfully}
-use Rattle.fsb_lawful.specs.Keeps.{Keeps}
-use Rattle.fsb_lawful.specs.Premises.{WritesBackAlone}
+use Rattle.fsb_lawful.proofs.Words
+use Words.{nat_eq, Option, ℕ, ◌<◌, ◌≡◌, Bool, true, false, not, ◌&&◌, ◌||◌, Some, length, refl, ap, ◌∙◌, arith}
+use Words.{and_right, is_at, is_some_and, any_where-none, any_where-off, is_at-some, Kind, Reply, WriteBack, Request}
+use Words.{is_never_held_up, HIT, HITM, DEFER, Marks, line_at, is_reply, is_reply_kind, is_write_back}
+use Words.{is_write_back_kind, live_request_of, is_result_unfit_for, is_snoop_result_unfit, snoop_end_of, breaks-12}
+use Words.{holds_line, is_exclusive, snooped_at, is_dirty, Claim, Past, SnoopEnd, Run, past_of, past_to, run_to}
+use Words.{has_right_result, has_snoop_result, is_dirty_elsewhere, is_dirty_for, is_held_elsewhere, is_held_for}
+use Words.{is_keep, is_reply_end, holds_in, holds_at, Timely, WantsLawfully, Keeps, WritesBackAlone}
 use Rattle.fsb_lawful.proofs.Cuts.{snooped-to}
 use Rattle.fsb_lawful.proofs.Keeping.{keeps}
 use Rattle.fsb_lawful.proofs.Turns.{Turned, turned-at, decoded-live}

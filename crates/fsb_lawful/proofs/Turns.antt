@@ -1,32 +1,14 @@
 -- The turn of a live request of a timely run: what is settled by it, DEFER#, and that the request may have it.
-use Rattle.std.proofs.Common.{ℕ, ◌+◌, ◌<◌, ◌≤◌, ◌≡◌, true, not, List, Option, Some, length, slice_index, ap, ◌∙◌}
-use Rattle.std.proofs.Common.{arith}
-use Rattle.std.specs.Option.{option_map}
-use Rattle.fsb_count.specs.Options.{is_some_and}
-use Rattle.fsb_encode.specs.declared.request.Request.{Request}
+use Rattle.fsb_lawful.proofs.Words
+use Words.{ℕ, ◌+◌, ◌<◌, ◌≤◌, ◌≡◌, true, not, List, Option, Some, length, slice_index, ap, ◌∙◌, arith, option_map}
+use Words.{is_some_and, Request, Turn, Keep, is_never_held_up, is_defer, ADS, DEFER, line_at, Trace, request_at}
+use Words.{settled_by, settled_outcome_of, live_clock_of, live_request_of, snoop_end_of, AgreeTo-sym}
+use Words.{live_clock_of-stays, live_request_of-at, request_at-agree, snoop_end_of-clock, snoop_end_of-stays}
+use Words.{snooped_at, effective_choice, number_of_turn, snoop_end_with, turns_in, Past, SnoopEnd, Run, run_to, past_of}
+use Words.{is_keep, is_put_off, drives_defer, drives_hazards, holds_in, holds_at, Timely, settled_of, IsSnoopOf}
+use Words.{moment-snooped, snoop_of, snoop-tied, snooped-there, WantsLawfully}
 use Rattle.fsb_hazard.specs.declared.choice.Choice.{Choice}
-use Rattle.fsb_hazard.specs.declared.choice.Turn.{Turn}
-use Rattle.fsb_hazard.specs.declared.choice.Turn.TheVariants.{Keep}
-use Rattle.fsb_hazard.specs.Choice.{is_never_held_up, is_defer}
 use Rattle.fsb_script.specs.declared.plan.Window.{Window}
-use Rattle.fsb_signal.specs.declared.lines.TheConstants.Lines.{ADS, DEFER}
-use Rattle.fsb_signal.specs.Samples.{line_at}
-use Rattle.fsb_trace.specs.At.{Trace, request_at}
-use Rattle.fsb_trace.specs.Outcome.{settled_by, settled_outcome_of}
-use Rattle.fsb_trace.specs.Requests.{live_clock_of, live_request_of}
-use Rattle.fsb_trace.specs.Snoop.{snoop_end_of}
-use Rattle.fsb_trace.proofs.Interface.{AgreeTo-sym, live_clock_of-stays, live_request_of-at, request_at-agree}
-use Rattle.fsb_trace.proofs.Interface.{snoop_end_of-clock, snoop_end_of-stays}
-use Rattle.fsb_timely.specs.Grants.{snooped_at}
-use Rattle.fsb_timely.specs.Moments.{effective_choice, number_of_turn, snoop_end_with, turns_in}
-use Rattle.fsb_timely.specs.Past.{Past, SnoopEnd}
-use Rattle.fsb_timely.specs.Runs.{Run, run_to, past_of}
-use Rattle.fsb_timely.specs.Snoops.{is_keep, is_put_off, drives_defer, drives_hazards}
-use Rattle.fsb_timely.specs.Timely.{holds_in, holds_at, Timely}
-use Rattle.fsb_timely.specs.Transfers.{settled_of}
-use Rattle.fsb_timely.specs.Tied.{IsSnoopOf}
-use Rattle.fsb_timely.proofs.Interface.{moment-snooped, snoop_of, snoop-tied, snooped-there}
-use Rattle.fsb_lawful.specs.Beginning.{WantsLawfully}
 use Rattle.fsb_lawful.proofs.Begun.{begun-decoded}
 use Rattle.fsb_lawful.proofs.Cuts.{run_to-agrees, snooped-to, line-to}
 use Rattle.fsb_lawful.proofs.CutRuns.{cuts-agree, length-cut, past-cut, live-ads}

@@ -1,18 +1,11 @@
 -- A want stays until its request begins.
-use Rattle.std.proofs.Common.{ℕ, suc, ◌+◌, ◌<◌, ◌≡◌, true, false, ◌&&◌, List, [], ◌∷◌, ◌++◌, is_some, length, nat_le}
-use Rattle.std.proofs.Common.{nat_lt, refl, sym, ap, ◌∙◌, arith, inl, inr, add-one}
-use Rattle.std.specs.List.{list_all}
-use Rattle.std.proofs.lemmas.Bool.{and_from, and_parts, cases_Bool, le-leb, leb-false, leb-true, lt-leb}
-use Rattle.fsb_access.specs.declared.log.Done.{Done}
-use Rattle.fsb_trace.specs.declared.who.Who.TheVariants.{Symmetric}
-use Rattle.fsb_trace.specs.Winner.{begins_at}
-use Rattle.fsb_timely.specs.Completions.{is_in_time}
+use Rattle.fsb_lawful.proofs.Words
+use Words.{ℕ, suc, ◌+◌, ◌<◌, ◌≡◌, true, false, ◌&&◌, List, [], ◌∷◌, ◌++◌, is_some, length, nat_le, nat_lt, refl, sym}
+use Words.{ap, ◌∙◌, arith, inl, inr, add-one, list_all, and_from, and_parts, cases_Bool, le-leb, leb-false, leb-true}
+use Words.{lt-leb, Done, Symmetric, begins_at, is_in_time, Run, entries_to, past_of, past_to, run_to, Timely, want_of}
+use Words.{below_le, done_below, timely-want-stays, want_of-alike}
 use Rattle.fsb_timely.specs.Growth.{GoesOn}
-use Rattle.fsb_timely.specs.Runs.{Run, entries_to, past_of, past_to, run_to}
 use Rattle.fsb_timely.specs.Staying.{OwesNoMore}
-use Rattle.fsb_timely.specs.Timely.{Timely}
-use Rattle.fsb_timely.specs.Wants.{want_of}
-use Rattle.fsb_timely.proofs.Interface.{below_le, done_below, timely-want-stays, want_of-alike}
 use Rattle.fsb_lawful.proofs.Cuts.{moments-to}
 use Rattle.fsb_lawful.proofs.GrantsOwed.{grants-are-owed}
 use Rattle.fsb_lawful.proofs.OwesLess.{owes-less}
