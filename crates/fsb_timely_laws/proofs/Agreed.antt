@@ -1,25 +1,13 @@
 -- Two orderly traces that are the same so far have the same numbers so far.
-use Rattle.std.proofs.Common.{ℕ, zero, suc, ◌+◌, ◌<◌, ◌≤◌, ◌≡◌, Bool, true, false, not, ◌&&◌, nat_lt, Option, Some}
-use Rattle.std.proofs.Common.{None, length, max, refl, sym, ap, ◌∙◌, arith}
-use Rattle.std.specs.Option.{option_map}
-use Rattle.std.proofs.lemmas.Bool.{and_parts, and_from, leb-true, lt-ltb}
-use Rattle.fsb_count.specs.Clocks.{AgreeBelow, from_clock, nth_where}
-use Rattle.fsb_count.specs.Options.{greater_of, is_before, is_some_and}
-use Rattle.fsb_count.proofs.Interface.{nth_where-carried, nth_where-found}
-use Rattle.fsb_signal.specs.declared.lines.TheConstants.Lines.{DRDY}
-use Rattle.fsb_signal.specs.Samples.{line_at}
-use Rattle.fsb_trace.specs.At.{Trace}
-use Rattle.fsb_trace.specs.Agree.{AgreeTo}
-use Rattle.fsb_trace.specs.Requests.{live_clock_of, live_count}
-use Rattle.fsb_trace.specs.Snoop.{is_every_second_from, is_snoop_clock, is_snoop_clock_of, snoop_end_of, snoop_start_of}
-use Rattle.fsb_trace.specs.Snoop.{start_after_clock, start_after_end}
-use Rattle.fsb_trace.specs.Outcome.{does_move, moves_data, response_clock_of}
-use Rattle.fsb_trace.specs.Response.{data_clock_of, end_of}
-use Rattle.fsb_trace.proofs.Interface.{AgreeTo-sym, end_of-response, end_of-stays, line_at-agree, live_below_count}
-use Rattle.fsb_trace.proofs.Interface.{live_clock_of-stays, outcome_of-stays, response_clock_of-stays, snoop_clock-start}
-use Rattle.fsb_trace.proofs.Interface.{snoop_end_of-stays}
-use Rattle.fsb_laws.specs.Orderly.{Orderly}
-use Rattle.fsb_laws.proofs.Interface.{HasAnswer, has_answer}
+use Rattle.fsb_timely_laws.proofs.Words
+use Words.{ℕ, zero, suc, ◌+◌, ◌<◌, ◌≤◌, ◌≡◌, Bool, true, false, not, ◌&&◌, nat_lt, Option, Some, None, length, max}
+use Words.{refl, sym, ap, ◌∙◌, arith, option_map, and_parts, and_from, leb-true, lt-ltb, AgreeBelow, from_clock}
+use Words.{nth_where, greater_of, is_before, is_some_and, nth_where-carried, nth_where-found, DRDY, line_at, Trace}
+use Words.{AgreeTo, live_clock_of, live_count, is_every_second_from, is_snoop_clock, is_snoop_clock_of, snoop_end_of}
+use Words.{snoop_start_of, start_after_clock, start_after_end, does_move, moves_data, response_clock_of, data_clock_of}
+use Words.{end_of, AgreeTo-sym, end_of-response, end_of-stays, line_at-agree, live_below_count, live_clock_of-stays}
+use Words.{outcome_of-stays, response_clock_of-stays, snoop_clock-start, snoop_end_of-stays, Orderly, HasAnswer}
+use Words.{has_answer}
 use Rattle.fsb_timely_laws.proofs.Tests.{PassesIn, any-both, before-same}
 
 -- two orderly traces are the same for n clocks

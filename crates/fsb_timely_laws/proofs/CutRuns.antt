@@ -1,21 +1,12 @@
 -- A run, and the run up to one of its clocks.
-use Rattle.std.proofs.Common.{ℕ, zero, suc, ◌+◌, ◌<◌, ◌≤◌, ◌≡◌, Bool, true, false, cond, ◌&&◌, ◌||◌, nat_le, nat_lt}
-use Rattle.std.proofs.Common.{List, [], ◌∷◌, ◌++◌, length, take, slice_get, refl, sym, ap, ◌∙◌, inl, inr, arith}
-use Rattle.std.specs.List.{filter, list_all, list_any}
-use Rattle.std.specs.Option.{option_map_or}
-use Rattle.std.proofs.lemmas.Bool.{and_parts, cases_Bool, cases_lt, false_from_ne_true, le-leb, leb-true, lt-leb}
+use Rattle.fsb_timely_laws.proofs.Words
+use Words.{ℕ, zero, suc, ◌+◌, ◌<◌, ◌≤◌, ◌≡◌, Bool, true, false, cond, ◌&&◌, ◌||◌, nat_le, nat_lt, List, [], ◌∷◌, ◌++◌}
+use Words.{length, take, slice_get, refl, sym, ap, ◌∙◌, inl, inr, arith, filter, list_all, list_any, option_map_or}
+use Words.{and_parts, cases_Bool, cases_lt, false_from_ne_true, le-leb, leb-true, lt-leb, count_where}
+use Words.{count_where-above, count_where-mono, count_where-same, ADS, has_line, line_at, Trace, is_in_time, GoesOn}
+use Words.{choice_at, Past, Run, entries_to, moments_below, past_of, past_to, requests_below, run_to}
 use Rattle.fsb_access.specs.declared.log.Done.{Done}
-use Rattle.fsb_count.specs.Clocks.{count_where}
-use Rattle.fsb_count.proofs.Interface.{count_where-above, count_where-mono, count_where-same}
 use Rattle.fsb_hazard.specs.Choice.{quiet_choice}
-use Rattle.fsb_signal.specs.declared.lines.TheConstants.Lines.{ADS}
-use Rattle.fsb_signal.specs.Samples.{has_line, line_at}
-use Rattle.fsb_trace.specs.At.{Trace}
-use Rattle.fsb_timely.specs.Completions.{is_in_time}
-use Rattle.fsb_timely.specs.Growth.{GoesOn}
-use Rattle.fsb_timely.specs.Moments.{choice_at}
-use Rattle.fsb_timely.specs.Past.{Past}
-use Rattle.fsb_timely.specs.Runs.{Run, entries_to, moments_below, past_of, past_to, requests_below, run_to}
 use Rattle.fsb_timely_laws.proofs.Numbers.{get-take}
 
 -- what passes among those that pass a weaker test

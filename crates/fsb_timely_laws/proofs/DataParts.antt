@@ -1,24 +1,12 @@
 -- The data: what is said of a clock of the run up to it is said of the whole run.
-use Rattle.std.proofs.Common.{ℕ, zero, suc, ◌+◌, ◌<◌, ◌≤◌, ◌≡◌, Bool, true, false, nat_eq, Option, Some, None, slice_index}
-use Rattle.std.proofs.Common.{length, refl, sym, ap, ◌∙◌, inl, inr, arith}
-use Rattle.std.specs.Option.{option_and_then, option_map_or}
-use Rattle.std.proofs.lemmas.Bool.{and_cases}
-use Rattle.fsb_count.specs.Clocks.{each_where}
-use Rattle.fsb_count.specs.Options.{is_at, is_some_and}
-use Rattle.fsb_count.proofs.Interface.{is_at-from, is_at-some}
+use Rattle.fsb_timely_laws.proofs.Words
+use Words.{ℕ, zero, suc, ◌+◌, ◌<◌, ◌≤◌, ◌≡◌, Bool, true, false, nat_eq, Option, Some, None, slice_index, length, refl}
+use Words.{sym, ap, ◌∙◌, inl, inr, arith, option_and_then, option_map_or, and_cases, each_where, is_at, is_some_and}
+use Words.{is_at-from, is_at-some, data_at, known_word, response_clock_of, live_count, live_request_of, data_clock_of}
+use Words.{snoop_end_of, Orderly, carried_value, carries_chunk, carries_data, carries_from, carries_if_due, chunk_value}
+use Words.{served_request, served_number, Run, past_of, run_to, IsSaidOfTheWhole}
 use Rattle.fsb_encode.specs.Burst.{burst_order}
 use Rattle.fsb_encode.specs.declared.request.Request.{Request}
-use Rattle.fsb_signal.specs.Samples.{data_at, known_word}
-use Rattle.fsb_trace.specs.Outcome.{response_clock_of}
-use Rattle.fsb_trace.specs.Requests.{live_count, live_request_of}
-use Rattle.fsb_trace.specs.Response.{data_clock_of}
-use Rattle.fsb_trace.specs.Snoop.{snoop_end_of}
-use Rattle.fsb_laws.specs.Orderly.{Orderly}
-use Rattle.fsb_timely.specs.Carried.{carried_value, carries_chunk, carries_data, carries_from, carries_if_due}
-use Rattle.fsb_timely.specs.Carried.{chunk_value, served_request}
-use Rattle.fsb_timely.specs.Moments.{served_number}
-use Rattle.fsb_timely.specs.Runs.{Run, past_of, run_to}
-use Rattle.fsb_timely_laws.specs.Whole.{IsSaidOfTheWhole}
 use Rattle.fsb_timely_laws.proofs.Tests.{FailsIn, both-same, each-both}
 use Rattle.fsb_timely_laws.proofs.Agreed.{Agreed-sym, data-parts, data-stays}
 use Rattle.fsb_timely_laws.proofs.Pairs.{Ordered, Ordered-sym, Paired, ordered-cut, request-same, served-end, served-same, turns}

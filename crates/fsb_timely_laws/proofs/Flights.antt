@@ -1,25 +1,13 @@
 -- Requests in flight, replies and answers: two orderly traces that are the same so far have the same so far.
-use Rattle.std.proofs.Common.{ℕ, zero, suc, ◌+◌, ◌<◌, ◌≤◌, ◌≡◌, ◌++◌, Bool, true, false, not, ◌&&◌, ◌||◌, nat_lt}
-use Rattle.std.proofs.Common.{[], ◌∷◌, Option, Some, None, length, if◌then◌else◌, refl, sym, ap, subst, ◌∙◌, arith, inl, inr}
-use Rattle.std.specs.Option.{option_map}
-use Rattle.std.proofs.lemmas.Bool.{cases_lt, and_parts, and_from, and_right, le-ltb, lt-ltb}
-use Rattle.fsb_count.specs.Clocks.{all_where}
-use Rattle.fsb_count.specs.Options.{is_before}
-use Rattle.fsb_count.proofs.Interface.{any_where-same, first_where-carried, first_where-found}
-use Rattle.fsb_count.proofs.Interface.{is_before-from, is_before-parts, nth_where-found}
-use Rattle.fsb_signal.specs.declared.lines.TheConstants.Lines.{ADS}
-use Rattle.fsb_signal.specs.Samples.{line_at}
-use Rattle.fsb_trace.specs.At.{Trace}
-use Rattle.fsb_trace.specs.Agree.{AgreeTo}
-use Rattle.fsb_trace.specs.Deferral.{answers, is_answered}
-use Rattle.fsb_trace.specs.Flight.{has_ended, in_flight, is_dropped, is_in_flight, is_live_reply_to, is_reply_to}
-use Rattle.fsb_trace.specs.Flight.{reply_clock_of, reply_number_of}
-use Rattle.fsb_trace.specs.Requests.{have_same_id, is_cancelled, is_live, is_reply, live_clock_of, live_number_of}
-use Rattle.fsb_trace.specs.Response.{end_of}
-use Rattle.fsb_trace.specs.Snoop.{snoop_end_of}
-use Rattle.fsb_trace.proofs.Interface.{AgreeTo-sym, end_of-response, is_cancelled-agree, is_live-agree, line_at-agree}
-use Rattle.fsb_trace.proofs.Interface.{live_clock_of-number, live_clock_of-stays, live_request_of-stays, request_at-agree}
-use Rattle.fsb_trace.proofs.Interface.{snoop_end_of-clock}
+use Rattle.fsb_timely_laws.proofs.Words
+use Words.{ℕ, zero, suc, ◌+◌, ◌<◌, ◌≤◌, ◌≡◌, ◌++◌, Bool, true, false, not, ◌&&◌, ◌||◌, nat_lt, [], ◌∷◌, Option, Some}
+use Words.{None, length, if◌then◌else◌, refl, sym, ap, subst, ◌∙◌, arith, inl, inr, option_map, cases_lt, and_parts}
+use Words.{and_from, and_right, le-ltb, lt-ltb, all_where, is_before, any_where-same, first_where-carried}
+use Words.{first_where-found, is_before-from, is_before-parts, nth_where-found, ADS, line_at, Trace, AgreeTo, answers}
+use Words.{is_answered, has_ended, in_flight, is_dropped, is_in_flight, is_live_reply_to, is_reply_to, reply_clock_of}
+use Words.{reply_number_of, have_same_id, is_cancelled, is_live, is_reply, live_clock_of, live_number_of, end_of}
+use Words.{snoop_end_of, AgreeTo-sym, end_of-response, is_cancelled-agree, is_live-agree, line_at-agree}
+use Words.{live_clock_of-number, live_clock_of-stays, live_request_of-stays, request_at-agree, snoop_end_of-clock}
 use Rattle.fsb_timely_laws.proofs.Tests.{both-same}
 use Rattle.fsb_timely_laws.proofs.Agreed.{Agreed, Agreed-sym, answer-of, end-stays, responses-before}
 

@@ -1,3 +1,4 @@
+pub mod Words
 mod Tests
 mod Agreed
 mod Flights

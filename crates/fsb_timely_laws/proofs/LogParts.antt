@@ -1,37 +1,20 @@
 -- Parity, the bus lock and the completions: what is said of a clock of the run up to it is said of the whole run.
-use Rattle.std.proofs.Common.{ℕ, ◌+◌, ◌-◌, ◌<◌, ◌≤◌, ◌≡◌, Bool, true, false, not, ◌&&◌, ◌||◌, nat_eq, nat_le, [], ◌++◌}
-use Rattle.std.proofs.Common.{Option, Some, None, if◌then◌else◌, length, map, slice_get, refl, sym, ap, ◌∙◌, arith}
-use Rattle.std.specs.Bool.{beq}
-use Rattle.std.specs.List.{list_any}
-use Rattle.std.specs.Option.{option_and_then, option_map, option_map_or}
-use Rattle.std.proofs.lemmas.Bool.{and_parts, eqb-true, le-leb}
+use Rattle.fsb_timely_laws.proofs.Words
+use Words.{ℕ, ◌+◌, ◌-◌, ◌<◌, ◌≤◌, ◌≡◌, Bool, true, false, not, ◌&&◌, ◌||◌, nat_eq, nat_le, [], ◌++◌, Option, Some, None}
+use Words.{if◌then◌else◌, length, map, slice_get, refl, sym, ap, ◌∙◌, arith, beq, list_any, option_and_then, option_map}
+use Words.{option_map_or, and_parts, eqb-true, le-leb, AgreeBelow, any_where, from_clock, holds_since, is_some_and}
+use Words.{any_where-same, nth_where-found, LOCK, Trace, responds_at, response_code_at, response_code_of, is_live}
+use Words.{live_clock_of, line_at-agree, completed_at, completed_if, completed_of_item, entries_at, is_arrival}
+use Words.{is_in_time, logs_completions, next_accesses, are_completed, of_all_agents, begun_at, GoesOn, is_hit}
+use Words.{cancelled_at, moment_at, responded_at, retried_at, Past, Run, entries_to, past_of, past_to, run_to, holds_at}
+use Words.{holds_in, is_arrival-alike, is_hit-alike, last-same, moment-at, moment_of, next_item-alike}
+use Words.{next_number-alike, length-cut, IsSaidOfTheWhole, holds_in_whole}
 use Rattle.fsb_access.specs.ScriptOrder.{step_of}
-use Rattle.fsb_count.specs.Clocks.{AgreeBelow, any_where, from_clock, holds_since}
-use Rattle.fsb_count.specs.Options.{is_some_and}
-use Rattle.fsb_count.proofs.Interface.{any_where-same, nth_where-found}
-use Rattle.fsb_signal.specs.declared.lines.TheConstants.Lines.{LOCK}
 use Rattle.fsb_signal.specs.Parity.{has_no_parity}
-use Rattle.fsb_trace.specs.At.{Trace, responds_at, response_code_at}
-use Rattle.fsb_trace.specs.Outcome.{response_code_of}
-use Rattle.fsb_trace.specs.Requests.{is_live, live_clock_of}
-use Rattle.fsb_trace.proofs.Interface.{line_at-agree}
 use Rattle.fsb_timely.specs.BusLock.{drives_lock, ends_locked_item, is_begun_by, is_lock_cancelled, is_lock_retried}
 use Rattle.fsb_timely.specs.BusLock.{is_locked_request, is_release, is_released_before, keeps_lock, wants_lock}
-use Rattle.fsb_timely.specs.Completions.{completed_at, completed_if, completed_of_item, entries_at, is_arrival}
-use Rattle.fsb_timely.specs.Completions.{is_in_time, logs_completions, next_accesses, are_completed, of_all_agents}
-use Rattle.fsb_timely.specs.Grants.{begun_at}
-use Rattle.fsb_timely.specs.Growth.{GoesOn}
-use Rattle.fsb_timely.specs.Hits.{is_hit}
-use Rattle.fsb_timely.specs.Moments.{cancelled_at, moment_at, responded_at, retried_at}
 use Rattle.fsb_timely.specs.ParityLines.{drives_parity, is_even_sample}
-use Rattle.fsb_timely.specs.Past.{Past}
-use Rattle.fsb_timely.specs.Runs.{Run, entries_to, past_of, past_to, run_to}
 use Rattle.fsb_timely.specs.Scripts.{items_of}
-use Rattle.fsb_timely.specs.Timely.{holds_at, holds_in}
-use Rattle.fsb_timely.proofs.Interface.{is_arrival-alike, is_hit-alike, last-same, moment-at, moment_of, next_item-alike}
-use Rattle.fsb_timely.proofs.Interface.{next_number-alike}
-use Rattle.fsb_lawful.proofs.Interface.{length-cut}
-use Rattle.fsb_timely_laws.specs.Whole.{IsSaidOfTheWhole, holds_in_whole}
 use Rattle.fsb_timely_laws.proofs.Numbers.{cut-agrees, get-take}
 use Rattle.fsb_timely_laws.proofs.CutRuns.{any-within, filter-within, past-on, past-twice}
 

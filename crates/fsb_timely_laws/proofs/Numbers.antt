@@ -1,17 +1,9 @@
 -- The numbers of an orderly trace, and of its first samples.
-use Rattle.std.proofs.Common.{ℕ, zero, suc, ◌+◌, ◌<◌, ◌≡◌, Some, List, [], ◌∷◌, length, take, slice_get, refl, sym, ◌∙◌}
-use Rattle.std.proofs.Common.{arith}
-use Rattle.std.proofs.lemmas.List.{length-take-le}
-use Rattle.fsb_count.proofs.Interface.{count_where-same, nth_where-found}
-use Rattle.fsb_signal.specs.declared.lines.TheConstants.Lines.{ADS}
-use Rattle.fsb_signal.specs.Samples.{line_at}
-use Rattle.fsb_trace.specs.At.{Trace, responds_at}
-use Rattle.fsb_trace.specs.Agree.{AgreeTo}
-use Rattle.fsb_trace.specs.Outcome.{response_clock_of}
-use Rattle.fsb_trace.proofs.Interface.{AgreeTo-sym, line_at-agree, live_clock_of-stays, ready_clock_of-stays}
-use Rattle.fsb_trace.proofs.Interface.{response_clock_of-stays, snoop_end_of-stays}
-use Rattle.fsb_laws.specs.Orderly.{Orderly}
-use Rattle.fsb_laws.proofs.Interface.{ads_before_end, may_answer-stays}
+use Rattle.fsb_timely_laws.proofs.Words
+use Words.{ℕ, zero, suc, ◌+◌, ◌<◌, ◌≡◌, Some, List, [], ◌∷◌, length, take, slice_get, refl, sym, ◌∙◌, arith}
+use Words.{length-take-le, count_where-same, nth_where-found, ADS, line_at, Trace, responds_at, AgreeTo}
+use Words.{response_clock_of, AgreeTo-sym, line_at-agree, live_clock_of-stays, ready_clock_of-stays}
+use Words.{response_clock_of-stays, snoop_end_of-stays, Orderly, ads_before_end, may_answer-stays}
 use Rattle.fsb_timely_laws.specs.Numbers.{SameNumbers}
 use Rattle.fsb_timely_laws.proofs.Agreed.{Agreed, Agreed-sym, data-stays, end-stays, snoop_clock-same, start-stays}
 use Rattle.fsb_timely_laws.proofs.Flights.{in_flight-same, reply_number-stays}

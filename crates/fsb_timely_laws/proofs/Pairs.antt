@@ -1,29 +1,14 @@
 -- Two runs that have the same up to a clock: what each of them says of its numbers there, the other says.
-use Rattle.std.proofs.Common.{ℕ, ◌+◌, ◌<◌, ◌≤◌, ◌≡◌, Bool, true, false, not, ◌&&◌, List, Option, Some, None, length, nat_le}
-use Rattle.std.proofs.Common.{slice_index, refl, sym, ap, ◌∙◌, arith}
-use Rattle.std.specs.Option.{option_and_then}
-use Rattle.std.proofs.lemmas.Bool.{and_parts, leb-true}
-use Rattle.fsb_count.specs.Options.{is_at, is_some_and}
-use Rattle.fsb_count.proofs.Interface.{first_where-found, first_where-same, is_at-from, is_at-some}
-use Rattle.fsb_signal.specs.declared.lines.TheConstants.Lines.{ADS}
-use Rattle.fsb_signal.specs.Samples.{line_at}
-use Rattle.fsb_trace.specs.At.{Trace}
-use Rattle.fsb_trace.specs.Agree.{AgreeTo}
-use Rattle.fsb_trace.specs.Deferral.{due_at, is_answered, is_due, later_of}
-use Rattle.fsb_trace.specs.Flight.{reply_number_of}
-use Rattle.fsb_trace.specs.Outcome.{is_deferral, is_settled_deferred, response_clock_of, settled_outcome_of}
-use Rattle.fsb_trace.specs.Requests.{is_reply, live_clock_of, live_count, live_request_of}
-use Rattle.fsb_trace.specs.Snoop.{snoop_end_of}
-use Rattle.fsb_trace.proofs.Interface.{AgreeTo-sym, line_at-agree, live_below_count, live_clock_of-stays}
-use Rattle.fsb_trace.proofs.Interface.{live_request_of-stays, response_clock_of-stays, snoop_end_of-clock}
-use Rattle.fsb_trace.proofs.Interface.{snoop_end_of-rises, snoop_end_of-stays}
-use Rattle.fsb_laws.specs.Orderly.{Orderly}
-use Rattle.fsb_timely.specs.Grants.{snooped_at}
-use Rattle.fsb_timely.specs.Moments.{choice_at, is_answered_by, number_of_turn, number_snooped_at, served_number, turns_in}
-use Rattle.fsb_timely.specs.Runs.{Run, past_of, run_to}
-use Rattle.fsb_timely.specs.Snoops.{live_choice}
-use Rattle.fsb_timely.proofs.Interface.{number-found, number-says, snoop-tied}
-use Rattle.fsb_lawful.proofs.Interface.{live-ads, past-cut, snooped-to, some-and}
+use Rattle.fsb_timely_laws.proofs.Words
+use Words.{ℕ, ◌+◌, ◌<◌, ◌≤◌, ◌≡◌, Bool, true, false, not, ◌&&◌, List, Option, Some, None, length, nat_le, slice_index}
+use Words.{refl, sym, ap, ◌∙◌, arith, option_and_then, and_parts, leb-true, is_at, is_some_and, first_where-found}
+use Words.{first_where-same, is_at-from, is_at-some, ADS, line_at, Trace, AgreeTo, due_at, is_answered, is_due}
+use Words.{later_of, reply_number_of, is_deferral, is_settled_deferred, response_clock_of, settled_outcome_of, is_reply}
+use Words.{live_clock_of, live_count, live_request_of, snoop_end_of, AgreeTo-sym, line_at-agree, live_below_count}
+use Words.{live_clock_of-stays, live_request_of-stays, response_clock_of-stays, snoop_end_of-clock, snoop_end_of-rises}
+use Words.{snoop_end_of-stays, Orderly, snooped_at, choice_at, is_answered_by, number_of_turn, number_snooped_at}
+use Words.{served_number, turns_in, Run, past_of, run_to, live_choice, number-found, number-says, snoop-tied, live-ads}
+use Words.{past-cut, snooped-to, some-and}
 use Rattle.fsb_timely_laws.proofs.Tests.{PassesIn, both-same, first-both, option-same}
 use Rattle.fsb_timely_laws.proofs.Agreed.{Agreed, Agreed-sym, answer-of}
 use Rattle.fsb_timely_laws.proofs.Flights.{answered-same, reply_number-stays}

@@ -1,19 +1,11 @@
 -- A run and the run up to a clock: the plan, the holds, the past and the memory that are the same, and what agents want.
-use Rattle.std.proofs.Common.{ℕ, ◌+◌, ◌<◌, ◌≤◌, ◌≡◌, true, length, nat_le, nat_lt, slice_get, sym, ap, subst}
-use Rattle.std.proofs.Common.{◌∙◌, arith}
-use Rattle.std.proofs.lemmas.Bool.{le-leb, ltb-true}
+use Rattle.fsb_timely_laws.proofs.Words
+use Words.{ℕ, ◌+◌, ◌<◌, ◌≤◌, ◌≡◌, true, length, nat_le, nat_lt, slice_get, sym, ap, subst, ◌∙◌, arith, le-leb, ltb-true}
+use Words.{memory_below, is_in_time, GoesOn, is_dirty, Past, Run, entries_to, past_of, past_to, run_to, Part, holds_at}
+use Words.{holds_in, done_below, is_dirty-alike, is_held_back-alike, want_of-alike, past-cut, IsSaidOfTheWhole}
+use Words.{holds_in_whole}
 use Rattle.fsb_access.specs.Replay.{replay, start_of}
-use Rattle.fsb_timely.specs.Carried.{memory_below}
-use Rattle.fsb_timely.specs.Completions.{is_in_time}
-use Rattle.fsb_timely.specs.Growth.{GoesOn}
-use Rattle.fsb_timely.specs.Hits.{is_dirty}
-use Rattle.fsb_timely.specs.Past.{Past}
-use Rattle.fsb_timely.specs.Runs.{Run, entries_to, past_of, past_to, run_to}
-use Rattle.fsb_timely.specs.Timely.{Part, holds_at, holds_in}
 use Rattle.fsb_timely.specs.Wants.{is_held_back, want_of}
-use Rattle.fsb_timely.proofs.Interface.{done_below, is_dirty-alike, is_held_back-alike, want_of-alike}
-use Rattle.fsb_lawful.proofs.Interface.{past-cut}
-use Rattle.fsb_timely_laws.specs.Whole.{IsSaidOfTheWhole, holds_in_whole}
 use Rattle.fsb_timely_laws.proofs.Numbers.{get-take}
 use Rattle.fsb_timely_laws.proofs.CutRuns.{filter-within, past-on, past-twice, run-twice}
 use Rattle.fsb_timely_laws.proofs.Pairs.{Paired, paired-cut}

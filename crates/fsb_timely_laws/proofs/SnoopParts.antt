@@ -1,32 +1,15 @@
 -- Hazard lines and snoop results: what is said of a clock of the run up to it is said of the whole run.
-use Rattle.std.proofs.Common.{ℕ, ◌+◌, ◌*◌, ◌-◌, ◌<◌, ◌≤◌, ◌≡◌, Bool, true, false, not, ◌&&◌, ◌||◌, nat_eq, nat_le, Option}
-use Rattle.std.proofs.Common.{Some, None, length, refl, sym, ap, ◌∙◌, arith}
-use Rattle.std.specs.Bool.{beq}
-use Rattle.std.specs.Option.{option_and_then, option_map_or}
-use Rattle.std.proofs.lemmas.Bool.{eqb-true}
-use Rattle.fsb_count.specs.Clocks.{any_where}
-use Rattle.fsb_count.specs.Options.{is_some_and}
-use Rattle.fsb_count.proofs.Interface.{any_where-found}
-use Rattle.fsb_signal.specs.declared.lines.TheConstants.Lines.{ADS, AERR, BNR, DEFER, HIT, HITM}
-use Rattle.fsb_signal.specs.Samples.{line_at}
-use Rattle.fsb_trace.specs.Requests.{live_count}
-use Rattle.fsb_trace.specs.Snoop.{line_at_snoop_end, snoop_end_of, snoop_start_of}
-use Rattle.fsb_trace.specs.Timing.{is_stall_from}
-use Rattle.fsb_trace.proofs.Interface.{line_at_snoop_end-stays, live_below_count, live_clock_of-stays, stalls_at-agree}
-use Rattle.fsb_timely.specs.Grants.{holds_line}
-use Rattle.fsb_timely.specs.Completions.{is_in_time}
-use Rattle.fsb_timely.specs.Growth.{GoesOn}
-use Rattle.fsb_timely.specs.Hits.{is_dirty}
-use Rattle.fsb_timely.specs.Moments.{choice_at, number_snooped_at, served_number}
-use Rattle.fsb_timely.specs.Past.{SnoopEnd}
-use Rattle.fsb_timely.specs.Runs.{Run, past_of, run_to}
-use Rattle.fsb_timely.specs.Snoops.{drives_aerr, drives_bnr, drives_defer, drives_hazards, drives_stalls}
-use Rattle.fsb_timely.specs.Snoops.{has_right_result, has_snoop_result, is_bnr_chosen, is_dirty_elsewhere, is_dirty_for}
-use Rattle.fsb_timely.specs.Snoops.{is_error_chosen, is_held_elsewhere, is_held_for, is_keep, is_put_off, is_reply_end}
-use Rattle.fsb_timely.specs.Snoops.{is_stall_chosen, keeps_snoop_lines, live_choice, number_served_at, was_hit_before}
-use Rattle.fsb_timely.proofs.Interface.{going-alike, holds_line-same, number-says}
-use Rattle.fsb_lawful.proofs.Interface.{some-and}
-use Rattle.fsb_timely_laws.specs.Whole.{IsSaidOfTheWhole}
+use Rattle.fsb_timely_laws.proofs.Words
+use Words.{ℕ, ◌+◌, ◌*◌, ◌-◌, ◌<◌, ◌≤◌, ◌≡◌, Bool, true, false, not, ◌&&◌, ◌||◌, nat_eq, nat_le, Option, Some, None}
+use Words.{length, refl, sym, ap, ◌∙◌, arith, beq, option_and_then, option_map_or, eqb-true, any_where, is_some_and}
+use Words.{any_where-found, ADS, AERR, BNR, DEFER, HIT, HITM, line_at, live_count, line_at_snoop_end, snoop_end_of}
+use Words.{snoop_start_of, is_stall_from, line_at_snoop_end-stays, live_below_count, live_clock_of-stays}
+use Words.{stalls_at-agree, holds_line, is_in_time, GoesOn, is_dirty, choice_at, number_snooped_at, served_number}
+use Words.{SnoopEnd, Run, past_of, run_to, drives_aerr, drives_bnr, drives_defer, drives_hazards, drives_stalls}
+use Words.{has_right_result, has_snoop_result, is_bnr_chosen, is_dirty_elsewhere, is_dirty_for, is_error_chosen}
+use Words.{is_held_elsewhere, is_held_for, is_keep, is_put_off, is_reply_end, is_stall_chosen, keeps_snoop_lines}
+use Words.{live_choice, number_served_at, was_hit_before, going-alike, holds_line-same, number-says, some-and}
+use Words.{IsSaidOfTheWhole}
 use Rattle.fsb_timely_laws.proofs.Tests.{PassesIn, any-both}
 use Rattle.fsb_timely_laws.proofs.Agreed.{snoop_clock-same, start-clock, start-stays}
 use Rattle.fsb_timely_laws.proofs.Pairs.{Paired, Paired-sym, live_choice-paired, number-same, served-end, served-same, turns}

@@ -1,30 +1,15 @@
 -- Request starts and request lines: what is said of a clock of the run up to it is said of the whole run.
-use Rattle.std.proofs.Common.{ℕ, ◌+◌, ◌-◌, ◌<◌, ◌≤◌, ◌≡◌, true, false, not, ◌&&◌, nat_le, nat_lt, Some}
-use Rattle.std.proofs.Common.{is_some, length, refl, sym, ap, inl, inr, arith}
-use Rattle.std.specs.Bool.{beq}
-use Rattle.std.specs.Option.{option_and_then, option_map}
-use Rattle.std.proofs.lemmas.Bool.{cases_Bool, leb-true}
-use Rattle.fsb_count.specs.Clocks.{each_where}
-use Rattle.fsb_count.specs.Options.{is_some_and}
-use Rattle.fsb_encode.specs.Decoded.{is_pair}
-use Rattle.fsb_encode.specs.Request.{pairs_of}
+use Rattle.fsb_timely_laws.proofs.Words
+use Words.{ℕ, ◌+◌, ◌-◌, ◌<◌, ◌≤◌, ◌≡◌, true, false, not, ◌&&◌, nat_le, nat_lt, Some, is_some, length, refl, sym, ap}
+use Words.{inl, inr, arith, beq, option_and_then, option_map, cases_Bool, leb-true, each_where, is_some_and, is_pair}
+use Words.{pairs_of, ADS, BNR, BPRI, line_at, known_pair, known_pair_at, line_back, AgreeTo, is_reply, begins_at}
+use Words.{bus_request_of, is_agent, line_at-agree, request_at-agree, winner_at-agree, GoesOn, Run, past_of, run_to}
+use Words.{asks_for_bus, asks_for_priority, began_before, drives_ads, drives_pair, drives_request_lines, due_number}
+use Words.{has_free_winner, has_room, is_kept_back, is_spaced, may_begin, no_pair, pair_due, reply_before, reply_to}
+use Words.{request_begun, request_begun_before, starts_requests, would_begin, IsSaidOfTheWhole, KeepsOrder}
 use Rattle.fsb_signal.specs.declared.lines.Lines.{Lines}
-use Rattle.fsb_signal.specs.declared.lines.TheConstants.Lines.{ADS, BNR, BPRI}
-use Rattle.fsb_signal.specs.Samples.{line_at}
 use Rattle.fsb_trace.specs.declared.who.Who.{Who}
 use Rattle.fsb_trace.specs.declared.who.Who.TheVariants.{Priority, Symmetric}
-use Rattle.fsb_trace.specs.At.{known_pair, known_pair_at, line_back}
-use Rattle.fsb_trace.specs.Agree.{AgreeTo}
-use Rattle.fsb_trace.specs.Requests.{is_reply}
-use Rattle.fsb_trace.specs.Winner.{begins_at, bus_request_of, is_agent}
-use Rattle.fsb_trace.proofs.Interface.{line_at-agree, request_at-agree, winner_at-agree}
-use Rattle.fsb_timely.specs.Growth.{GoesOn}
-use Rattle.fsb_timely.specs.Runs.{Run, past_of, run_to}
-use Rattle.fsb_timely.specs.Starts.{asks_for_bus, asks_for_priority, began_before, drives_ads, drives_pair}
-use Rattle.fsb_timely.specs.Starts.{drives_request_lines, due_number, has_free_winner, has_room, is_kept_back, is_spaced}
-use Rattle.fsb_timely.specs.Starts.{may_begin, no_pair, pair_due, reply_before, reply_to, request_begun}
-use Rattle.fsb_timely.specs.Starts.{request_begun_before, starts_requests, would_begin}
-use Rattle.fsb_timely_laws.specs.Whole.{IsSaidOfTheWhole, KeepsOrder}
 use Rattle.fsb_timely_laws.proofs.Flights.{in_flight-same}
 use Rattle.fsb_timely_laws.proofs.Pairs.{Ordered, due-same, ordered-cut, request-due}
 use Rattle.fsb_timely_laws.proofs.SameUpTo.{SameUpTo, goes-on, held_back-on, said, same-up-to, want-on}

@@ -1,11 +1,8 @@
 -- Tests that pass together, and searches that find the same.
-use Rattle.std.proofs.Common.{ℕ, ◌<◌, ◌≤◌, ◌≡◌, Bool, true, false, Option, Some, None, refl, sym, ◌∙◌, arith, inl, inr}
-use Rattle.std.proofs.lemmas.Bool.{cases_Bool, false_from_ne_true}
-use Rattle.fsb_count.specs.Clocks.{any_where, each_where, first_where}
-use Rattle.fsb_count.specs.Options.{is_before}
-use Rattle.fsb_count.proofs.Interface.{any_where-at, any_where-found, each_where-all, each_where-at, first_where-at}
-use Rattle.fsb_count.proofs.Interface.{first_where-found, is_before-from}
-use Rattle.fsb_count.proofs.Interface.{is_before-parts}
+use Rattle.fsb_timely_laws.proofs.Words
+use Words.{ℕ, ◌<◌, ◌≤◌, ◌≡◌, Bool, true, false, Option, Some, None, refl, sym, ◌∙◌, arith, inl, inr, cases_Bool}
+use Words.{false_from_ne_true, any_where, each_where, first_where, is_before, any_where-at, any_where-found}
+use Words.{each_where-all, each_where-at, first_where-at, first_where-found, is_before-from, is_before-parts}
 
 -- two tests that pass together are the same
 pub both-same : (a b : Bool) → (a ≡ true → b ≡ true) → (b ≡ true → a ≡ true) → a ≡ b

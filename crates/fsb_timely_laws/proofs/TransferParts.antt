@@ -1,29 +1,15 @@
 -- Responses and data: what is said of a clock of the run up to it is said of the whole run.
-use Rattle.std.proofs.Common.{ℕ, ◌+◌, ◌<◌, ◌≤◌, ◌≡◌, Bool, true, false, ◌&&◌, ◌||◌, nat_eq, nat_le, Option, Some}
-use Rattle.std.proofs.Common.{None, is_some, length, refl, sym, ap, subst, ◌∙◌, inl, inr, arith}
-use Rattle.std.specs.Bool.{beq}
-use Rattle.std.specs.Option.{option_and_then, option_map, option_map_or}
-use Rattle.std.proofs.lemmas.Bool.{and_from, and_parts, leb-true}
-use Rattle.fsb_count.specs.Options.{is_at, is_some_and}
-use Rattle.fsb_count.proofs.Interface.{first_where-found, is_at-from, is_at-some}
-use Rattle.fsb_signal.specs.declared.lines.TheConstants.Lines.{DBSY, DRDY, TRDY}
-use Rattle.fsb_signal.specs.Samples.{known_word}
+use Rattle.fsb_timely_laws.proofs.Words
+use Words.{ℕ, ◌+◌, ◌<◌, ◌≤◌, ◌≡◌, Bool, true, false, ◌&&◌, ◌||◌, nat_eq, nat_le, Option, Some, None, is_some, length}
+use Words.{refl, sym, ap, subst, ◌∙◌, inl, inr, arith, beq, option_and_then, option_map, option_map_or, and_from}
+use Words.{and_parts, leb-true, is_at, is_some_and, first_where-found, is_at-from, is_at-some, DBSY, DRDY, TRDY}
+use Words.{known_word, does_move, response_clock_of, response_code_of, live_count, answer_from, ready_clock_of, takes}
+use Words.{snoop_end_of, chunk_from, is_busy_from, is_ready_from, is_response_from, response_clock_of-stays}
+use Words.{response_code_at-agree, Orderly, Run, past_of, run_to, live_choice, code_due, drives_code, drives_data_busy}
+use Words.{drives_data_ready, drives_ready, drives_responses, has_data_at, is_busy_at, is_ready_due, is_response_clock}
+use Words.{keeps_data_quiet, number_responding, settled_of, settles_to_move, IsReadyDue, Responding, chunk-bounds}
+use Words.{map-some, ready-answer, ready-stays, responding-answer, responding-stays, IsSaidOfTheWhole}
 use Rattle.fsb_trace.specs.declared.outcome.Outcome.{Outcome}
-use Rattle.fsb_trace.specs.Outcome.{does_move, response_clock_of, response_code_of}
-use Rattle.fsb_trace.specs.Requests.{live_count}
-use Rattle.fsb_trace.specs.Response.{answer_from, ready_clock_of, takes}
-use Rattle.fsb_trace.specs.Snoop.{snoop_end_of}
-use Rattle.fsb_trace.specs.Timing.{chunk_from, is_busy_from, is_ready_from, is_response_from}
-use Rattle.fsb_trace.proofs.Interface.{response_clock_of-stays, response_code_at-agree}
-use Rattle.fsb_laws.specs.Orderly.{Orderly}
-use Rattle.fsb_timely.specs.Runs.{Run, past_of, run_to}
-use Rattle.fsb_timely.specs.Snoops.{live_choice}
-use Rattle.fsb_timely.specs.Transfers.{code_due, drives_code, drives_data_busy, drives_data_ready, drives_ready}
-use Rattle.fsb_timely.specs.Transfers.{drives_responses, has_data_at, is_busy_at, is_ready_due, is_response_clock}
-use Rattle.fsb_timely.specs.Transfers.{keeps_data_quiet, number_responding, settled_of, settles_to_move}
-use Rattle.fsb_lawful.proofs.Interface.{IsReadyDue, Responding, chunk-bounds, map-some, ready-answer, ready-stays}
-use Rattle.fsb_lawful.proofs.Interface.{responding-answer, responding-stays}
-use Rattle.fsb_timely_laws.specs.Whole.{IsSaidOfTheWhole}
 use Rattle.fsb_timely_laws.proofs.Tests.{PassesIn, any-both, first-both}
 use Rattle.fsb_timely_laws.proofs.Agreed.{answer-of}
 use Rattle.fsb_timely_laws.proofs.Pairs.{Ordered, Ordered-sym, Paired, Paired-sym, choice-ended, end-there, live-there}

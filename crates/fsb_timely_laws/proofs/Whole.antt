@@ -1,16 +1,8 @@
 -- A timely run is one that is timely as a whole.
-use Rattle.std.proofs.Common.{ℕ, ◌+◌, ◌-◌, ◌<◌, ◌≡◌, ◌↔◌, [], ◌∷◌, length, refl, sym, ◌∙◌, subst, inl, inr}
-use Rattle.std.proofs.Common.{arith}
-use Rattle.std.proofs.lemmas.Bool.{cases_lt}
-use Rattle.std.proofs.lemmas.List.{take_all}
-use Rattle.fsb_laws.specs.Orderly.{Orderly}
-use Rattle.fsb_laws.proofs.Interface.{orderly-empty}
-use Rattle.fsb_trace.specs.At.{Trace}
-use Rattle.fsb_lawful.proofs.Interface.{orderly-at}
-use Rattle.fsb_timely.specs.Carried.{Carried, carries_data}
-use Rattle.fsb_timely.specs.Runs.{Run, run_to}
-use Rattle.fsb_timely.specs.Timely.{AtEachClock, Part, Timely}
-use Rattle.fsb_timely_laws.specs.Whole.{EachIsSaidOfTheWhole, IsSaidOfTheWhole, KeepsOrder, Throughout, TimelyAsAWhole}
+use Rattle.fsb_timely_laws.proofs.Words
+use Words.{ℕ, ◌+◌, ◌-◌, ◌<◌, ◌≡◌, ◌↔◌, [], ◌∷◌, length, refl, sym, ◌∙◌, subst, inl, inr, arith, cases_lt, take_all}
+use Words.{Orderly, orderly-empty, Trace, orderly-at, Carried, carries_data, Run, run_to, AtEachClock, Part, Timely}
+use Words.{EachIsSaidOfTheWhole, IsSaidOfTheWhole, KeepsOrder, Throughout, TimelyAsAWhole}
 use Rattle.fsb_timely_laws.proofs.WholeOrder.{orderly-throughout}
 use Rattle.fsb_timely_laws.proofs.DataParts.{data-said}
 use Rattle.fsb_timely_laws.proofs.LogParts.{completions-said, lock-said, parity-said}

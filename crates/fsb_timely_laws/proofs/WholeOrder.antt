@@ -1,27 +1,15 @@
 -- Where the parts hold throughout a run, asked of the whole run, its trace is orderly.
-use Rattle.std.proofs.Common.{ℕ, zero, suc, ◌+◌, ◌-◌, ◌<◌, ◌≤◌, ◌≡◌, true, false, not, ◌&&◌, nat_eq, nat_le, Option}
-use Rattle.std.proofs.Common.{Some, None, length, refl, sym, ap, subst, ◌∙◌, inl, inr, arith}
-use Rattle.std.specs.Option.{option_and_then, option_map_or}
-use Rattle.std.proofs.lemmas.Bool.{and_parts, cases_lt, eqb-true, le-leb}
-use Rattle.fsb_count.proofs.Interface.{first_where-found, nth_where-found}
-use Rattle.fsb_signal.specs.declared.lines.TheConstants.Lines.{ADS, BNR}
-use Rattle.fsb_signal.specs.Samples.{line_at}
-use Rattle.fsb_trace.specs.At.{Trace, line_back, responds_at, response_code_at}
-use Rattle.fsb_trace.specs.Outcome.{response_clock_of, response_code_of}
-use Rattle.fsb_trace.specs.Requests.{live_count}
+use Rattle.fsb_timely_laws.proofs.Words
+use Words.{ℕ, zero, suc, ◌+◌, ◌-◌, ◌<◌, ◌≤◌, ◌≡◌, true, false, not, ◌&&◌, nat_eq, nat_le, Option, Some, None, length}
+use Words.{refl, sym, ap, subst, ◌∙◌, inl, inr, arith, option_and_then, option_map_or, and_parts, cases_lt, eqb-true}
+use Words.{le-leb, first_where-found, nth_where-found, ADS, BNR, line_at, Trace, line_back, responds_at}
+use Words.{response_code_at, response_clock_of, response_code_of, live_count, Orderly, ads_before_end, may_answer-from}
+use Words.{Responding, and4, and5, answered-before, not-true, one-response, response-before, responding-answer}
+use Words.{same-beq, Past, Run, past_of, live_choice, drives_ads, drives_pair, has_free_winner, has_room, is_spaced}
+use Words.{may_begin, starts_requests, code_due, drives_code, drives_data_busy, drives_data_ready, drives_ready}
+use Words.{drives_responses, is_response_clock, keeps_data_quiet, number_responding, settled_of, Throughout}
+use Words.{holds_in_whole}
 use Rattle.fsb_trace.specs.Rules.{may_answer, next_response}
-use Rattle.fsb_laws.specs.Orderly.{Orderly}
-use Rattle.fsb_laws.proofs.Interface.{ads_before_end, may_answer-from}
-use Rattle.fsb_lawful.proofs.Interface.{Responding, and4, and5, answered-before, not-true, one-response, response-before}
-use Rattle.fsb_lawful.proofs.Interface.{responding-answer, same-beq}
-use Rattle.fsb_timely.specs.Past.{Past}
-use Rattle.fsb_timely.specs.Runs.{Run, past_of}
-use Rattle.fsb_timely.specs.Snoops.{live_choice}
-use Rattle.fsb_timely.specs.Starts.{drives_ads, drives_pair, has_free_winner, has_room, is_spaced, may_begin}
-use Rattle.fsb_timely.specs.Starts.{starts_requests}
-use Rattle.fsb_timely.specs.Transfers.{code_due, drives_code, drives_data_busy, drives_data_ready, drives_ready}
-use Rattle.fsb_timely.specs.Transfers.{drives_responses, is_response_clock, keeps_data_quiet, number_responding, settled_of}
-use Rattle.fsb_timely_laws.specs.Whole.{Throughout, holds_in_whole}
 use Rattle.fsb_timely_laws.proofs.TransferParts.{responding-parts}
 
 -- a request begins where none began one or two clocks before
