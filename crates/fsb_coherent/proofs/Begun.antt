@@ -1,13 +1,8 @@
 -- The line of the machine behind the request that begins at a clock.
-use Rattle.std.proofs.Common.{ℕ, ◌+◌, ◌≡◌, Bool, true, false, not, ◌&&◌, nat_eq, Option, Some, refl, sym, ap, ◌∙◌}
-use Rattle.std.proofs.Common.{arith}
-use Rattle.std.proofs.lemmas.Bool.{eq-eqb, true≢false}
-use Rattle.std.specs.Option.{option_map_or}
-use Rattle.fsb_count.specs.Options.{is_some_and}
-use Rattle.fsb_line.specs.Line.{MemoryLine, OpenRequest}
-use Rattle.fsb_timely.specs.Past.{Claim, Past}
-use Rattle.fsb_timely.specs.Grants.{begun_at, holds_line, is_evicted, is_exclusive, is_rival}
-use Rattle.fsb_timely.specs.Hits.{is_dirty}
+use Rattle.fsb_coherent.proofs.Words
+use Words.{ℕ, ◌+◌, ◌≡◌, Bool, true, false, not, ◌&&◌, nat_eq, Option, Some, refl, sym, ap, ◌∙◌, arith, eq-eqb}
+use Words.{true≢false, option_map_or, is_some_and, MemoryLine, OpenRequest, Claim, Past, begun_at, holds_line}
+use Words.{is_evicted, is_exclusive, is_rival, is_dirty}
 use Rattle.fsb_coherent.proofs.HitSteps.{AfterHits}
 use Rattle.fsb_coherent.proofs.TiedBetween.{IsOpenTo, TiedBetween}
 

@@ -1,18 +1,10 @@
 -- The line of the pure machine behind the snoop end of a clock: the end of the clock, and the accesses that come with
 -- it, are not counted.
 use Rattle.std.specs.Prelude.{◌≡◌, ◌+◌, ◌&&◌, ◌||◌, ◌++◌, ℕ, Bool, not, is_some, if◌then◌else◌, List, [], Some}
-use Rattle.std.specs.Option.{option_map_or}
-use Rattle.fsb_count.specs.Options.{is_some_and}
-use Rattle.fsb_line.specs.declared.link.Link.{Link}
-use Rattle.fsb_line.specs.Line.{MemoryLine, OpenRequest}
-use Rattle.fsb_line.specs.States.{is_held, is_modified, is_sole}
-use Rattle.fsb_timely.specs.Past.{Past, SnoopEnd}
-use Rattle.fsb_timely.specs.Grants.{grant_at, holds_line, is_exclusive, is_granted, is_lost, is_named_by_other}
-use Rattle.fsb_timely.specs.Grants.{snooped_at}
-use Rattle.fsb_timely.specs.Hits.{is_dirty}
-use Rattle.fsb_coherent.specs.Awaits.{awaited_by}
-use Rattle.fsb_coherent.specs.Facts.{does_respond_on}
-use Rattle.fsb_coherent.specs.Relation.{IsOpen, chain_below, deferral_below, is_moved_below, link_for}
+use Rattle.fsb_coherent.proofs.Words
+use Words.{option_map_or, is_some_and, Link, MemoryLine, OpenRequest, is_held, is_modified, is_sole, Past, SnoopEnd}
+use Words.{grant_at, holds_line, is_exclusive, is_granted, is_lost, is_named_by_other, snooped_at, is_dirty, awaited_by}
+use Words.{does_respond_on, IsOpen, chain_below, deferral_below, is_moved_below, link_for}
 
 -- agent a is dirty on the line behind the snoop end of n: by a grant there that owns, and otherwise where it was, its
 -- hits counted, did not lose the line and was not named by another

@@ -1,18 +1,9 @@
 -- The request that is cancelled at a clock.
-use Rattle.std.proofs.Common.{ℕ, ◌+◌, ◌≡◌, Bool, true, false, if◌then◌else◌, nat_eq, [], ◌∷◌, Option, Some, None}
-use Rattle.std.proofs.Common.{refl, sym, ap, ◌∙◌, inl, inr, arith}
-use Rattle.std.proofs.lemmas.Bool.{cases_Bool, eq-eqb, eqb-true, ne_eqb, or_from, or_parts, true≢false}
-use Rattle.std.specs.Option.{option_and_then, option_map_or}
-use Rattle.fsb_count.specs.Options.{is_at, is_some_and}
-use Rattle.fsb_line.specs.Events.{May, after, effect}
-use Rattle.fsb_line.specs.Events.Event.{IsCancelled}
-use Rattle.fsb_line.specs.Line.{MemoryLine, OpenRequest, put}
-use Rattle.fsb_timely.specs.Past.{Claim, Past}
-use Rattle.fsb_timely.specs.Grants.{begun_at}
-use Rattle.fsb_coherent.specs.Awaits.{cancelled_in}
-use Rattle.fsb_coherent.specs.Facts.{BeginsInOrder}
-use Rattle.fsb_coherent.specs.LineEvents.{cancel_events, cancels_on}
-use Rattle.fsb_coherent.specs.Relation.{is_cancelled_below}
+use Rattle.fsb_coherent.proofs.Words
+use Words.{ℕ, ◌+◌, ◌≡◌, Bool, true, false, if◌then◌else◌, nat_eq, [], ◌∷◌, Option, Some, None, refl, sym, ap, ◌∙◌, inl}
+use Words.{inr, arith, cases_Bool, eq-eqb, eqb-true, ne_eqb, or_from, or_parts, true≢false, option_and_then}
+use Words.{option_map_or, is_at, is_some_and, May, after, effect, IsCancelled, MemoryLine, OpenRequest, put, Claim}
+use Words.{Past, begun_at, cancelled_in, BeginsInOrder, cancel_events, cancels_on, is_cancelled_below}
 use Rattle.fsb_coherent.proofs.Begun.{WithBegun, agent_of, later, line_of}
 use Rattle.fsb_coherent.proofs.Steps.{cancelled-more}
 use Rattle.fsb_coherent.proofs.TiedBetween.{Goes, IsOpenTo, goes-same, open-to, put-cases, tied-trimmed}

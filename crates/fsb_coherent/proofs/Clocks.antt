@@ -1,13 +1,8 @@
 -- Clocks that keep the tie, one after the other.
-use Rattle.std.proofs.Common.{ℕ, zero, suc, ◌+◌, ◌<◌, ◌≡◌, List, [], ◌∷◌, ◌++◌, refl, sym, subst, arith, add-one}
-use Rattle.fsb_line.specs.Events.{Event, after}
-use Rattle.fsb_line.specs.Line.{Bytes, MemoryLine, unheld}
-use Rattle.fsb_line.specs.LineRuns.{MayRun, run}
-use Rattle.fsb_line.proofs.Interface.{ordered_run, ordered_unheld, valued_run, valued_unheld}
-use Rattle.fsb_timely.specs.Past.{Past}
-use Rattle.fsb_coherent.specs.LineEvents.{events_at, events_below}
-use Rattle.fsb_coherent.specs.Relation.{Tied}
-use Rattle.fsb_coherent.specs.KeepsTie.{IsTiedTo, KeepsTie}
+use Rattle.fsb_coherent.proofs.Words
+use Words.{ℕ, zero, suc, ◌+◌, ◌<◌, ◌≡◌, List, [], ◌∷◌, ◌++◌, refl, sym, subst, arith, add-one, Event, after, Bytes}
+use Words.{MemoryLine, unheld, MayRun, run, ordered_run, ordered_unheld, valued_run, valued_unheld, Past, events_at}
+use Words.{events_below, Tied, IsTiedTo, KeepsTie}
 use Rattle.fsb_coherent.proofs.Beginning.{tied-start}
 
 -- two lists of events, one after the other

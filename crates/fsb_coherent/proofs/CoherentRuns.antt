@@ -1,10 +1,7 @@
 -- What coherence says in the words of a run.
-use Rattle.std.proofs.Common.{ℕ, ◌≡◌, ◌≢◌, true, false, Some, sym, ◌∙◌}
-use Rattle.fsb_line.specs.Line.{LineDeferral, MemoryLine}
-use Rattle.fsb_timely.specs.Past.{Past}
-use Rattle.fsb_timely.specs.Grants.{holds_line, is_exclusive}
-use Rattle.fsb_coherent.specs.KeepsTie.{IsTiedTo}
-use Rattle.fsb_coherent.specs.Relation.{deferral_below}
+use Rattle.fsb_coherent.proofs.Words
+use Words.{ℕ, ◌≡◌, ◌≢◌, true, false, Some, sym, ◌∙◌, LineDeferral, MemoryLine, Past, holds_line, is_exclusive, IsTiedTo}
+use Words.{deferral_below}
 
 -- who has the line for itself is its only holder
 pub only_holder : (p : Past) (line n : ℕ) (x : MemoryLine) → IsTiedTo p line n x → (a b : ℕ)

@@ -1,21 +1,12 @@
 -- Who is dirty on a line one clock on: who was so behind the snoop end, and who stored into it with the end of another
 -- line.
-use Rattle.std.proofs.Common.{ℕ, ◌+◌, ◌<◌, ◌≡◌, Bool, true, false, not, ◌&&◌, ◌||◌, nat_eq, nat_lt, slice_get, Some}
-use Rattle.std.proofs.Common.{sym, ap, subst, ◌∙◌, inl, inr, arith}
-use Rattle.std.proofs.lemmas.Bool.{and_from, and_parts, both_ways, cases_Bool, eq-eqb, eqb-true, ltb-true, not-true}
-use Rattle.std.proofs.lemmas.Bool.{not_from_false, or_cases, or_left, or_right}
-use Rattle.std.specs.List.{list_all, list_any}
-use Rattle.fsb_count.specs.Options.{is_some_and}
-use Rattle.fsb_count.proofs.Interface.{nat_lt-more}
-use Rattle.fsb_access.specs.declared.log.Done.{Done}
-use Rattle.fsb_timely.specs.Past.{Grant, Past}
-use Rattle.fsb_timely.specs.Grants.{grant_at, has_arrived, holds_line, is_ended, is_exclusive, is_granted, is_lost}
-use Rattle.fsb_timely.specs.Grants.{is_named_by_other, is_sole_grant, latest_grant}
-use Rattle.fsb_timely.specs.Hits.{is_counted, is_dirty, is_hit, is_stored_since}
-use Rattle.fsb_timely.specs.Scripts.{is_load}
-use Rattle.fsb_coherent.specs.Facts.{ClockFacts, is_served_other}
-use Rattle.fsb_coherent.specs.LineEvents.{entries_on, is_brought_to, is_of_other_line}
-use Rattle.fsb_coherent.specs.Relation.{is_dirty_below, is_stored_below}
+use Rattle.fsb_coherent.proofs.Words
+use Words.{ℕ, ◌+◌, ◌<◌, ◌≡◌, Bool, true, false, not, ◌&&◌, ◌||◌, nat_eq, nat_lt, slice_get, Some, sym, ap, subst, ◌∙◌}
+use Words.{inl, inr, arith, and_from, and_parts, both_ways, cases_Bool, eq-eqb, eqb-true, ltb-true, not-true}
+use Words.{not_from_false, or_cases, or_left, or_right, list_all, list_any, is_some_and, nat_lt-more, Done, Grant, Past}
+use Words.{grant_at, has_arrived, holds_line, is_ended, is_exclusive, is_granted, is_lost, is_named_by_other}
+use Words.{is_sole_grant, latest_grant, is_counted, is_dirty, is_hit, is_stored_since, is_load, ClockFacts}
+use Words.{is_served_other, entries_on, is_brought_to, is_of_other_line, is_dirty_below, is_stored_below}
 use Rattle.fsb_coherent.proofs.Behind.{is_dirty_behind}
 use Rattle.fsb_coherent.proofs.DirtyParts.{IsDirtyBy, IsStoredAt, behind-granted, behind-kept, dirty-from-parts}
 use Rattle.fsb_coherent.proofs.DirtyParts.{dirty-parts, ended-later, exclusive-granted, exclusive-kept, granted-now}

@@ -1,25 +1,13 @@
 -- What makes an agent dirty on a line: its latest grant, and its stores since.
-use Rattle.std.proofs.Common.{ℕ, ◌+◌, ◌≤◌, ◌≡◌, ◌==◌, Bool, true, false, not, ◌&&◌, ◌||◌, nat_eq, nat_lt, List, []}
-use Rattle.std.proofs.Common.{◌∷◌, slice_get, Option, Some, None, refl, sym, ap, ◌∙◌, arith}
-use Rattle.std.proofs.lemmas.Bool.{and_parts, both_ways, eq-eqb, eqb-true, false_from_ne_true, or_from}
-use Rattle.std.specs.List.{filter, list_any}
-use Rattle.fsb_count.specs.Options.{is_some_and}
-use Rattle.fsb_count.proofs.Interface.{any_where-at, any_where-found, nat_lt-more}
-use Rattle.fsb_access.specs.declared.log.Done.{Done}
-use Rattle.fsb_access.specs.Access.{accessed_line}
-use Rattle.fsb_line.specs.declared.link.Link.{Link}
-use Rattle.fsb_line.specs.Links.{is_linked}
-use Rattle.fsb_timely.specs.Past.{Claim, Grant, Past, SnoopEnd}
-use Rattle.fsb_timely.specs.Grants.{ended_requests, grant_at, holds_line, is_end_at, is_ended, is_exclusive}
-use Rattle.fsb_timely.specs.Grants.{is_granted, is_lost, is_named_by_other, is_ready, is_sole_grant, latest_grant}
-use Rattle.fsb_timely.specs.Grants.{snooped_at}
-use Rattle.fsb_timely.specs.Hits.{is_counted, is_dirty, is_hit, is_store_on, is_stored_since}
-use Rattle.fsb_timely.specs.Scripts.{is_load}
-use Rattle.fsb_timely.proofs.Interface.{is_exclusive-more, latest_grant-more}
-use Rattle.fsb_coherent.specs.Awaits.{Awaited, awaited_at}
-use Rattle.fsb_coherent.specs.Facts.{ClockFacts, SettlesInOrder}
-use Rattle.fsb_coherent.specs.LineEvents.{entries_on, is_awaited_for, is_of_other_line}
-use Rattle.fsb_coherent.specs.Relation.{chain_below, is_stored_below}
+use Rattle.fsb_coherent.proofs.Words
+use Words.{ℕ, ◌+◌, ◌≤◌, ◌≡◌, ◌==◌, Bool, true, false, not, ◌&&◌, ◌||◌, nat_eq, nat_lt, List, [], ◌∷◌, slice_get, Option}
+use Words.{Some, None, refl, sym, ap, ◌∙◌, arith, and_parts, both_ways, eq-eqb, eqb-true, false_from_ne_true, or_from}
+use Words.{filter, list_any, is_some_and, any_where-at, any_where-found, nat_lt-more, Done, accessed_line, Link}
+use Words.{is_linked, Claim, Grant, Past, SnoopEnd, ended_requests, grant_at, holds_line, is_end_at, is_ended}
+use Words.{is_exclusive, is_granted, is_lost, is_named_by_other, is_ready, is_sole_grant, latest_grant, snooped_at}
+use Words.{is_counted, is_dirty, is_hit, is_store_on, is_stored_since, is_load, is_exclusive-more, latest_grant-more}
+use Words.{Awaited, awaited_at, ClockFacts, SettlesInOrder, entries_on, is_awaited_for, is_of_other_line, chain_below}
+use Words.{is_stored_below}
 use Rattle.fsb_coherent.proofs.Behind.{is_dirty_behind}
 use Rattle.fsb_coherent.proofs.Entries.{any-from, any-kept, any-there}
 use Rattle.fsb_coherent.proofs.OtherSteps.{is_store_by}

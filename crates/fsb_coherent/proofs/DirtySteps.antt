@@ -1,12 +1,9 @@
 -- On which lines an agent is dirty, one clock further.
-use Rattle.std.proofs.Common.{ℕ, ◌+◌, ◌≡◌, Bool, true, false, not, ◌&&◌, ◌||◌, if◌then◌else◌, Option, ap, ◌∙◌, arith}
-use Rattle.fsb_count.specs.Options.{is_some_and}
-use Rattle.fsb_timely.specs.Past.{Grant, Past}
-use Rattle.fsb_timely.specs.Grants.{grant_at, is_exclusive, is_granted, is_lost, is_named_by_other, is_sole_grant}
-use Rattle.fsb_timely.specs.Grants.{latest_grant}
-use Rattle.fsb_timely.specs.Hits.{is_counted, is_dirty, is_hit, is_stored_since}
-use Rattle.fsb_timely.proofs.Interface.{is_exclusive-more, latest_grant-more}
-use Rattle.fsb_coherent.specs.Relation.{is_dirty_below, is_dirty_through, is_dirtying, is_stored_below}
+use Rattle.fsb_coherent.proofs.Words
+use Words.{ℕ, ◌+◌, ◌≡◌, Bool, true, false, not, ◌&&◌, ◌||◌, if◌then◌else◌, Option, ap, ◌∙◌, arith, is_some_and, Grant}
+use Words.{Past, grant_at, is_exclusive, is_granted, is_lost, is_named_by_other, is_sole_grant, latest_grant}
+use Words.{is_counted, is_dirty, is_hit, is_stored_since, is_exclusive-more, latest_grant-more, is_dirty_below}
+use Words.{is_dirty_through, is_dirtying, is_stored_below}
 
 stored-hit : (p : Past) (a line n q : ℕ) → is_hit p a n ≡ true
     → is_stored_since p a line n q ≡ is_stored_below p a line (n + 1) q

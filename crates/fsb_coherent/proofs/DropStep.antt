@@ -1,18 +1,9 @@
 -- An agent that begins a request drops the other line of the cache set that it has.
-use Rattle.std.proofs.Common.{ℕ, ◌+◌, ◌≡◌, Bool, true, false, not, ◌&&◌, if◌then◌else◌, nat_eq, [], ◌∷◌, Some, sym}
-use Rattle.std.proofs.Common.{ap, ◌∙◌, inl, inr, arith}
-use Rattle.std.proofs.lemmas.Bool.{cases_Bool}
-use Rattle.fsb_count.specs.Options.{is_some_and}
-use Rattle.fsb_line.specs.declared.state.Mesi.TheVariants.{Invalid}
-use Rattle.fsb_line.specs.Events.{May, after, effect}
-use Rattle.fsb_line.specs.Events.Event.{Drops}
-use Rattle.fsb_line.specs.Line.{MemoryLine, put}
-use Rattle.fsb_line.specs.States.{is_held, is_modified, is_sole}
-use Rattle.fsb_timely.specs.Past.{Claim, Past}
-use Rattle.fsb_timely.specs.Grants.{begun_at, holds_line, is_evicted, is_exclusive, is_rival}
-use Rattle.fsb_timely.specs.Hits.{is_dirty}
-use Rattle.fsb_coherent.specs.Facts.{BeginsInOrder}
-use Rattle.fsb_coherent.specs.LineEvents.{begin_events}
+use Rattle.fsb_coherent.proofs.Words
+use Words.{ℕ, ◌+◌, ◌≡◌, Bool, true, false, not, ◌&&◌, if◌then◌else◌, nat_eq, [], ◌∷◌, Some, sym, ap, ◌∙◌, inl, inr}
+use Words.{arith, cases_Bool, is_some_and, Invalid, May, after, effect, Drops, MemoryLine, put, is_held, is_modified}
+use Words.{is_sole, Claim, Past, begun_at, holds_line, is_evicted, is_exclusive, is_rival, is_dirty, BeginsInOrder}
+use Words.{begin_events}
 use Rattle.fsb_coherent.proofs.HitSteps.{AfterHits}
 use Rattle.fsb_coherent.proofs.TiedBetween.{Goes, goes-same, put-cases, tied-trimmed}
 use Rattle.fsb_coherent.proofs.Begun.{BeginsIt, WithBegun, earlier, evicted-by, holds_left, later, other-line}

@@ -1,24 +1,12 @@
 -- The end of a clock: its event may happen, and the line of the machine behind it is that of the run, but for the
 -- accesses that come with the end of another line.
-use Rattle.std.proofs.Common.{ℕ, ◌+◌, ◌≡◌, true, false, not, ◌&&◌, ◌||◌, ◌++◌, if◌then◌else◌, nat_eq, is_some, List}
-use Rattle.std.proofs.Common.{[], ◌∷◌, Option, Some, None, refl, sym, ap, subst, ◌∙◌, inl, inr, arith}
-use Rattle.std.proofs.lemmas.Bool.{and_right, cases_Bool}
-use Rattle.std.specs.Option.{option_map_or}
-use Rattle.fsb_count.specs.Options.{is_some_and}
-use Rattle.fsb_line.specs.declared.link.Link.{Link}
-use Rattle.fsb_line.specs.Events.{Event, HasArrived, May, after, arrived, effect, oldest_ended}
-use Rattle.fsb_line.specs.Events.Event.{Ends}
-use Rattle.fsb_line.specs.Line.{Bytes, MemoryLine, brought, trimmed}
-use Rattle.fsb_line.specs.Links.{carries}
-use Rattle.fsb_line.specs.LineRuns.{MayRun, run}
-use Rattle.fsb_line.specs.States.{is_modified}
-use Rattle.fsb_timely.specs.Past.{Past, SnoopEnd}
-use Rattle.fsb_timely.specs.Grants.{ended_requests, snooped_at}
-use Rattle.fsb_coherent.specs.Awaits.{Awaited, awaited_at}
-use Rattle.fsb_coherent.specs.Facts.{EndsInOrder, does_end_on, does_respond_on}
-use Rattle.fsb_coherent.specs.LineEvents.{awaited_events, awaiting_stores, changes_of, end_events, ends_on}
-use Rattle.fsb_coherent.specs.LineEvents.{events_of_ends}
-use Rattle.fsb_coherent.specs.Relation.{chain_below, is_moved_below, link_left, links_left}
+use Rattle.fsb_coherent.proofs.Words
+use Words.{ℕ, ◌+◌, ◌≡◌, true, false, not, ◌&&◌, ◌||◌, ◌++◌, if◌then◌else◌, nat_eq, is_some, List, [], ◌∷◌, Option, Some}
+use Words.{None, refl, sym, ap, subst, ◌∙◌, inl, inr, arith, and_right, cases_Bool, option_map_or, is_some_and, Link}
+use Words.{Event, HasArrived, May, after, arrived, effect, oldest_ended, Ends, Bytes, MemoryLine, brought, trimmed}
+use Words.{carries, MayRun, run, is_modified, Past, SnoopEnd, ended_requests, snooped_at, Awaited, awaited_at}
+use Words.{EndsInOrder, does_end_on, does_respond_on, awaited_events, awaiting_stores, changes_of, end_events, ends_on}
+use Words.{events_of_ends, chain_below, is_moved_below, link_left, links_left}
 use Rattle.fsb_coherent.proofs.Behind.{TiedBehind, TiedButDirty, is_dirty_behind, links_new, links_of}
 use Rattle.fsb_coherent.proofs.Steps.{chain-more}
 

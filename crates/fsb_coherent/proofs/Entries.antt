@@ -1,8 +1,7 @@
 -- Tests of the entries of a list.
-use Rattle.std.proofs.Common.{ℕ, zero, suc, ◌≡◌, Bool, true, not, ◌&&◌, ◌||◌, List, [], ◌∷◌, slice_get, Some, refl}
-use Rattle.std.proofs.Common.{inl, inr, arith}
-use Rattle.std.proofs.lemmas.Bool.{and_parts, or_cases, or_right}
-use Rattle.std.specs.List.{filter, list_all, list_any}
+use Rattle.fsb_coherent.proofs.Words
+use Words.{ℕ, zero, suc, ◌≡◌, Bool, true, not, ◌&&◌, ◌||◌, List, [], ◌∷◌, slice_get, Some, refl, inl, inr, arith}
+use Words.{and_parts, or_cases, or_right, filter, list_all, list_any}
 
 -- an entry of the list passes the test
 pub record IsThere {X : Type 0} (test : X → Bool) (xs : List X) : Type 0 where

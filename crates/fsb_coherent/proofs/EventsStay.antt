@@ -1,9 +1,7 @@
 -- The events of a line stay when the run goes on.
-use Rattle.std.proofs.Common.{ℕ, zero, suc, ◌<◌, ◌≤◌, ◌≡◌, length, ap, refl, arith}
-use Rattle.fsb_timely.specs.Runs.{Run, past_of}
-use Rattle.fsb_timely.specs.Growth.{IsNext, IsWhole}
-use Rattle.fsb_timely.proofs.Interface.{past-same}
-use Rattle.fsb_coherent.specs.LineEvents.{events_of_clock, events_at, events_below}
+use Rattle.fsb_coherent.proofs.Words
+use Words.{ℕ, zero, suc, ◌<◌, ◌≤◌, ◌≡◌, length, ap, refl, arith, Run, past_of, IsNext, IsWhole, past-same}
+use Words.{events_of_clock, events_at, events_below}
 
 pub events_at-same : (r s : Run) (line c : ℕ) → IsNext r s → IsWhole r → c < length r.trace
     → events_at (past_of s) line c ≡ events_at (past_of r) line c

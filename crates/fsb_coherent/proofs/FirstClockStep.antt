@@ -1,22 +1,11 @@
 -- The request that begins at a clock: it is for the line, or its agent drops the line for another one of the cache set.
-use Rattle.std.proofs.Common.{ℕ, ◌+◌, ◌≡◌, true, false, not, nat_eq, [], ◌∷◌, Option, Some, None, is_some, refl, sym}
-use Rattle.std.proofs.Common.{ap, subst, ◌∙◌, inl, inr, arith}
-use Rattle.std.proofs.lemmas.Bool.{and_right, cases_Bool, eqb-true}
-use Rattle.std.specs.Option.{option_map_or}
-use Rattle.fsb_count.specs.Options.{is_some_and}
-use Rattle.fsb_line.specs.declared.purpose.Purpose.{Purpose}
+use Rattle.fsb_coherent.proofs.Words
+use Words.{ℕ, ◌+◌, ◌≡◌, true, false, not, nat_eq, [], ◌∷◌, Option, Some, None, is_some, refl, sym, ap, subst, ◌∙◌, inl}
+use Words.{inr, arith, and_right, cases_Bool, eqb-true, option_map_or, is_some_and, Purpose, May, MayBegin, after}
+use Words.{effect, Begins, MemoryLine, OpenRequest, put, is_linked, is_held_off, suits, Claim, Past, begun_at}
+use Words.{holds_line, is_evicted, is_exclusive, is_rival, set_of, purpose_wanted, BeginsInOrder, IsBegunRightly}
+use Words.{suits_holder, begin_events, begins_on, IsOpen}
 use Rattle.fsb_line.specs.declared.purpose.Purpose.TheVariants as purposes
-use Rattle.fsb_line.specs.Events.{May, MayBegin, after, effect}
-use Rattle.fsb_line.specs.Events.Event.{Begins}
-use Rattle.fsb_line.specs.Line.{MemoryLine, OpenRequest, put}
-use Rattle.fsb_line.specs.Links.{is_linked}
-use Rattle.fsb_line.specs.States.{is_held_off, suits}
-use Rattle.fsb_timely.specs.Past.{Claim, Past}
-use Rattle.fsb_timely.specs.Grants.{begun_at, holds_line, is_evicted, is_exclusive, is_rival, set_of}
-use Rattle.fsb_coherent.specs.Awaits.{purpose_wanted}
-use Rattle.fsb_coherent.specs.Facts.{BeginsInOrder, IsBegunRightly, suits_holder}
-use Rattle.fsb_coherent.specs.LineEvents.{begin_events, begins_on}
-use Rattle.fsb_coherent.specs.Relation.{IsOpen}
 use Rattle.fsb_coherent.proofs.HitSteps.{AfterHits}
 use Rattle.fsb_coherent.proofs.TiedBetween.{Goes, IsOpenTo, goes-same, open-from, put-cases, tied-trimmed}
 use Rattle.fsb_coherent.proofs.WordsTo.{GoesOnAt, purpose-to}

@@ -1,14 +1,7 @@
 -- The events of a clock before its snoop end may happen to the line of the machine, and keep it that of the run.
-use Rattle.std.proofs.Common.{ℕ, ◌+◌, ◌++◌, List, arith}
-use Rattle.fsb_line.specs.Coherence.{Valued}
-use Rattle.fsb_line.specs.Events.{Event}
-use Rattle.fsb_line.specs.Line.{MemoryLine, OpenRequest}
-use Rattle.fsb_line.specs.LineRuns.{MayRun, run}
-use Rattle.fsb_timely.specs.Past.{Past}
-use Rattle.fsb_coherent.specs.Facts.{ClockFacts}
-use Rattle.fsb_coherent.specs.LineEvents.{begins_on, cancels_on, hits_on, responds_on}
-use Rattle.fsb_coherent.specs.Relation.{Tied}
-use Rattle.fsb_coherent.specs.BeforeSnoop.{IsOpenThrough, TiedThrough, events_before_snoop}
+use Rattle.fsb_coherent.proofs.Words
+use Words.{ℕ, ◌+◌, ◌++◌, List, arith, Valued, Event, MemoryLine, OpenRequest, MayRun, run, Past, ClockFacts, begins_on}
+use Words.{cancels_on, hits_on, responds_on, Tied, IsOpenThrough, TiedThrough, events_before_snoop}
 use Rattle.fsb_coherent.proofs.Begun.{WithBegun}
 use Rattle.fsb_coherent.proofs.CancelStep.{cancels-step}
 use Rattle.fsb_coherent.proofs.FirstClockStep.{begins-step}

@@ -1,14 +1,7 @@
 -- From the snoop end of a clock on: its events may happen, and the line of the machine after them is that of the run.
-use Rattle.std.proofs.Common.{ℕ, ◌+◌, ◌≡◌, ◌++◌, sym, subst, ◌∙◌, ap, arith}
-use Rattle.fsb_line.specs.Coherence.{Ordered}
-use Rattle.fsb_line.specs.Line.{MemoryLine}
-use Rattle.fsb_line.specs.LineRuns.{MayRun, run}
-use Rattle.fsb_line.specs.States.{is_modified}
-use Rattle.fsb_timely.specs.Past.{Past}
-use Rattle.fsb_coherent.specs.Facts.{ClockFacts}
-use Rattle.fsb_coherent.specs.LineEvents.{ends_on, others_on, snoops_on}
-use Rattle.fsb_coherent.specs.Relation.{Tied, is_dirty_below}
-use Rattle.fsb_coherent.specs.BeforeSnoop.{TiedThrough, events_from_snoop}
+use Rattle.fsb_coherent.proofs.Words
+use Words.{ℕ, ◌+◌, ◌≡◌, ◌++◌, sym, subst, ◌∙◌, ap, arith, Ordered, MemoryLine, MayRun, run, is_modified, Past}
+use Words.{ClockFacts, ends_on, others_on, snoops_on, Tied, is_dirty_below, TiedThrough, events_from_snoop}
 use Rattle.fsb_coherent.proofs.Behind.{TiedButDirty}
 use Rattle.fsb_coherent.proofs.Clocks.{MayRun-append, run-append}
 use Rattle.fsb_coherent.proofs.DirtyAfter.{dirty-after, others-served}

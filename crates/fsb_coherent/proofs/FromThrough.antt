@@ -1,15 +1,9 @@
 -- What the run has of a line behind a snoop end, by what the machine has of it before.
-use Rattle.std.proofs.Common.{ℕ, ◌+◌, ◌≡◌, false, not, ◌&&◌, ◌||◌, if◌then◌else◌, arith}
-use Rattle.fsb_count.specs.Options.{is_some_and}
-use Rattle.fsb_line.specs.Line.{MemoryLine, OpenRequest}
-use Rattle.fsb_line.specs.States.{is_held, is_modified, is_sole}
-use Rattle.fsb_timely.specs.Past.{Past}
-use Rattle.fsb_timely.specs.Grants.{grant_at, holds_line, is_exclusive, is_granted, is_lost, is_named_by_other}
-use Rattle.fsb_timely.specs.Grants.{is_sole_grant, is_taken_away, is_written_back, snooped_at}
-use Rattle.fsb_timely.specs.Moments.{is_snoop_of}
-use Rattle.fsb_timely.proofs.Interface.{holds_line-more, is_exclusive-more}
-use Rattle.fsb_coherent.specs.Relation.{IsOpen}
-use Rattle.fsb_coherent.specs.BeforeSnoop.{IsOpenThrough, TiedThrough}
+use Rattle.fsb_coherent.proofs.Words
+use Words.{ℕ, ◌+◌, ◌≡◌, false, not, ◌&&◌, ◌||◌, if◌then◌else◌, arith, is_some_and, MemoryLine, OpenRequest, is_held}
+use Words.{is_modified, is_sole, Past, grant_at, holds_line, is_exclusive, is_granted, is_lost, is_named_by_other}
+use Words.{is_sole_grant, is_taken_away, is_written_back, snooped_at, is_snoop_of, holds_line-more, is_exclusive-more}
+use Words.{IsOpen, IsOpenThrough, TiedThrough}
 use Rattle.fsb_coherent.proofs.Behind.{is_dirty_behind}
 use Rattle.fsb_coherent.proofs.Steps.{snooped-more}
 

@@ -1,23 +1,10 @@
 -- The hits of a clock, one after the other.
-use Rattle.std.proofs.Common.{ℕ, ◌≡◌, Bool, true, false, not, ◌&&◌, ◌||◌, if◌then◌else◌, nat_eq, List, [], ◌∷◌, ◌++◌}
-use Rattle.std.proofs.Common.{map, sym, ap, ◌∙◌, inl, inr, arith}
-use Rattle.std.proofs.Math.Bool.{and-true}
-use Rattle.std.proofs.lemmas.Bool.{and_parts, cases_Bool}
-use Rattle.std.specs.List.{filter, list_all, list_any}
-use Rattle.fsb_access.specs.declared.log.Done.{Done}
-use Rattle.fsb_line.specs.declared.state.Mesi.TheVariants.{Modified}
-use Rattle.fsb_line.specs.Events.{Event, IsReady, May, after, effect}
-use Rattle.fsb_line.specs.Events.Event.{Loads, Stores}
-use Rattle.fsb_line.specs.Line.{Bytes, MemoryLine, put}
-use Rattle.fsb_line.specs.Links.{is_linked}
-use Rattle.fsb_line.specs.States.{is_held, is_modified, is_sole}
-use Rattle.fsb_timely.specs.Past.{Past}
-use Rattle.fsb_timely.specs.Grants.{holds_line, is_exclusive, is_ready}
-use Rattle.fsb_timely.specs.Hits.{is_dirty, is_hit}
-use Rattle.fsb_timely.specs.Scripts.{is_load}
-use Rattle.fsb_coherent.specs.Facts.{AccessesServed, is_served_hit}
-use Rattle.fsb_coherent.specs.LineEvents.{access_event, change_of, entries_on, hits_on}
-use Rattle.fsb_coherent.specs.Relation.{is_dirty_below}
+use Rattle.fsb_coherent.proofs.Words
+use Words.{ℕ, ◌≡◌, Bool, true, false, not, ◌&&◌, ◌||◌, if◌then◌else◌, nat_eq, List, [], ◌∷◌, ◌++◌, map, sym, ap, ◌∙◌}
+use Words.{inl, inr, arith, and-true, and_parts, cases_Bool, filter, list_all, list_any, Done, Modified, Event, IsReady}
+use Words.{May, after, effect, Loads, Stores, Bytes, MemoryLine, put, is_linked, is_held, is_modified, is_sole, Past}
+use Words.{holds_line, is_exclusive, is_ready, is_dirty, is_hit, is_load, AccessesServed, is_served_hit, access_event}
+use Words.{change_of, entries_on, hits_on, is_dirty_below}
 use Rattle.fsb_coherent.proofs.HitStores.{by-store, does_store, dirty-with-hits, served-parts}
 use Rattle.fsb_coherent.proofs.ResponseStep.{AfterResponse}
 use Rattle.fsb_coherent.proofs.TiedBetween.{Goes, TiedBetween, goes-on, goes-same, put-cases, tied-dirty}

@@ -1,20 +1,10 @@
 -- The stores of the hits of a clock make their agents dirty.
-use Rattle.std.proofs.Common.{ℕ, ◌+◌, ◌≡◌, Bool, true, false, not, ◌&&◌, ◌||◌, nat_eq, nat_lt, List, [], ◌∷◌, Option}
-use Rattle.std.proofs.Common.{refl, sym, ap, ◌∙◌, inl, inr, arith}
-use Rattle.std.proofs.Math.Bool.{and-false}
-use Rattle.std.proofs.lemmas.Bool.{and_parts, cases_Bool, eqb-true}
-use Rattle.std.specs.List.{filter, list_all, list_any}
-use Rattle.fsb_count.specs.Options.{is_some_and}
-use Rattle.fsb_count.proofs.Interface.{nat_lt-more}
-use Rattle.fsb_access.specs.declared.log.Done.{Done}
-use Rattle.fsb_access.specs.Access.{accessed_line}
-use Rattle.fsb_timely.specs.Past.{Grant, Past}
-use Rattle.fsb_timely.specs.Grants.{has_arrived, holds_line, is_ended, is_exclusive, is_ready, latest_grant}
-use Rattle.fsb_timely.specs.Hits.{is_dirty, is_hit, is_store_on}
-use Rattle.fsb_timely.specs.Scripts.{is_load}
-use Rattle.fsb_coherent.specs.Facts.{is_served_hit}
-use Rattle.fsb_coherent.specs.LineEvents.{entries_on}
-use Rattle.fsb_coherent.specs.Relation.{is_dirty_below, is_dirty_through, is_stored_below}
+use Rattle.fsb_coherent.proofs.Words
+use Words.{ℕ, ◌+◌, ◌≡◌, Bool, true, false, not, ◌&&◌, ◌||◌, nat_eq, nat_lt, List, [], ◌∷◌, Option, refl, sym, ap, ◌∙◌}
+use Words.{inl, inr, arith, and-false, and_parts, cases_Bool, eqb-true, filter, list_all, list_any, is_some_and}
+use Words.{nat_lt-more, Done, accessed_line, Grant, Past, has_arrived, holds_line, is_ended, is_exclusive, is_ready}
+use Words.{latest_grant, is_dirty, is_hit, is_store_on, is_load, is_served_hit, entries_on, is_dirty_below}
+use Words.{is_dirty_through, is_stored_below}
 use Rattle.fsb_coherent.proofs.DirtySteps.{dirty-hit, dirty-none}
 
 -- the entry is a store of a hit of agent a at n

@@ -1,16 +1,7 @@
 -- A clock of which the facts are known keeps the tie of the line.
-use Rattle.std.proofs.Common.{ℕ, ◌+◌, ◌++◌, List, sym, subst}
-use Rattle.fsb_line.specs.Coherence.{Ordered, Valued}
-use Rattle.fsb_line.specs.Events.{Event}
-use Rattle.fsb_line.specs.Line.{MemoryLine}
-use Rattle.fsb_line.specs.LineRuns.{MayRun, run}
-use Rattle.fsb_line.proofs.Interface.{ordered_run}
-use Rattle.fsb_timely.specs.Past.{Past}
-use Rattle.fsb_coherent.specs.Facts.{ClockFacts}
-use Rattle.fsb_coherent.specs.KeepsTie.{KeepsTie}
-use Rattle.fsb_coherent.specs.LineEvents.{events_at}
-use Rattle.fsb_coherent.specs.Relation.{Tied}
-use Rattle.fsb_coherent.specs.BeforeSnoop.{events_before_snoop, events_from_snoop}
+use Rattle.fsb_coherent.proofs.Words
+use Words.{ℕ, ◌+◌, ◌++◌, List, sym, subst, Ordered, Valued, Event, MemoryLine, MayRun, run, ordered_run, Past}
+use Words.{ClockFacts, KeepsTie, events_at, Tied, events_before_snoop, events_from_snoop}
 use Rattle.fsb_coherent.proofs.Clocks.{MayRun-append, run-append}
 use Rattle.fsb_coherent.proofs.FirstEvents.{first-events}
 use Rattle.fsb_coherent.proofs.FromSnoop.{from-snoop}

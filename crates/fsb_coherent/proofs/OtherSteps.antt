@@ -1,23 +1,9 @@
 -- The accesses to a line that come with the end of another line may happen, and dirty it for whoever stores.
-use Rattle.std.proofs.Common.{ℕ, ◌+◌, ◌≡◌, Bool, true, false, not, ◌&&◌, ◌||◌, nat_eq, List, [], ◌∷◌, map, refl, sym}
-use Rattle.std.proofs.Common.{ap, subst, ◌∙◌, inl, inr, arith}
-use Rattle.std.proofs.Math.Bool.{or_assoc}
-use Rattle.std.proofs.lemmas.Bool.{and_parts, cases_Bool}
-use Rattle.std.specs.List.{list_all, list_any}
-use Rattle.fsb_access.specs.declared.log.Done.{Done}
-use Rattle.fsb_line.specs.declared.state.Mesi.{Mesi}
-use Rattle.fsb_line.specs.declared.state.Mesi.TheVariants.{Modified}
-use Rattle.fsb_line.specs.Events.{Event, IsReady, May, after, effect}
-use Rattle.fsb_line.specs.Events.Event.{Loads, Stores}
-use Rattle.fsb_line.specs.Line.{Bytes, MemoryLine, put, trimmed}
-use Rattle.fsb_line.specs.Links.{is_linked}
-use Rattle.fsb_line.specs.LineRuns.{MayRun, run}
-use Rattle.fsb_line.specs.States.{is_held, is_modified, is_sole}
-use Rattle.fsb_timely.specs.Past.{Past}
-use Rattle.fsb_timely.specs.Grants.{has_arrived, holds_line, is_exclusive}
-use Rattle.fsb_timely.specs.Scripts.{is_load}
-use Rattle.fsb_coherent.specs.Facts.{AccessesServed}
-use Rattle.fsb_coherent.specs.LineEvents.{access_event, change_of}
+use Rattle.fsb_coherent.proofs.Words
+use Words.{ℕ, ◌+◌, ◌≡◌, Bool, true, false, not, ◌&&◌, ◌||◌, nat_eq, List, [], ◌∷◌, map, refl, sym, ap, subst, ◌∙◌, inl}
+use Words.{inr, arith, or_assoc, and_parts, cases_Bool, list_all, list_any, Done, Mesi, Modified, Event, IsReady, May}
+use Words.{after, effect, Loads, Stores, Bytes, MemoryLine, put, trimmed, is_linked, MayRun, run, is_held, is_modified}
+use Words.{is_sole, Past, has_arrived, holds_line, is_exclusive, is_load, AccessesServed, access_event, change_of}
 use Rattle.fsb_coherent.proofs.Behind.{TiedButDirty}
 
 -- the entry is a store of agent a

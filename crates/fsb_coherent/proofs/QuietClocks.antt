@@ -1,30 +1,16 @@
 -- At a clock at which nothing happens no line has an event, and the line of the machine stays that of the run.
-use Rattle.std.proofs.Common.{ℕ, zero, suc, ◌+◌, ◌<◌, ◌≡◌, Bool, false, ◌&&◌, ◌||◌, nat_eq, nat_lt, List, [], ◌∷◌}
-use Rattle.std.proofs.Common.{take, slice_get, None, refl, sym, ap, subst, ◌∙◌, inl, inr, arith, append-nil}
-use Rattle.std.proofs.lemmas.Bool.{cases_lt}
-use Rattle.std.specs.List.{filter, list_any}
-use Rattle.std.specs.Option.{option_and_then, option_map, option_map_or}
-use Rattle.fsb_count.specs.Options.{is_at, is_some_and}
-use Rattle.fsb_count.proofs.Interface.{any_where-more, any_where-same}
-use Rattle.fsb_access.specs.declared.log.Done.{Done}
-use Rattle.fsb_access.specs.Access.{accessed_line}
-use Rattle.fsb_line.specs.Events.{Event}
-use Rattle.fsb_line.specs.Line.{MemoryLine, OpenRequest}
-use Rattle.fsb_line.specs.LineRuns.{MayRun, run}
-use Rattle.fsb_timely.specs.Past.{Past}
-use Rattle.fsb_timely.specs.Grants.{begun_at, ended_requests, grant_at, holds_line, is_end_at, is_ended, is_evicted}
-use Rattle.fsb_timely.specs.Grants.{is_exclusive, is_granted, is_lost, is_named_by_other, is_taken_away}
-use Rattle.fsb_timely.specs.Grants.{is_written_back, latest_grant, snooped_at}
-use Rattle.fsb_timely.specs.Hits.{is_store_on}
-use Rattle.fsb_timely.specs.Runs.{entries_to, past_to}
-use Rattle.fsb_timely.proofs.Interface.{holds_line-more, is_ended-more, is_exclusive-more, latest_grant-more}
-use Rattle.fsb_coherent.specs.Awaits.{cancelled_in, responded_in}
-use Rattle.fsb_coherent.specs.LineEvents.{begins_on, cancels_on, ends_on, entries_on, events_at, events_of_clock}
-use Rattle.fsb_coherent.specs.LineEvents.{events_of_ends, hits_on, others_on, responds_on, snoops_on}
-use Rattle.fsb_coherent.specs.KeepsTie.{KeepsTie}
+use Rattle.fsb_coherent.proofs.Words
+use Words.{ℕ, zero, suc, ◌+◌, ◌<◌, ◌≡◌, Bool, false, ◌&&◌, ◌||◌, nat_eq, nat_lt, List, [], ◌∷◌, take, slice_get, None}
+use Words.{refl, sym, ap, subst, ◌∙◌, inl, inr, arith, append-nil, cases_lt, filter, list_any, option_and_then}
+use Words.{option_map, option_map_or, is_at, is_some_and, any_where-more, any_where-same, Done, accessed_line, Event}
+use Words.{MemoryLine, OpenRequest, MayRun, run, Past, begun_at, ended_requests, grant_at, holds_line, is_end_at}
+use Words.{is_ended, is_evicted, is_exclusive, is_granted, is_lost, is_named_by_other, is_taken_away, is_written_back}
+use Words.{latest_grant, snooped_at, is_store_on, entries_to, past_to, holds_line-more, is_ended-more}
+use Words.{is_exclusive-more, latest_grant-more, cancelled_in, responded_in, begins_on, cancels_on, ends_on, entries_on}
+use Words.{events_at, events_of_clock, events_of_ends, hits_on, others_on, responds_on, snoops_on, KeepsTie, IsOpen}
+use Words.{Tied, chain_below, deferral_below, defers_line, is_dirty_below, is_moved_below, is_responded_below}
+use Words.{is_stored_below, replies_line}
 use Rattle.fsb_coherent.specs.Quiet.{IsQuiet}
-use Rattle.fsb_coherent.specs.Relation.{IsOpen, Tied, chain_below, deferral_below, defers_line, is_dirty_below}
-use Rattle.fsb_coherent.specs.Relation.{is_moved_below, is_responded_below, is_stored_below, replies_line}
 use Rattle.fsb_coherent.proofs.Steps.{chain-kept, deferral-more, moved_at-same, open-before, open-kept}
 use Rattle.fsb_coherent.proofs.Steps.{responded-more}
 

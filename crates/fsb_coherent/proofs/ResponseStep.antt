@@ -1,18 +1,9 @@
 -- The response of a clock, where it puts data of the line on the bus.
-use Rattle.std.proofs.Common.{ℕ, ◌≡◌, Bool, true, false, ◌||◌, if◌then◌else◌, List, [], ◌∷◌, Option, Some, None}
-use Rattle.std.proofs.Common.{is_some, sym, ap, subst, ◌∙◌, inl, inr, arith}
-use Rattle.std.proofs.Math.Bool.{or-false}
-use Rattle.std.proofs.lemmas.Bool.{cases_Bool, or_right}
-use Rattle.fsb_line.specs.declared.link.Link.{Link}
-use Rattle.fsb_line.specs.Coherence.{Valued}
-use Rattle.fsb_line.specs.Events.{AwaitsResponse, May, after, effect, responded}
-use Rattle.fsb_line.specs.Events.Event.{Responds}
-use Rattle.fsb_line.specs.Line.{Bytes, MemoryLine, source}
-use Rattle.fsb_timely.specs.Grants.{holds_line, is_exclusive}
-use Rattle.fsb_timely.specs.Past.{Past}
-use Rattle.fsb_coherent.specs.Facts.{RespondsAsOldest, does_respond_on}
-use Rattle.fsb_coherent.specs.LineEvents.{responds_on}
-use Rattle.fsb_coherent.specs.Relation.{Tied, is_dirty_below, is_moved_below}
+use Rattle.fsb_coherent.proofs.Words
+use Words.{ℕ, ◌≡◌, Bool, true, false, ◌||◌, if◌then◌else◌, List, [], ◌∷◌, Option, Some, None, is_some, sym, ap, subst}
+use Words.{◌∙◌, inl, inr, arith, or-false, cases_Bool, or_right, Link, Valued, AwaitsResponse, May, after, effect}
+use Words.{responded, Responds, Bytes, MemoryLine, source, holds_line, is_exclusive, Past, RespondsAsOldest}
+use Words.{does_respond_on, responds_on, Tied, is_dirty_below, is_moved_below}
 use Rattle.fsb_coherent.proofs.TiedBetween.{Goes, TiedBetween, goes-same, open-from, open-to, tied-trimmed}
 
 -- the line of the machine after the response, before the hits

@@ -1,24 +1,14 @@
 -- The events of a clock, which are told by the past up to it, are those told by the whole past.
-use Rattle.std.proofs.Common.{ℕ, ◌+◌, ◌≤◌, ◌≡◌, if◌then◌else◌, nat_eq, List, [], ◌∷◌, ◌++◌, Option, Some, is_some}
-use Rattle.std.proofs.Common.{refl, ap, ◌∙◌, arith, append_assoc}
-use Rattle.std.specs.Option.{option_and_then, option_map_or}
-use Rattle.fsb_line.specs.declared.purpose.Purpose.{Purpose}
-use Rattle.fsb_line.specs.Events.Event.{Begins, Drops, IsDeferred, IsGranted, IsHanded, IsLost, IsRetried, IsUpgraded}
-use Rattle.fsb_line.specs.Events.Event.{IsWritten}
+use Rattle.fsb_coherent.proofs.Words
+use Words.{ℕ, ◌+◌, ◌≤◌, ◌≡◌, if◌then◌else◌, nat_eq, List, [], ◌∷◌, ◌++◌, Option, Some, is_some, refl, ap, ◌∙◌, arith}
+use Words.{append_assoc, option_and_then, option_map_or, Purpose, Begins, Drops, IsDeferred, IsGranted, IsHanded}
+use Words.{IsLost, IsRetried, IsUpgraded, IsWritten, begun_at, ended_requests, holds_line, is_rival, is_dirty, Claim}
+use Words.{Past, SnoopEnd, past_to, is_held_elsewhere, going-alike, rival-same, cancelled_in, owner_at, purpose_wanted}
+use Words.{BeginsInOrder, awaited_events, awaiting_stores, begin_events, begins_on, cancel_events, cancels_on}
+use Words.{claimed_events, end_events, ends_on, events_at, events_of_clock, events_of_ends, hits_on, is_brought_to}
+use Words.{is_of_other_line, others_on, responds_on, settled_events, snoop_events, snoops_on, events_before_snoop}
+use Words.{events_from_snoop}
 use Rattle.fsb_trace.specs.declared.outcome.Outcome.TheVariants as outcomes
-use Rattle.fsb_timely.specs.Grants.{begun_at, ended_requests, holds_line, is_rival}
-use Rattle.fsb_timely.specs.Hits.{is_dirty}
-use Rattle.fsb_timely.specs.Past.{Claim, Past, SnoopEnd}
-use Rattle.fsb_timely.specs.Runs.{past_to}
-use Rattle.fsb_timely.specs.Snoops.{is_held_elsewhere}
-use Rattle.fsb_timely.proofs.Interface.{going-alike, rival-same}
-use Rattle.fsb_coherent.specs.Awaits.{cancelled_in, owner_at, purpose_wanted}
-use Rattle.fsb_coherent.specs.Facts.{BeginsInOrder}
-use Rattle.fsb_coherent.specs.LineEvents.{awaited_events, awaiting_stores, begin_events, begins_on, cancel_events}
-use Rattle.fsb_coherent.specs.LineEvents.{cancels_on, claimed_events, end_events, ends_on, events_at, events_of_clock}
-use Rattle.fsb_coherent.specs.LineEvents.{events_of_ends, hits_on, is_brought_to, is_of_other_line, others_on}
-use Rattle.fsb_coherent.specs.LineEvents.{responds_on, settled_events, snoop_events, snoops_on}
-use Rattle.fsb_coherent.specs.BeforeSnoop.{events_before_snoop, events_from_snoop}
 use Rattle.fsb_coherent.proofs.QuietClocks.{begun-to, cancelled-to, ended-to, responded-to, snooped-to}
 use Rattle.fsb_coherent.proofs.WordsTo.{GoesOnAt, awaited-to, begun-behind, begun-below, dirty-to, entries-to, hit-to}
 use Rattle.fsb_coherent.proofs.WordsTo.{holds-to, purpose-to}

@@ -1,20 +1,11 @@
 -- A clock without a snoop end on the line: the line of the machine behind it is that of before.
-use Rattle.std.proofs.Common.{ℕ, ◌≡◌, Bool, false, not, ◌&&◌, ◌||◌, ◌++◌, if◌then◌else◌, nat_eq, [], Option, Some}
-use Rattle.std.proofs.Common.{None, refl, sym, ap, ◌∙◌, append-nil, arith}
-use Rattle.std.proofs.Math.Bool.{and-true}
-use Rattle.std.proofs.lemmas.Bool.{and_right, eq-eqb}
-use Rattle.std.specs.Option.{option_map_or}
-use Rattle.fsb_count.specs.Options.{is_some_and}
-use Rattle.fsb_line.specs.Line.{MemoryLine, OpenRequest}
-use Rattle.fsb_line.specs.States.{is_held, is_modified, is_sole}
-use Rattle.fsb_timely.specs.Past.{Claim, Grant, Past, SnoopEnd}
-use Rattle.fsb_timely.specs.Grants.{grant_at, is_claim_of, is_claim_of_other, is_granted, is_named_by_other}
-use Rattle.fsb_timely.specs.Grants.{is_snooped, is_sole_grant, is_taken_away, is_written_back, snooped_at}
-use Rattle.fsb_timely.specs.Moments.{is_snoop_of}
-use Rattle.fsb_coherent.specs.Awaits.{Awaited, awaited_by, awaited_by_claim, awaited_by_grant}
-use Rattle.fsb_coherent.specs.Facts.{SettlesInOrder}
-use Rattle.fsb_coherent.specs.Relation.{chain_below, deferral_at, deferral_below, defers_line, link_for, replies_line}
-use Rattle.fsb_coherent.specs.BeforeSnoop.{IsOpenThrough, TiedThrough}
+use Rattle.fsb_coherent.proofs.Words
+use Words.{ℕ, ◌≡◌, Bool, false, not, ◌&&◌, ◌||◌, ◌++◌, if◌then◌else◌, nat_eq, [], Option, Some, None, refl, sym, ap}
+use Words.{◌∙◌, append-nil, arith, and-true, and_right, eq-eqb, option_map_or, is_some_and, MemoryLine, OpenRequest}
+use Words.{is_held, is_modified, is_sole, Claim, Grant, Past, SnoopEnd, grant_at, is_claim_of, is_claim_of_other}
+use Words.{is_granted, is_named_by_other, is_snooped, is_sole_grant, is_taken_away, is_written_back, snooped_at}
+use Words.{is_snoop_of, Awaited, awaited_by, awaited_by_claim, awaited_by_grant, SettlesInOrder, chain_below}
+use Words.{deferral_at, deferral_below, defers_line, link_for, replies_line, IsOpenThrough, TiedThrough}
 use Rattle.fsb_coherent.proofs.Behind.{TiedBehind, links_new}
 use Rattle.fsb_coherent.proofs.FromThrough.{dirty-from, exclusive-from, holds-from, open-behind, open-through}
 use Rattle.fsb_coherent.proofs.Steps.{deferral-more}

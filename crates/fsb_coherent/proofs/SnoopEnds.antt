@@ -1,27 +1,20 @@
 -- How a request is settled, and which grant it makes.
-use Rattle.std.proofs.Common.{ℕ, ◌+◌, ◌<◌, ◌≡◌, Bool, true, false, List, Option, Some, None, length, slice_index}
-use Rattle.std.proofs.Common.{refl, sym, ap, ◌∙◌, arith}
-use Rattle.fsb_count.specs.Options.{is_some_and}
+use Rattle.fsb_coherent.proofs.Words
+use Words.{ℕ, ◌+◌, ◌<◌, ◌≡◌, Bool, true, false, List, Option, Some, None, length, slice_index, refl, sym, ap, ◌∙◌}
+use Words.{arith, is_some_and, Turn, Outcome, settled_by, settled_outcome_of, is_reply, live_clock_of, live_request_of}
+use Words.{snooped_at, claim_at, effective_choice, gives_line, grant_for, grant_of, live_claim_of, number_of_turn}
+use Words.{served_number, snoop_end_with, turns_in, Claim, Past, SnoopEnd, Run, moments_below, past_of, run_to}
+use Words.{moment-snooped, run_to-agrees, snoop_of, snooped-there, tied-snoop}
 use Rattle.fsb_encode.specs.declared.request.Request.{Request}
 use Rattle.fsb_hazard.specs.declared.choice.Choice.{Choice}
-use Rattle.fsb_hazard.specs.declared.choice.Turn.{Turn}
 use Rattle.fsb_hazard.specs.declared.choice.Turn.TheVariants.{Keep}
 use Rattle.fsb_script.specs.declared.plan.Window.{Window}
 use Rattle.fsb_signal.specs.declared.lines.TheConstants.Lines.{HITM}
 use Rattle.fsb_signal.specs.Samples.{line_at}
 use Rattle.fsb_trace.specs.At.{Trace, request_at}
-use Rattle.fsb_trace.specs.declared.outcome.Outcome.{Outcome}
-use Rattle.fsb_trace.specs.Outcome.{settled_by, settled_outcome_of}
-use Rattle.fsb_trace.specs.Requests.{is_reply, live_clock_of, live_request_of}
 use Rattle.fsb_trace.specs.Snoop.{snoop_end_of}
 use Rattle.fsb_trace.proofs.Interface.{request_at-agree, snoop_end_of-clock}
-use Rattle.fsb_timely.specs.Grants.{snooped_at}
-use Rattle.fsb_timely.specs.Moments.{claim_at, effective_choice, gives_line, grant_for, grant_of, live_claim_of}
-use Rattle.fsb_timely.specs.Moments.{number_of_turn, served_number, snoop_end_with, turns_in}
-use Rattle.fsb_timely.specs.Past.{Claim, Past, SnoopEnd}
-use Rattle.fsb_timely.specs.Runs.{Run, moments_below, past_of, run_to}
 use Rattle.fsb_timely.specs.Tied.{IsSnoopOf}
-use Rattle.fsb_timely.proofs.Interface.{moment-snooped, run_to-agrees, snoop_of, snooped-there, tied-snoop}
 use Rattle.fsb_coherent.specs.Settled.{is_always_kept, outcome_by_turn, outcome_under, own_grant}
 
 -- the turn as a number says what the turn says

@@ -1,29 +1,13 @@
 -- The event of the snoop end of a request for a line may happen to the line of the machine.
-use Rattle.std.proofs.Common.{ℕ, ◌<◌, ◌≤◌, ◌≡◌, ◌≢◌, Bool, true, false, not, ◌&&◌, nat_eq, Option, Some, None}
-use Rattle.std.proofs.Common.{is_some, refl, sym, ap, ◌∙◌, inl, inr, arith}
-use Rattle.std.proofs.lemmas.Bool.{cases_lt, eqb-false, ne_eqb, not_from_false}
-use Rattle.fsb_count.specs.Options.{is_at}
-use Rattle.fsb_count.proofs.Interface.{any_where-none, first_where-found}
-use Rattle.fsb_encode.specs.declared.request.Kind.{Kind}
+use Rattle.fsb_coherent.proofs.Words
+use Words.{ℕ, ◌<◌, ◌≤◌, ◌≡◌, ◌≢◌, Bool, true, false, not, ◌&&◌, nat_eq, Option, Some, None, is_some, refl, sym, ap, ◌∙◌}
+use Words.{inl, inr, arith, cases_lt, eqb-false, ne_eqb, not_from_false, is_at, any_where-none, first_where-found, Kind}
+use Words.{Ordered, Purpose, Mesi, IsOldest, MemoryLine, OpenRequest, is_held, is_modified, kind_owns, modified_is_sole}
+use Words.{Past, SnoopEnd, holds_line, is_evicted, is_owning, snooped_at, is_dirty, past_to, is_held_elsewhere}
+use Words.{cancelled_in, owner_at, purpose_of, ClockFacts, IsSettledOn, IsUncontested, IsOpen, IsOpenThrough}
+use Words.{TiedThrough}
 use Rattle.fsb_encode.specs.declared.request.Kind.TheVariants as kinds
-use Rattle.fsb_line.specs.Coherence.{Ordered}
-use Rattle.fsb_line.specs.declared.purpose.Purpose.{Purpose}
 use Rattle.fsb_line.specs.declared.purpose.Purpose.TheVariants as purposes
-use Rattle.fsb_line.specs.declared.state.Mesi.{Mesi}
-use Rattle.fsb_line.specs.Events.{IsOldest}
-use Rattle.fsb_line.specs.Line.{MemoryLine, OpenRequest}
-use Rattle.fsb_line.specs.States.{is_held, is_modified, kind_owns}
-use Rattle.fsb_line.proofs.Interface.{modified_is_sole}
-use Rattle.fsb_timely.specs.Past.{Past, SnoopEnd}
-use Rattle.fsb_timely.specs.Grants.{holds_line, is_evicted, is_owning, snooped_at}
-use Rattle.fsb_timely.specs.Hits.{is_dirty}
-use Rattle.fsb_timely.specs.Runs.{past_to}
-use Rattle.fsb_timely.specs.Snoops.{is_held_elsewhere}
-use Rattle.fsb_coherent.specs.Awaits.{cancelled_in, owner_at, purpose_of}
-use Rattle.fsb_coherent.specs.Facts.{ClockFacts, IsSettledOn}
-use Rattle.fsb_coherent.specs.Fitting.{IsUncontested}
-use Rattle.fsb_coherent.specs.Relation.{IsOpen}
-use Rattle.fsb_coherent.specs.BeforeSnoop.{IsOpenThrough, TiedThrough}
 use Rattle.fsb_coherent.proofs.SnoopMay.{CanSettle, MayFor, may-made}
 use Rattle.fsb_coherent.proofs.SnoopTests.{IsToldOf}
 use Rattle.fsb_coherent.proofs.StateTests.{IsTest}

@@ -1,30 +1,13 @@
 -- Who holds a line after a snoop end on it is who holds it in the run.
-use Rattle.std.proofs.Common.{ℕ, ◌≡◌, ◌==◌, Bool, true, false, cond, not, ◌&&◌, ◌||◌, nat_eq, Option, Some, is_some}
-use Rattle.std.proofs.Common.{refl, sym, ap, subst, ◌∙◌, arith}
-use Rattle.std.proofs.lemmas.Bool.{eq-eqb, eqb-true}
-use Rattle.fsb_count.specs.Options.{is_some_and}
-use Rattle.fsb_count.proofs.Interface.{nat_eq-sym}
-use Rattle.fsb_encode.specs.declared.request.Kind.{Kind}
+use Rattle.fsb_coherent.proofs.Words
+use Words.{ℕ, ◌≡◌, ◌==◌, Bool, true, false, cond, not, ◌&&◌, ◌||◌, nat_eq, Option, Some, is_some, refl, sym, ap, subst}
+use Words.{◌∙◌, arith, eq-eqb, eqb-true, is_some_and, nat_eq-sym, Kind, Turn, Mesi, Invalid, Modified, after, effect}
+use Words.{given, linked, settled, MemoryLine, trimmed, run, after_snoop, granted, is_held, is_write_back_kind, Outcome}
+use Words.{Handed, is_claim_of, is_claim_of_other, is_owning, is_snooped, is_got, is_upgraded, makes_grant, Past}
+use Words.{SnoopEnd, past_to, owner_at, purpose_of, IsSnoopOn, IsUncontested, fits_getting, fits_kind, fits_upgrade}
+use Words.{fits_write_back, is_granted_by, is_lost_by, claimed_events, settled_events, snoop_events}
 use Rattle.fsb_encode.specs.declared.request.Kind.TheVariants as kinds
-use Rattle.fsb_hazard.specs.declared.choice.Turn.{Turn}
 use Rattle.fsb_line.specs.declared.purpose.Purpose.TheVariants as purposes
-use Rattle.fsb_line.specs.declared.state.Mesi.{Mesi}
-use Rattle.fsb_line.specs.declared.state.Mesi.TheVariants.{Invalid, Modified}
-use Rattle.fsb_line.specs.Events.{after, effect, given, linked, settled}
-use Rattle.fsb_line.specs.Line.{MemoryLine, trimmed}
-use Rattle.fsb_line.specs.LineRuns.{run}
-use Rattle.fsb_line.specs.States.{after_snoop, granted, is_held}
-use Rattle.fsb_trace.specs.Requests.{is_write_back_kind}
-use Rattle.fsb_trace.specs.declared.outcome.Outcome.{Outcome}
-use Rattle.fsb_trace.specs.declared.outcome.Outcome.TheVariants.{Handed}
-use Rattle.fsb_timely.specs.Grants.{is_claim_of, is_claim_of_other, is_owning, is_snooped}
-use Rattle.fsb_timely.specs.Moments.{is_got, is_upgraded, makes_grant}
-use Rattle.fsb_timely.specs.Past.{Past, SnoopEnd}
-use Rattle.fsb_timely.specs.Runs.{past_to}
-use Rattle.fsb_coherent.specs.Awaits.{owner_at, purpose_of}
-use Rattle.fsb_coherent.specs.Fitting.{IsSnoopOn, IsUncontested, fits_getting, fits_kind, fits_upgrade}
-use Rattle.fsb_coherent.specs.Fitting.{fits_write_back, is_granted_by, is_lost_by}
-use Rattle.fsb_coherent.specs.LineEvents.{claimed_events, settled_events, snoop_events}
 use Rattle.fsb_coherent.proofs.SnoopLinks.{end_with, grant_if, grant_with, whole-end}
 
 held-cond : (m : Bool) (own other : Mesi) → is_held (cond m own other) ≡ cond m (is_held own) (is_held other)

@@ -1,28 +1,13 @@
 -- What the event of a snoop end leaves of a line's links and of its deferral is what the run has of them.
-use Rattle.std.proofs.Common.{ℕ, ◌≡◌, Bool, true, false, ◌&&◌, ◌||◌, if◌then◌else◌, nat_eq, [], ◌++◌, Option, Some}
-use Rattle.std.proofs.Common.{None, is_some, refl, sym, subst, append-nil, arith}
-use Rattle.std.proofs.lemmas.Bool.{eq-eqb}
-use Rattle.std.specs.Option.{option_map_or}
-use Rattle.fsb_encode.specs.declared.request.Kind.{Kind}
+use Rattle.fsb_coherent.proofs.Words
+use Words.{ℕ, ◌≡◌, Bool, true, false, ◌&&◌, ◌||◌, if◌then◌else◌, nat_eq, [], ◌++◌, Option, Some, None, is_some, refl}
+use Words.{sym, subst, append-nil, arith, eq-eqb, option_map_or, Kind, Turn, Purpose, after, effect, given, linked}
+use Words.{settled, MemoryLine, trimmed, run, is_deferral, Outcome, Granted, Handed, Retried, Deferred, Written}
+use Words.{Upgraded, is_got, is_upgraded, makes_grant, Grant, Past, SnoopEnd, past_to, awaited_by, awaited_by_claim}
+use Words.{awaited_by_grant, is_written, owner_at, purpose_of, IsSnoopOn, IsUncontested, fits_getting, fits_kind}
+use Words.{fits_upgrade, fits_write_back, claimed_events, settled_events, snoop_events, deferred_to, giver_at, link_for}
+use Words.{purpose_at}
 use Rattle.fsb_encode.specs.declared.request.Kind.TheVariants as kinds
-use Rattle.fsb_hazard.specs.declared.choice.Turn.{Turn}
-use Rattle.fsb_line.specs.declared.purpose.Purpose.{Purpose}
-use Rattle.fsb_line.specs.Events.{after, effect, given, linked, settled}
-use Rattle.fsb_line.specs.Line.{MemoryLine, trimmed}
-use Rattle.fsb_line.specs.LineRuns.{run}
-use Rattle.fsb_trace.specs.Outcome.{is_deferral}
-use Rattle.fsb_trace.specs.declared.outcome.Outcome.{Outcome}
-use Rattle.fsb_trace.specs.declared.outcome.Outcome.TheVariants.{Granted, Handed, Retried, Deferred, Written}
-use Rattle.fsb_trace.specs.declared.outcome.Outcome.TheVariants.{Upgraded}
-use Rattle.fsb_timely.specs.Moments.{is_got, is_upgraded, makes_grant}
-use Rattle.fsb_timely.specs.Past.{Grant, Past, SnoopEnd}
-use Rattle.fsb_timely.specs.Runs.{past_to}
-use Rattle.fsb_coherent.specs.Awaits.{awaited_by, awaited_by_claim, awaited_by_grant, is_written, owner_at}
-use Rattle.fsb_coherent.specs.Awaits.{purpose_of}
-use Rattle.fsb_coherent.specs.Fitting.{IsSnoopOn, IsUncontested, fits_getting, fits_kind, fits_upgrade}
-use Rattle.fsb_coherent.specs.Fitting.{fits_write_back}
-use Rattle.fsb_coherent.specs.LineEvents.{claimed_events, settled_events, snoop_events}
-use Rattle.fsb_coherent.specs.Relation.{deferred_to, giver_at, link_for, purpose_at}
 
 -- the snoop end with these parts
 abbrev pub end_with : ℕ → ℕ → ℕ → Kind → Turn → Outcome → Option Grant → SnoopEnd

@@ -1,24 +1,12 @@
 -- The event of a snoop end on a line may happen to the line of the machine.
-use Rattle.std.proofs.Common.{ℕ, ◌≡◌, ◌≢◌, Bool, true, false, nat_eq, Option, Some, None, refl, sym, subst}
-use Rattle.std.proofs.lemmas.Bool.{eq-eqb}
-use Rattle.fsb_encode.specs.declared.request.Kind.{Kind}
+use Rattle.fsb_coherent.proofs.Words
+use Words.{ℕ, ◌≡◌, ◌≢◌, Bool, true, false, nat_eq, Option, Some, None, refl, sym, subst, eq-eqb, Kind, Turn, Purpose}
+use Words.{IsOldest, May, MaySettle, NobodyElseHolds, NobodyElseModified, MemoryLine, MayRun, asks_line, is_held}
+use Words.{is_modified, Outcome, Granted, Handed, Retried, Deferred, Written, Upgraded, is_got, is_upgraded}
+use Words.{makes_grant, Past, SnoopEnd, past_to, is_held_elsewhere, owner_at, purpose_of, IsSnoopOn, IsUncontested}
+use Words.{fits_getting, fits_kind, fits_upgrade, fits_write_back, claimed_events, settled_events, snoop_events}
 use Rattle.fsb_encode.specs.declared.request.Kind.TheVariants as kinds
-use Rattle.fsb_hazard.specs.declared.choice.Turn.{Turn}
-use Rattle.fsb_line.specs.declared.purpose.Purpose.{Purpose}
 use Rattle.fsb_line.specs.declared.purpose.Purpose.TheVariants as purposes
-use Rattle.fsb_line.specs.Events.{IsOldest, May, MaySettle, NobodyElseHolds, NobodyElseModified}
-use Rattle.fsb_line.specs.Line.{MemoryLine}
-use Rattle.fsb_line.specs.LineRuns.{MayRun}
-use Rattle.fsb_line.specs.States.{asks_line, is_held, is_modified}
-use Rattle.fsb_trace.specs.declared.outcome.Outcome.{Outcome}
-use Rattle.fsb_trace.specs.declared.outcome.Outcome.TheVariants.{Granted, Handed, Retried, Deferred, Written, Upgraded}
-use Rattle.fsb_timely.specs.Moments.{is_got, is_upgraded, makes_grant}
-use Rattle.fsb_timely.specs.Past.{Past, SnoopEnd}
-use Rattle.fsb_timely.specs.Runs.{past_to}
-use Rattle.fsb_timely.specs.Snoops.{is_held_elsewhere}
-use Rattle.fsb_coherent.specs.Awaits.{owner_at, purpose_of}
-use Rattle.fsb_coherent.specs.Fitting.{IsSnoopOn, IsUncontested, fits_getting, fits_kind, fits_upgrade, fits_write_back}
-use Rattle.fsb_coherent.specs.LineEvents.{claimed_events, settled_events, snoop_events}
 use Rattle.fsb_coherent.proofs.SnoopLinks.{end_with, grant_if, grant_with, whole-end}
 
 -- what lets a request of the agent of this kind be settled so: it is the oldest; nobody else is dirty, unless the line

@@ -1,29 +1,14 @@
 -- The snoop end of a reply that grants a line: its event may happen, and the line of the machine behind it is that of
 -- the run.
-use Rattle.std.proofs.Common.{ℕ, ◌+◌, ◌≡◌, ◌==◌, Bool, true, false, cond, not, ◌&&◌, ◌||◌, ◌++◌, if◌then◌else◌}
-use Rattle.std.proofs.Common.{nat_eq, is_some, [], ◌∷◌, Option, Some, None, refl, sym, ap, subst, ◌∙◌, arith}
-use Rattle.std.proofs.Math.Bool.{and-true}
-use Rattle.std.proofs.lemmas.Bool.{eq-eqb}
-use Rattle.fsb_count.specs.Options.{is_some_and}
-use Rattle.fsb_count.proofs.Interface.{nat_eq-sym}
-use Rattle.fsb_line.specs.Coherence.{Ordered}
-use Rattle.fsb_line.specs.declared.purpose.Purpose.{Purpose}
-use Rattle.fsb_line.specs.declared.state.Mesi.{Mesi}
-use Rattle.fsb_line.specs.Events.{May, after, effect, linked, replied, settled}
-use Rattle.fsb_line.specs.Events.Event.{IsReplied}
-use Rattle.fsb_line.specs.Line.{LineDeferral, MemoryLine, OpenRequest, put, trimmed}
-use Rattle.fsb_line.specs.LineRuns.{MayRun, run}
-use Rattle.fsb_line.specs.States.{gets_line, granted, is_held, is_modified, is_sole, kind_owns}
-use Rattle.fsb_line.proofs.Interface.{granted_owns}
-use Rattle.fsb_timely.specs.Past.{Grant, Past, SnoopEnd}
-use Rattle.fsb_timely.specs.Grants.{grant_at, is_granted, is_named_by_other, is_snooped, is_sole_grant, is_taken_away}
-use Rattle.fsb_timely.specs.Grants.{is_written_back, snooped_at}
-use Rattle.fsb_timely.specs.Moments.{is_snoop_of}
-use Rattle.fsb_coherent.specs.Awaits.{awaited_by, awaited_by_grant}
-use Rattle.fsb_coherent.specs.Facts.{IsRepliedOn, SettlesInOrder}
-use Rattle.fsb_coherent.specs.Relation.{deferral_below, defers_line, giver_at, link_for, purpose_at, purpose_granted}
-use Rattle.fsb_coherent.specs.Relation.{replies_line}
-use Rattle.fsb_coherent.specs.BeforeSnoop.{IsOpenThrough, TiedThrough}
+use Rattle.fsb_coherent.proofs.Words
+use Words.{ℕ, ◌+◌, ◌≡◌, ◌==◌, Bool, true, false, cond, not, ◌&&◌, ◌||◌, ◌++◌, if◌then◌else◌, nat_eq, is_some, [], ◌∷◌}
+use Words.{Option, Some, None, refl, sym, ap, subst, ◌∙◌, arith, and-true, eq-eqb, is_some_and, nat_eq-sym, Ordered}
+use Words.{Purpose, Mesi, May, after, effect, linked, replied, settled, IsReplied, LineDeferral, MemoryLine}
+use Words.{OpenRequest, put, trimmed, MayRun, run, gets_line, granted, is_held, is_modified, is_sole, kind_owns}
+use Words.{granted_owns, Grant, Past, SnoopEnd, grant_at, is_granted, is_named_by_other, is_snooped, is_sole_grant}
+use Words.{is_taken_away, is_written_back, snooped_at, is_snoop_of, awaited_by, awaited_by_grant, IsRepliedOn}
+use Words.{SettlesInOrder, deferral_below, defers_line, giver_at, link_for, purpose_at, purpose_granted, replies_line}
+use Words.{IsOpenThrough, TiedThrough}
 use Rattle.fsb_coherent.proofs.Behind.{TiedBehind, links_new}
 use Rattle.fsb_coherent.proofs.FromThrough.{dirty-from, exclusive-from, holds-from, open-behind, open-through}
 use Rattle.fsb_coherent.proofs.SnoopElsewhere.{not-its-own}

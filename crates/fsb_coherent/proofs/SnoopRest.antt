@@ -1,20 +1,9 @@
 -- A snoop end on a line closes its request, and moves no data.
-use Rattle.std.proofs.Common.{ℕ, ◌≡◌, Bool, true, nat_eq, None, is_some, refl, subst, arith}
-use Rattle.std.proofs.lemmas.Bool.{eq-eqb}
-use Rattle.fsb_encode.specs.declared.request.Kind.{Kind}
-use Rattle.fsb_hazard.specs.declared.choice.Turn.{Turn}
-use Rattle.fsb_line.specs.Events.{after, effect, given, linked, settled}
-use Rattle.fsb_line.specs.Line.{MemoryLine, put, trimmed}
-use Rattle.fsb_line.specs.LineRuns.{run}
-use Rattle.fsb_trace.specs.declared.outcome.Outcome.{Outcome}
-use Rattle.fsb_trace.specs.declared.outcome.Outcome.TheVariants.{Handed}
-use Rattle.fsb_timely.specs.Moments.{is_got, is_upgraded, makes_grant}
-use Rattle.fsb_timely.specs.Past.{Past, SnoopEnd}
-use Rattle.fsb_timely.specs.Runs.{past_to}
-use Rattle.fsb_coherent.specs.Awaits.{owner_at, purpose_of}
-use Rattle.fsb_coherent.specs.Fitting.{IsSnoopOn, IsUncontested, fits_getting, fits_kind, fits_upgrade}
-use Rattle.fsb_coherent.specs.Fitting.{fits_write_back}
-use Rattle.fsb_coherent.specs.LineEvents.{claimed_events, settled_events, snoop_events}
+use Rattle.fsb_coherent.proofs.Words
+use Words.{ℕ, ◌≡◌, Bool, true, nat_eq, None, is_some, refl, subst, arith, eq-eqb, Kind, Turn, after, effect, given}
+use Words.{linked, settled, MemoryLine, put, trimmed, run, Outcome, Handed, is_got, is_upgraded, makes_grant, Past}
+use Words.{SnoopEnd, past_to, owner_at, purpose_of, IsSnoopOn, IsUncontested, fits_getting, fits_kind, fits_upgrade}
+use Words.{fits_write_back, claimed_events, settled_events, snoop_events}
 use Rattle.fsb_coherent.proofs.SnoopLinks.{end_with, grant_if, whole-end}
 
 -- the request of the agent is closed, and what is on the bus stays

@@ -1,22 +1,11 @@
 -- The snoop end of a request for a line leaves the line of the machine that of the run.
-use Rattle.std.proofs.Common.{ℕ, ◌+◌, ◌≡◌, ◌≢◌, ◌==◌, false, cond, not, ◌&&◌, ◌||◌, ◌++◌, if◌then◌else◌, nat_eq, []}
-use Rattle.std.proofs.Common.{Some, None, is_some, refl, sym, ap, ◌∙◌, inl, inr, arith}
-use Rattle.std.proofs.lemmas.Bool.{cases_Bool, eqb-false, eqb-true}
-use Rattle.std.specs.Option.{option_map_or}
-use Rattle.fsb_count.specs.Options.{is_some_and}
-use Rattle.fsb_line.specs.Line.{MemoryLine, OpenRequest, put}
-use Rattle.fsb_line.specs.LineRuns.{run}
-use Rattle.fsb_line.specs.States.{is_held, is_modified, is_sole}
-use Rattle.fsb_trace.specs.Outcome.{is_deferral}
-use Rattle.fsb_timely.specs.Past.{Past, SnoopEnd}
-use Rattle.fsb_timely.specs.Grants.{grant_at, is_granted, is_named_by_other, is_sole_grant, is_taken_away}
-use Rattle.fsb_timely.specs.Grants.{is_written_back, snooped_at}
-use Rattle.fsb_timely.specs.Moments.{is_snoop_of}
-use Rattle.fsb_timely.specs.Runs.{past_to}
-use Rattle.fsb_coherent.specs.Fitting.{is_granted_by, is_lost_by}
-use Rattle.fsb_coherent.specs.LineEvents.{snoop_events}
-use Rattle.fsb_coherent.specs.Relation.{IsOpen, deferral_at, deferral_below, deferred_to, defers_line, replies_line}
-use Rattle.fsb_coherent.specs.BeforeSnoop.{IsOpenThrough}
+use Rattle.fsb_coherent.proofs.Words
+use Words.{ℕ, ◌+◌, ◌≡◌, ◌≢◌, ◌==◌, false, cond, not, ◌&&◌, ◌||◌, ◌++◌, if◌then◌else◌, nat_eq, [], Some, None, is_some}
+use Words.{refl, sym, ap, ◌∙◌, inl, inr, arith, cases_Bool, eqb-false, eqb-true, option_map_or, is_some_and, MemoryLine}
+use Words.{OpenRequest, put, run, is_held, is_modified, is_sole, is_deferral, Past, SnoopEnd, grant_at, is_granted}
+use Words.{is_named_by_other, is_sole_grant, is_taken_away, is_written_back, snooped_at, is_snoop_of, past_to}
+use Words.{is_granted_by, is_lost_by, snoop_events, IsOpen, deferral_at, deferral_below, deferred_to, defers_line}
+use Words.{replies_line, IsOpenThrough}
 use Rattle.fsb_coherent.proofs.Behind.{TiedBehind, links_of}
 use Rattle.fsb_coherent.proofs.FromThrough.{dirty-from, exclusive-from, holds-from, open-behind, open-through}
 use Rattle.fsb_coherent.proofs.SnoopGuards.{IsHere, asked-here, told-here, uncontested, winner-here}

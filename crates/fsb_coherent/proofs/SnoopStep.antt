@@ -1,20 +1,9 @@
 -- The snoop end of a clock, whichever it is: its event may happen, and the line of the machine behind it is that of the
 -- run.
-use Rattle.std.proofs.Common.{ℕ, ◌≡◌, nat_eq, List, [], ◌∷◌, Option, Some, None, refl, sym, ap, subst, ◌∙◌, inl, inr}
-use Rattle.std.proofs.lemmas.Bool.{cases_Bool, eqb-true}
-use Rattle.std.specs.Option.{option_map_or}
-use Rattle.fsb_count.specs.Options.{is_some_and}
-use Rattle.fsb_line.specs.Coherence.{Ordered}
-use Rattle.fsb_line.specs.Events.{Event}
-use Rattle.fsb_line.specs.Events.Event.{IsReplied}
-use Rattle.fsb_line.specs.Line.{MemoryLine}
-use Rattle.fsb_line.specs.LineRuns.{MayRun, run}
-use Rattle.fsb_timely.specs.Past.{Claim, Grant, Past, SnoopEnd}
-use Rattle.fsb_timely.specs.Grants.{snooped_at}
-use Rattle.fsb_timely.specs.Runs.{past_to}
-use Rattle.fsb_coherent.specs.Facts.{ClockFacts}
-use Rattle.fsb_coherent.specs.LineEvents.{claimed_events, snoop_events, snoops_on}
-use Rattle.fsb_coherent.specs.BeforeSnoop.{TiedThrough}
+use Rattle.fsb_coherent.proofs.Words
+use Words.{ℕ, ◌≡◌, nat_eq, List, [], ◌∷◌, Option, Some, None, refl, sym, ap, subst, ◌∙◌, inl, inr, cases_Bool, eqb-true}
+use Words.{option_map_or, is_some_and, Ordered, Event, IsReplied, MemoryLine, MayRun, run, Claim, Grant, Past, SnoopEnd}
+use Words.{snooped_at, past_to, ClockFacts, claimed_events, snoop_events, snoops_on, TiedThrough}
 use Rattle.fsb_coherent.proofs.Behind.{TiedBehind}
 use Rattle.fsb_coherent.proofs.SameEvents.{snoop_events-to}
 use Rattle.fsb_coherent.proofs.SnoopElsewhere.{behind-claimed, behind-none, behind-unclaimed}

@@ -1,11 +1,8 @@
 -- Tests of states that tell the agent of the last request from others.
-use Rattle.std.proofs.Common.{ℕ, ◌≡◌, ◌==◌, Bool, true, false, cond, not, ◌&&◌, ◌||◌, if◌then◌else◌, nat_eq, refl}
-use Rattle.std.proofs.Common.{arith}
-use Rattle.fsb_line.specs.declared.purpose.Purpose.{Purpose}
+use Rattle.fsb_coherent.proofs.Words
+use Words.{ℕ, ◌≡◌, ◌==◌, Bool, true, false, cond, not, ◌&&◌, ◌||◌, if◌then◌else◌, nat_eq, refl, arith, Purpose, Mesi}
+use Words.{Invalid, Modified, after_snoop, asks_line, granted, is_held, is_modified, is_sole}
 use Rattle.fsb_line.specs.declared.purpose.Purpose.TheVariants as purposes
-use Rattle.fsb_line.specs.declared.state.Mesi.{Mesi}
-use Rattle.fsb_line.specs.declared.state.Mesi.TheVariants.{Invalid, Modified}
-use Rattle.fsb_line.specs.States.{after_snoop, asks_line, granted, is_held, is_modified, is_sole}
 
 -- a test of states, and what it says of a grant that owns or does not, with the line shared or not: it passes for no
 -- agent but that of the last request, and for that one as its grant says

@@ -1,19 +1,11 @@
 -- The open requests, the links and the deferral of a line, one clock further.
-use Rattle.std.proofs.Common.{ℕ, zero, suc, ◌+◌, ◌<◌, ◌≡◌, Bool, false, ◌&&◌, ◌||◌, if◌then◌else◌, [], ◌++◌, Option}
-use Rattle.std.proofs.Common.{Some, None, refl, sym, ap, ◌∙◌, inl, inr, arith, add-one}
-use Rattle.std.proofs.lemmas.Bool.{cases_Bool, le-leb}
-use Rattle.std.specs.Option.{option_map_or}
-use Rattle.fsb_count.specs.Clocks.{any_where, from_clock, last_where}
-use Rattle.fsb_count.specs.Options.{is_at, is_some_and}
-use Rattle.fsb_count.proofs.Interface.{any_where-more, any_where-off, last_where-passed, last_where-failed}
-use Rattle.fsb_line.specs.Line.{LineDeferral, OpenRequest}
-use Rattle.fsb_timely.specs.Past.{Past, SnoopEnd}
-use Rattle.fsb_timely.specs.Grants.{snooped_at, is_ended}
-use Rattle.fsb_timely.specs.Moments.{is_snoop_of}
-use Rattle.fsb_coherent.specs.Awaits.{cancelled_in, responded_in}
-use Rattle.fsb_coherent.specs.Relation.{IsOpen, chain_below, deferral_at, deferral_below, defers_line}
-use Rattle.fsb_coherent.specs.Relation.{is_cancelled_below, is_moved_for, is_responded_below, is_snooped_below}
-use Rattle.fsb_coherent.specs.Relation.{link_left, links_left, replies_line}
+use Rattle.fsb_coherent.proofs.Words
+use Words.{ℕ, zero, suc, ◌+◌, ◌<◌, ◌≡◌, Bool, false, ◌&&◌, ◌||◌, if◌then◌else◌, [], ◌++◌, Option, Some, None, refl, sym}
+use Words.{ap, ◌∙◌, inl, inr, arith, add-one, cases_Bool, le-leb, option_map_or, any_where, from_clock, last_where}
+use Words.{is_at, is_some_and, any_where-more, any_where-off, last_where-passed, last_where-failed, LineDeferral}
+use Words.{OpenRequest, Past, SnoopEnd, snooped_at, is_ended, is_snoop_of, cancelled_in, responded_in, IsOpen}
+use Words.{chain_below, deferral_at, deferral_below, defers_line, is_cancelled_below, is_moved_for, is_responded_below}
+use Words.{is_snooped_below, link_left, links_left, replies_line}
 
 pub cancelled-more : (p : Past) (n q : ℕ)
     → is_cancelled_below p (n + 1) q ≡ (is_cancelled_below p n q || is_at (cancelled_in p n) q)

@@ -1,16 +1,8 @@
 -- The line of the machine between two events of a clock that come before its snoop end.
-use Rattle.std.proofs.Common.{ℕ, ◌<◌, ◌≡◌, Bool, false, ◌||◌, List, ◌++◌, Some, is_some, sym, subst, arith}
-use Rattle.fsb_line.specs.Events.{Event}
-use Rattle.fsb_line.specs.Line.{MemoryLine, OpenRequest, put, trimmed}
-use Rattle.fsb_line.specs.LineRuns.{MayRun, run}
-use Rattle.fsb_line.specs.States.{is_held, is_modified, is_sole}
-use Rattle.fsb_timely.specs.Grants.{begun_at}
-use Rattle.fsb_timely.specs.Past.{Past}
-use Rattle.fsb_timely.specs.Runs.{past_to}
-use Rattle.fsb_coherent.specs.Awaits.{purpose_wanted}
-use Rattle.fsb_coherent.specs.Facts.{does_respond_on}
-use Rattle.fsb_coherent.specs.Relation.{IsOpen, chain_below, deferral_below, is_cancelled_below, is_moved_below}
-use Rattle.fsb_coherent.specs.Relation.{is_snooped_below}
+use Rattle.fsb_coherent.proofs.Words
+use Words.{ℕ, ◌<◌, ◌≡◌, Bool, false, ◌||◌, List, ◌++◌, Some, is_some, sym, subst, arith, Event, MemoryLine, OpenRequest}
+use Words.{put, trimmed, MayRun, run, is_held, is_modified, is_sole, begun_at, Past, past_to, purpose_wanted}
+use Words.{does_respond_on, IsOpen, chain_below, deferral_below, is_cancelled_below, is_moved_below, is_snooped_below}
 use Rattle.fsb_coherent.proofs.Clocks.{MayRun-append, run-append}
 
 -- agent a's request on the line is open at n, where those that begin below b and the cancellations below c count

@@ -1,20 +1,10 @@
 -- What is said of a clock, in the words of the events of a line, is told by the past up to it.
-use Rattle.std.proofs.Common.{ℕ, zero, suc, ◌+◌, ◌<◌, ◌≤◌, ◌≡◌, ◌&&◌, nat_eq, List, [], ◌∷◌, take, slice_get, None}
-use Rattle.std.proofs.Common.{refl, ap, arith}
-use Rattle.std.specs.List.{filter}
-use Rattle.std.specs.Option.{option_and_then}
-use Rattle.fsb_count.proofs.Interface.{first_where-found, first_where-same}
-use Rattle.fsb_access.specs.declared.log.Done.{Done}
-use Rattle.fsb_access.specs.Access.{accessed_line}
-use Rattle.fsb_timely.specs.Growth.{GoesOn}
-use Rattle.fsb_timely.specs.Grants.{begun_at, holds_line, snooped_at}
-use Rattle.fsb_timely.specs.Hits.{is_dirty, is_hit}
-use Rattle.fsb_timely.specs.Past.{Past}
-use Rattle.fsb_timely.specs.Runs.{entries_to, past_to}
-use Rattle.fsb_timely.proofs.Interface.{below_le, done_below, holds_line-same, is_dirty-alike, is_hit-alike}
-use Rattle.fsb_timely.proofs.Interface.{want_of-alike}
-use Rattle.fsb_coherent.specs.Awaits.{awaited_at, awaited_by, purpose_of, purpose_wanted, snoop_end_below}
-use Rattle.fsb_coherent.specs.LineEvents.{entries_on}
+use Rattle.fsb_coherent.proofs.Words
+use Words.{ℕ, zero, suc, ◌+◌, ◌<◌, ◌≤◌, ◌≡◌, ◌&&◌, nat_eq, List, [], ◌∷◌, take, slice_get, None, refl, ap, arith}
+use Words.{filter, option_and_then, first_where-found, first_where-same, Done, accessed_line, GoesOn, begun_at}
+use Words.{holds_line, snooped_at, is_dirty, is_hit, Past, entries_to, past_to, below_le, done_below, holds_line-same}
+use Words.{is_dirty-alike, is_hit-alike, want_of-alike, awaited_at, awaited_by, purpose_of, purpose_wanted}
+use Words.{snoop_end_below, entries_on}
 use Rattle.fsb_coherent.proofs.QuietClocks.{slice_get-take}
 
 -- the past goes on from the one up to n
