@@ -1,26 +1,11 @@
 -- Snoop ends, responses and ends of a past that come in the order of its live requests; and those of a timely run do.
-use Rattle.std.proofs.Common.{ℕ, ◌+◌, ◌<◌, ◌≤◌, ◌≡◌, Bool, true, ◌&&◌, List, ◌∷◌, Some, length, sym, ap, subst, ◌∙◌}
-use Rattle.std.proofs.Common.{arith, inl, inr}
-use Rattle.std.proofs.lemmas.Bool.{cases_lt, lt-leb}
-use Rattle.fsb_count.specs.Clocks.{count_where, from_clock}
-use Rattle.fsb_count.specs.Options.{is_some_and}
-use Rattle.fsb_count.proofs.Interface.{any_where-at, nth_where-found}
-use Rattle.fsb_signal.specs.declared.lines.TheConstants.Lines.{DRDY}
-use Rattle.fsb_signal.specs.Samples.{line_at}
-use Rattle.fsb_trace.specs.At.{Trace}
-use Rattle.fsb_trace.specs.Outcome.{does_move, moves_data, response_clock_of}
-use Rattle.fsb_trace.specs.Response.{end_of}
-use Rattle.fsb_trace.specs.Snoop.{snoop_end_of}
-use Rattle.fsb_trace.proofs.Interface.{AgreeTo-sym, end_of-moving, end_of-response, end_of-stays}
-use Rattle.fsb_trace.proofs.Interface.{response_clock_of-stays, snoop_end_of-rises, snoop_end_of-stays}
-use Rattle.fsb_laws.proofs.Interface.{count_where-none}
-use Rattle.fsb_timely.specs.Grants.{ended_requests, is_end_at, is_ended, snooped_at}
-use Rattle.fsb_timely.specs.Past.{Past, SnoopEnd}
-use Rattle.fsb_timely.specs.Runs.{Run, past_of, run_to}
-use Rattle.fsb_timely.specs.Timely.{Timely}
-use Rattle.fsb_timely.proofs.Interface.{snoop-tied, tied-snoop}
-use Rattle.fsb_lawful.proofs.Interface.{run_to-agrees, told-as-settled, turned-at}
-use Rattle.fsb_coherent.specs.Awaits.{responded_in}
+use Rattle.fsb_tied.proofs.Words
+use Words.{ℕ, ◌+◌, ◌<◌, ◌≤◌, ◌≡◌, Bool, true, ◌&&◌, List, ◌∷◌, Some, length, sym, ap, subst, ◌∙◌, arith, inl, inr}
+use Words.{cases_lt, lt-leb, count_where, from_clock, is_some_and, any_where-at, nth_where-found, DRDY, line_at, Trace}
+use Words.{does_move, moves_data, response_clock_of, end_of, snoop_end_of, AgreeTo-sym, end_of-moving, end_of-response}
+use Words.{end_of-stays, response_clock_of-stays, snoop_end_of-rises, snoop_end_of-stays, count_where-none}
+use Words.{ended_requests, is_end_at, is_ended, snooped_at, Past, SnoopEnd, Run, past_of, run_to, Timely, snoop-tied}
+use Words.{tied-snoop, run_to-agrees, told-as-settled, turned-at, responded_in}
 use Rattle.fsb_tied.proofs.Bridge.{ended-number, number-ended, number-responded, one-at-end, responded-number}
 use Rattle.fsb_tied.proofs.WholeOrder.{answered, ended-before, one-begins, orderly-whole}
 

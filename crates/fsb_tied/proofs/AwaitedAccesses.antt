@@ -1,25 +1,11 @@
 -- An access that comes with an end awaited on a line is its agent's, and a load where the oldest link does not own.
-use Rattle.std.proofs.Common.{ℕ, ◌+◌, ◌<◌, ◌≡◌, Bool, true, false, not, ◌||◌, List, [], ◌∷◌, map, Some, length}
-use Rattle.std.proofs.Common.{nat_eq, refl, sym, ap, ◌∙◌, arith}
-use Rattle.std.proofs.lemmas.Bool.{both_ways, eq-eqb, or_left, or_right}
-use Rattle.std.specs.List.{list_all, list_any}
-use Rattle.fsb_count.specs.Options.{is_some_and}
-use Rattle.fsb_count.proofs.Interface.{any_where-found}
-use Rattle.fsb_access.specs.declared.access.Access.{Access}
-use Rattle.fsb_access.specs.declared.item.Item.{Item}
-use Rattle.fsb_line.specs.declared.link.Link.{Link}
-use Rattle.fsb_line.specs.Links.{owns}
-use Rattle.fsb_timely.specs.Completions.{Completed, brings_at, completed_of_item, completes_by, is_arrival}
-use Rattle.fsb_timely.specs.Completions.{is_brought}
-use Rattle.fsb_timely.specs.Grants.{ended_requests, grant_at, is_end_at, is_granted, snooped_at}
-use Rattle.fsb_timely.specs.Hits.{is_hit}
-use Rattle.fsb_timely.specs.Past.{Grant, Past, SnoopEnd}
-use Rattle.fsb_timely.specs.Runs.{Run, past_of}
-use Rattle.fsb_timely.specs.Scripts.{Need, is_load, locked_need, needs_after, needs_of, next_item, plain_need}
-use Rattle.fsb_timely.specs.Timely.{Timely}
-use Rattle.fsb_coherent.specs.Awaits.{Awaited, awaited_at, awaited_by, awaited_by_grant}
-use Rattle.fsb_coherent.specs.LineEvents.{entries_on}
-use Rattle.fsb_coherent.specs.Relation.{chain_below, links_left}
+use Rattle.fsb_tied.proofs.Words
+use Words.{ℕ, ◌+◌, ◌<◌, ◌≡◌, Bool, true, false, not, ◌||◌, List, [], ◌∷◌, map, Some, length, nat_eq, refl, sym, ap, ◌∙◌}
+use Words.{arith, both_ways, eq-eqb, or_left, or_right, list_all, list_any, is_some_and, any_where-found, Access, Item}
+use Words.{Link, owns, Completed, brings_at, completed_of_item, completes_by, is_arrival, is_brought, ended_requests}
+use Words.{grant_at, is_end_at, is_granted, snooped_at, is_hit, Grant, Past, SnoopEnd, Run, past_of, Need, is_load}
+use Words.{locked_need, needs_after, needs_of, next_item, plain_need, Timely, Awaited, awaited_at, awaited_by}
+use Words.{awaited_by_grant, entries_on, chain_below, links_left}
 use Rattle.fsb_tied.proofs.AnswersInOrder.{answers-in-order}
 use Rattle.fsb_tied.proofs.Awaiting.{awaited-there, awaits-grant}
 use Rattle.fsb_tied.proofs.Chains.{link_of}

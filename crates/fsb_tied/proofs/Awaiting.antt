@@ -1,15 +1,8 @@
 -- The end that is awaited after a snoop end is known by its request.
-use Rattle.std.proofs.Common.{ℕ, ◌+◌, ◌<◌, ◌≤◌, ◌≡◌, Bool, true, false, Some, refl, ap, ◌∙◌, arith}
-use Rattle.std.proofs.lemmas.Bool.{eq-eqb}
-use Rattle.std.specs.Option.{option_and_then}
-use Rattle.fsb_count.specs.Clocks.{first_where}
-use Rattle.fsb_count.specs.Options.{is_some_and}
-use Rattle.fsb_count.proofs.Interface.{first_where-at}
-use Rattle.fsb_timely.specs.Grants.{snooped_at}
-use Rattle.fsb_timely.specs.Moments.{is_snoop_of}
-use Rattle.fsb_timely.specs.Past.{Grant, Past, SnoopEnd}
-use Rattle.fsb_lawful.proofs.Interface.{some-and}
-use Rattle.fsb_coherent.specs.Awaits.{awaited_at, awaited_by, awaited_by_grant, snoop_end_below}
+use Rattle.fsb_tied.proofs.Words
+use Words.{ℕ, ◌+◌, ◌<◌, ◌≤◌, ◌≡◌, Bool, true, false, Some, refl, ap, ◌∙◌, arith, eq-eqb, option_and_then, first_where}
+use Words.{is_some_and, first_where-at, snooped_at, is_snoop_of, Grant, Past, SnoopEnd, some-and, awaited_at}
+use Words.{awaited_by, awaited_by_grant, snoop_end_below}
 use Rattle.fsb_tied.proofs.AnswersInOrder.{AnswersInOrder}
 
 pub is-found : (p : Past) (t : ℕ) (s : SnoopEnd) → snooped_at p t ≡ Some s

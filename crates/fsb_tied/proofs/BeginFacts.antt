@@ -1,22 +1,10 @@
 -- The request that begins at a clock, and the one that is cancelled there, come in order.
-use Rattle.std.proofs.Common.{ℕ, ◌+◌, ◌<◌, ◌≤◌, ◌≡◌, true, false, Some, length, refl, sym, ap, subst, ◌∙◌, arith}
-use Rattle.std.specs.Option.{option_and_then}
-use Rattle.std.proofs.lemmas.Bool.{both_ways, false_from_ne_true}
-use Rattle.fsb_count.specs.Options.{is_some_and}
-use Rattle.fsb_count.proofs.Interface.{any_where-off, is_at-some}
-use Rattle.fsb_line.specs.Line.{OpenRequest}
-use Rattle.fsb_line.specs.Links.{is_linked}
-use Rattle.fsb_timely.specs.Grants.{begun_at}
-use Rattle.fsb_timely.specs.Moments.{is_snoop_of}
-use Rattle.fsb_timely.specs.Past.{Claim}
-use Rattle.fsb_timely.specs.Runs.{Run, past_of}
-use Rattle.fsb_timely.specs.Timely.{Timely}
-use Rattle.fsb_timely.specs.Wants.{is_asked_for, owed}
-use Rattle.fsb_timely.proofs.Interface.{want_of-new}
-use Rattle.fsb_lawful.specs.Beginning.{KeepsBounds}
-use Rattle.fsb_coherent.specs.Awaits.{cancelled_in, purpose_of, purpose_wanted}
-use Rattle.fsb_coherent.specs.Facts.{BeginsInOrder, IsBegunRightly, suits_holder}
-use Rattle.fsb_coherent.specs.Relation.{IsOpen, chain_below, is_cancelled_below, is_snooped_below}
+use Rattle.fsb_tied.proofs.Words
+use Words.{ℕ, ◌+◌, ◌<◌, ◌≤◌, ◌≡◌, true, false, Some, length, refl, sym, ap, subst, ◌∙◌, arith, option_and_then}
+use Words.{both_ways, false_from_ne_true, is_some_and, any_where-off, is_at-some, OpenRequest, is_linked, begun_at}
+use Words.{is_snoop_of, Claim, Run, past_of, Timely, is_asked_for, owed, want_of-new, KeepsBounds, cancelled_in}
+use Words.{purpose_of, purpose_wanted, BeginsInOrder, IsBegunRightly, suits_holder, IsOpen, chain_below}
+use Words.{is_cancelled_below, is_snooped_below}
 use Rattle.fsb_tied.proofs.Beginnings.{begun-want}
 use Rattle.fsb_tied.proofs.HeldBack.{none-other}
 use Rattle.fsb_tied.proofs.Linked.{link-owed}

@@ -1,34 +1,16 @@
 -- What begins in a timely run is what its agent wants.
-use Rattle.std.proofs.Common.{ℕ, suc, ◌+◌, ◌/◌, ◌<◌, ◌≡◌, Bool, true, false, ◌&&◌, Option, Some, None, if◌then◌else◌}
-use Rattle.std.proofs.Common.{length, slice_get, refl, sym, ap, ◌∙◌, arith}
-use Rattle.std.specs.Option.{option_and_then, option_map}
-use Rattle.std.proofs.lemmas.Bool.{and_parts}
-use Rattle.fsb_count.specs.Options.{is_some_and}
+use Rattle.fsb_tied.proofs.Words
+use Words.{ℕ, suc, ◌+◌, ◌/◌, ◌<◌, ◌≡◌, Bool, true, false, ◌&&◌, Option, Some, None, if◌then◌else◌, length, slice_get}
+use Words.{refl, sym, ap, ◌∙◌, arith, option_and_then, option_map, and_parts, is_some_and, are_lawful_fields, clocks}
+use Words.{is_lawful_request, pairs_of, row_of, Kind, Request, ADS, is_known_word, line_at, Who, Symmetric, Priority}
+use Words.{Trace, known_pair, known_pair_at, request_at, is_reply_kind, line_of, winner_at, line_at-agree}
+use Words.{request_at-agree, winner_at-agree, begun_at, agent_at, claim_at, Claim, Past, Run, past_of, past_to, run_to}
+use Words.{drives_ads, drives_pair, pair_due, request_begun, starts_requests, would_begin, Timely, holds_at, holds_in}
+use Words.{want_of, begun-told, done_below, past-begins, want_of-alike, KeepsBounds, begun-decoded, begun-winner}
+use Words.{map-some, run_to-agrees, slice_get-take, want-own, wants-lawfully}
 use Rattle.fsb_encode.specs.Decoded.{is_pair}
-use Rattle.fsb_encode.specs.Request.{are_lawful_fields, clocks, is_lawful_request, pairs_of, row_of}
-use Rattle.fsb_encode.specs.declared.request.Kind.{Kind}
 use Rattle.fsb_encode.specs.declared.request.Pair.{Pair}
-use Rattle.fsb_encode.specs.declared.request.Request.{Request}
-use Rattle.fsb_signal.specs.declared.lines.TheConstants.Lines.{ADS}
 use Rattle.fsb_signal.specs.declared.sample.Sample.{Sample}
-use Rattle.fsb_signal.specs.Samples.{is_known_word, line_at}
-use Rattle.fsb_trace.specs.declared.who.Who.{Who}
-use Rattle.fsb_trace.specs.declared.who.Who.TheVariants.{Symmetric, Priority}
-use Rattle.fsb_trace.specs.At.{Trace, known_pair, known_pair_at, request_at}
-use Rattle.fsb_trace.specs.Requests.{is_reply_kind, line_of}
-use Rattle.fsb_trace.specs.Winner.{winner_at}
-use Rattle.fsb_trace.proofs.Interface.{line_at-agree, request_at-agree, winner_at-agree}
-use Rattle.fsb_timely.specs.Grants.{begun_at}
-use Rattle.fsb_timely.specs.Moments.{agent_at, claim_at}
-use Rattle.fsb_timely.specs.Past.{Claim, Past}
-use Rattle.fsb_timely.specs.Runs.{Run, past_of, past_to, run_to}
-use Rattle.fsb_timely.specs.Starts.{drives_ads, drives_pair, pair_due, request_begun, starts_requests, would_begin}
-use Rattle.fsb_timely.specs.Timely.{Timely, holds_at, holds_in}
-use Rattle.fsb_timely.specs.Wants.{want_of}
-use Rattle.fsb_timely.proofs.Interface.{begun-told, done_below, past-begins, want_of-alike}
-use Rattle.fsb_lawful.specs.Beginning.{KeepsBounds}
-use Rattle.fsb_lawful.proofs.Interface.{begun-decoded, begun-winner, map-some, run_to-agrees, slice_get-take}
-use Rattle.fsb_lawful.proofs.Interface.{want-own, wants-lawfully}
 
 -- what a claim says: its clock, its winner, and its line by the address word
 record IsClaimAt (w : Trace) (q : ℕ) (claim : Claim) : Type 0 where

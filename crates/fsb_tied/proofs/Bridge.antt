@@ -1,27 +1,13 @@
 -- What the moments of a timely run have of responses and ends is what its whole trace says.
-use Rattle.std.proofs.Common.{ℕ, suc, zero, ◌+◌, ◌<◌, ◌≤◌, ◌≡◌, Bool, true, false, List, [], ◌∷◌, Option, Some, None}
-use Rattle.std.proofs.Common.{length, nat_eq, refl, sym, ap, ◌∙◌, arith, inl, inr, add-one}
-use Rattle.std.specs.List.{list_any, filter_map}
-use Rattle.std.specs.Option.{option_and_then, option_map_or}
-use Rattle.std.proofs.lemmas.Bool.{cases_Bool, eqb-true, eq-eqb}
-use Rattle.fsb_count.specs.Clocks.{all_where}
-use Rattle.fsb_count.specs.Options.{is_at}
-use Rattle.fsb_count.proofs.Interface.{all_where-failed, is_at-from, is_at-some, nth_where-at, nth_where-found}
-use Rattle.fsb_trace.specs.At.{Trace, responds_at}
-use Rattle.fsb_trace.specs.Outcome.{response_clock_of}
-use Rattle.fsb_trace.specs.Requests.{live_clock_of, live_count}
-use Rattle.fsb_trace.specs.Response.{end_of}
-use Rattle.fsb_trace.specs.Rules.{next_response}
-use Rattle.fsb_trace.proofs.Interface.{AgreeTo-sym, end_of-response, end_of-stays, live_below_count}
-use Rattle.fsb_trace.proofs.Interface.{live_clock_of-stays, response_clock_of-stays, snoop_end_of-clock}
-use Rattle.fsb_laws.specs.Orderly.{Orderly}
-use Rattle.fsb_timely.specs.Grants.{ended_requests, is_end_at}
-use Rattle.fsb_timely.specs.Moments.{moment_at, requests_ending_at, responded_at}
-use Rattle.fsb_timely.specs.Runs.{Run, past_of, run_to}
-use Rattle.fsb_timely.specs.Timely.{Timely}
-use Rattle.fsb_timely.proofs.Interface.{moment-at}
-use Rattle.fsb_lawful.proofs.Interface.{any-from, any-listed, length-cut, orderly-at, run_to-agrees}
-use Rattle.fsb_coherent.specs.Awaits.{responded_in}
+use Rattle.fsb_tied.proofs.Words
+use Words.{ℕ, suc, zero, ◌+◌, ◌<◌, ◌≤◌, ◌≡◌, Bool, true, false, List, [], ◌∷◌, Option, Some, None, length, nat_eq, refl}
+use Words.{sym, ap, ◌∙◌, arith, inl, inr, add-one, list_any, filter_map, option_and_then, option_map_or, cases_Bool}
+use Words.{eqb-true, eq-eqb, all_where, is_at, all_where-failed, is_at-from, is_at-some, nth_where-at, nth_where-found}
+use Words.{Trace, responds_at, response_clock_of, live_clock_of, live_count, end_of, next_response, AgreeTo-sym}
+use Words.{end_of-response, end_of-stays, live_below_count, live_clock_of-stays, response_clock_of-stays}
+use Words.{snoop_end_of-clock, Orderly, ended_requests, is_end_at, moment_at, requests_ending_at, responded_at, Run}
+use Words.{past_of, run_to, Timely, moment-at, any-from, any-listed, length-cut, orderly-at, run_to-agrees}
+use Words.{responded_in}
 use Rattle.fsb_tied.proofs.WholeOrder.{answered, one-ends}
 
 -- the response that the moment of t has is that of the run up to t

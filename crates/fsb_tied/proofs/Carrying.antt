@@ -1,25 +1,11 @@
 -- Where an end is awaited after a snoop end, its link carries data exactly where data are awaited; and then data move.
-use Rattle.std.proofs.Common.{ℕ, ◌≡◌, Bool, true, false, not, ◌&&◌, ◌||◌, Option, Some, None, is_some, refl, ap}
-use Rattle.std.proofs.Common.{subst, ◌∙◌, arith}
-use Rattle.std.specs.Option.{option_map}
-use Rattle.fsb_count.specs.Options.{is_some_and}
-use Rattle.fsb_encode.specs.declared.request.Kind.{Kind}
-use Rattle.fsb_encode.specs.declared.request.Kind.TheVariants.{Invalidate, Read, Reply, Upgrade, WriteBack}
-use Rattle.fsb_encode.specs.declared.request.Request.{Request}
-use Rattle.fsb_hazard.specs.declared.choice.Turn.{Turn}
-use Rattle.fsb_hazard.specs.declared.choice.Turn.TheVariants.{Defer, Keep, Retry}
-use Rattle.fsb_line.specs.Links.{carries, upgrades}
-use Rattle.fsb_trace.specs.declared.outcome.Outcome.{Outcome}
-use Rattle.fsb_trace.specs.declared.outcome.Outcome.TheVariants.{Deferred, Granted, Handed, Replied, Retried}
-use Rattle.fsb_trace.specs.declared.outcome.Outcome.TheVariants.{Upgraded, Written}
-use Rattle.fsb_trace.specs.Outcome.{does_move, outcome_by_kind}
-use Rattle.fsb_trace.specs.Requests.{is_upgrade_kind}
-use Rattle.fsb_timely.specs.Moments.{is_got, is_upgraded, makes_grant}
-use Rattle.fsb_timely.specs.Past.{Claim, Grant, Past, SnoopEnd}
-use Rattle.fsb_timely.specs.Runs.{past_to}
-use Rattle.fsb_coherent.specs.Awaits.{Awaited, is_written, owner_at, purpose_of}
-use Rattle.fsb_coherent.specs.Relation.{giver_at, purpose_at, purpose_granted}
-use Rattle.fsb_coherent.specs.Settled.{is_always_kept, outcome_by_turn, outcome_under}
+use Rattle.fsb_tied.proofs.Words
+use Words.{ℕ, ◌≡◌, Bool, true, false, not, ◌&&◌, ◌||◌, Option, Some, None, is_some, refl, ap, subst, ◌∙◌, arith}
+use Words.{option_map, is_some_and, Kind, Invalidate, Read, Reply, Upgrade, WriteBack, Request, Turn, Defer, Keep}
+use Words.{Retry, carries, upgrades, Outcome, Deferred, Granted, Handed, Replied, Retried, Upgraded, Written, does_move}
+use Words.{outcome_by_kind, is_upgrade_kind, is_got, is_upgraded, makes_grant, Claim, Grant, Past, SnoopEnd, past_to}
+use Words.{Awaited, is_written, owner_at, purpose_of, giver_at, purpose_at, purpose_granted, is_always_kept}
+use Words.{outcome_by_turn, outcome_under}
 
 -- the link of agent a after a snoop end at t carries data where it is no upgrade that was won; and then data move
 pub record Carries (p : Past) (line t a : ℕ) (s : SnoopEnd) : Type 0 where

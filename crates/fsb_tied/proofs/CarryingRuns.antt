@@ -1,35 +1,13 @@
 -- In a timely run the link of a snoop end carries data exactly where the end that is awaited after it brings data.
-use Rattle.std.proofs.Common.{ℕ, ◌≡◌, Bool, true, false, not, ◌&&◌, if◌then◌else◌, nat_eq, List, Option, Some, None}
-use Rattle.std.proofs.Common.{is_some, refl, sym, ap, ◌∙◌, arith}
-use Rattle.std.proofs.lemmas.Bool.{both_ways}
-use Rattle.std.specs.Option.{option_and_then, option_map}
-use Rattle.fsb_count.specs.Options.{is_some_and}
-use Rattle.fsb_count.proofs.Interface.{any_where-found, first_where-none}
-use Rattle.fsb_encode.specs.declared.request.Kind.{Kind}
-use Rattle.fsb_encode.specs.declared.request.Kind.TheVariants.{Upgrade}
-use Rattle.fsb_encode.specs.declared.request.Request.{Request}
-use Rattle.fsb_hazard.specs.declared.choice.Turn.{Turn}
-use Rattle.fsb_line.specs.Links.{carries}
-use Rattle.fsb_signal.specs.declared.lines.TheConstants.Lines.{HITM}
-use Rattle.fsb_signal.specs.Samples.{line_at}
-use Rattle.fsb_trace.specs.At.{Trace, request_at}
-use Rattle.fsb_trace.specs.declared.outcome.Outcome.{Outcome}
-use Rattle.fsb_trace.specs.declared.outcome.Outcome.TheVariants.{Handed, Written}
-use Rattle.fsb_trace.specs.Outcome.{does_move, outcome_by_kind}
-use Rattle.fsb_trace.specs.Requests.{is_reply, is_reply_kind, live_clock_of, live_request_of}
-use Rattle.fsb_trace.proofs.Interface.{snoop_end_of-clock}
-use Rattle.fsb_timely.specs.Grants.{snooped_at}
-use Rattle.fsb_timely.specs.Hits.{is_dirty}
-use Rattle.fsb_timely.specs.Moments.{claim_at, gives_line, grant_for, grant_of, is_upgraded, live_claim_of}
-use Rattle.fsb_timely.specs.Moments.{served_number, wins_race, grant_to, is_owner_request, is_shared_at}
-use Rattle.fsb_timely.specs.Past.{Claim, Grant, Past, SnoopEnd}
-use Rattle.fsb_timely.specs.Runs.{Run, past_of, past_to}
-use Rattle.fsb_timely.specs.Snoops.{is_dirty_elsewhere}
-use Rattle.fsb_timely.specs.Timely.{Timely}
-use Rattle.fsb_timely.proofs.Interface.{tied-snoop}
-use Rattle.fsb_coherent.specs.Awaits.{Awaited, awaited_by, awaited_by_claim, awaited_by_grant, is_written, owner_at}
-use Rattle.fsb_coherent.specs.Settled.{outcome_by_turn, outcome_under, own_grant}
-use Rattle.fsb_coherent.proofs.Interface.{grant-made, outcome-made, turn-kept}
+use Rattle.fsb_tied.proofs.Words
+use Words.{ℕ, ◌≡◌, Bool, true, false, not, ◌&&◌, if◌then◌else◌, nat_eq, List, Option, Some, None, is_some, refl, sym}
+use Words.{ap, ◌∙◌, arith, both_ways, option_and_then, option_map, is_some_and, any_where-found, first_where-none, Kind}
+use Words.{Upgrade, Request, Turn, carries, HITM, line_at, Trace, request_at, Outcome, Handed, Written, does_move}
+use Words.{outcome_by_kind, is_reply, is_reply_kind, live_clock_of, live_request_of, snoop_end_of-clock, snooped_at}
+use Words.{is_dirty, claim_at, gives_line, grant_for, grant_of, is_upgraded, live_claim_of, served_number, wins_race}
+use Words.{grant_to, is_owner_request, is_shared_at, Claim, Grant, Past, SnoopEnd, Run, past_of, past_to}
+use Words.{is_dirty_elsewhere, Timely, tied-snoop, Awaited, awaited_by, awaited_by_claim, awaited_by_grant, is_written}
+use Words.{owner_at, outcome_by_turn, outcome_under, own_grant, grant-made, outcome-made, turn-kept}
 use Rattle.fsb_tied.proofs.Carrying.{ByGrant, ByWriteBack, Carries, Gives, by-write-back, settled-carries, written-is}
 use Rattle.fsb_tied.proofs.Chains.{link_of}
 use Rattle.fsb_tied.proofs.SnoopTold.{told-at}

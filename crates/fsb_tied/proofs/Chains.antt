@@ -1,13 +1,8 @@
 -- The links of a line that are left, from that of one snoop end on.
-use Rattle.std.proofs.Common.{ℕ, zero, suc, ◌<◌, ◌≡◌, true, false, List, [], ◌∷◌, ◌++◌, Some, refl, ap, subst, arith}
-use Rattle.std.proofs.Common.{inl, inr}
-use Rattle.std.proofs.lemmas.Bool.{cases_lt}
-use Rattle.std.specs.Option.{option_map_or}
-use Rattle.fsb_line.specs.declared.link.Link.{Link}
-use Rattle.fsb_timely.specs.Grants.{is_ended, snooped_at}
-use Rattle.fsb_timely.specs.Past.{Past, SnoopEnd}
-use Rattle.fsb_coherent.specs.Awaits.{Awaited, awaited_by}
-use Rattle.fsb_coherent.specs.Relation.{giver_at, link_for, link_left, links_left, purpose_at}
+use Rattle.fsb_tied.proofs.Words
+use Words.{ℕ, zero, suc, ◌<◌, ◌≡◌, true, false, List, [], ◌∷◌, ◌++◌, Some, refl, ap, subst, arith, inl, inr, cases_lt}
+use Words.{option_map_or, Link, is_ended, snooped_at, Past, SnoopEnd, Awaited, awaited_by, giver_at, link_for}
+use Words.{link_left, links_left, purpose_at}
 
 -- the link of a snoop end at t after which this end is awaited
 abbrev pub link_of : Past → ℕ → ℕ → SnoopEnd → Awaited → Link

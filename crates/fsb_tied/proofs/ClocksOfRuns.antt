@@ -1,10 +1,6 @@
 -- Each clock of a timely run has the facts on which the tie of a line rests.
-use Rattle.std.proofs.Common.{ℕ, ◌<◌, length}
-use Rattle.fsb_timely.specs.Runs.{Run, past_of}
-use Rattle.fsb_timely.specs.Timely.{Timely}
-use Rattle.fsb_timely.proofs.Interface.{past-begins}
-use Rattle.fsb_coherent.specs.Facts.{ClockFacts}
-use Rattle.fsb_lawful.specs.Beginning.{KeepsBounds}
+use Rattle.fsb_tied.proofs.Words
+use Words.{ℕ, ◌<◌, length, Run, past_of, Timely, past-begins, ClockFacts, KeepsBounds}
 use Rattle.fsb_tied.proofs.BeginFacts.{begins-in-order}
 use Rattle.fsb_tied.proofs.FactsOfAccesses.{accesses-served}
 use Rattle.fsb_tied.proofs.LinkOrder.{ends-in-order, responds-in-order}

@@ -1,24 +1,11 @@
 -- What holds of each access that a timely run completes at a clock holds of each entry of its log there.
-use Rattle.std.proofs.Common.{ℕ, ◌+◌, ◌<◌, ◌≡◌, Bool, true, false, not, ◌&&◌, List, [], ◌∷◌, ◌++◌, map, Option, Some}
-use Rattle.std.proofs.Common.{length, nat_eq, refl, sym, subst, arith}
-use Rattle.std.specs.Prelude.{⊤}
-use Rattle.std.specs.List.{filter, list_all}
-use Rattle.fsb_access.specs.Access.{accessed_line}
-use Rattle.fsb_access.specs.declared.access.Access.{Access}
-use Rattle.fsb_access.specs.declared.item.Item.{Item}
+use Rattle.fsb_tied.proofs.Words
+use Words.{ℕ, ◌+◌, ◌<◌, ◌≡◌, Bool, true, false, not, ◌&&◌, List, [], ◌∷◌, ◌++◌, map, Option, Some, length, nat_eq, refl}
+use Words.{sym, subst, arith, ⊤, filter, list_all, accessed_line, Access, Item, Done, Step, step_of, steps_from}
+use Words.{Completed, completed_at, completed_if, completed_of_item, entries_at, is_arrival, next_accesses}
+use Words.{of_all_agents, is_hit, Past, Run, past_of, Need, is_load, locked_need, needs_after, needs_of, next_item}
+use Words.{next_number, plain_need, Timely, same-list, whole-completions, entries_on}
 use Rattle.fsb_access.specs.declared.item.Item.TheVariants.{Idle, Locked, One}
-use Rattle.fsb_access.specs.declared.log.Done.{Done}
-use Rattle.fsb_access.specs.ScriptOrder.{Step, step_of, steps_from}
-use Rattle.fsb_timely.specs.Completions.{Completed, completed_at, completed_if, completed_of_item, entries_at}
-use Rattle.fsb_timely.specs.Completions.{is_arrival, next_accesses, of_all_agents}
-use Rattle.fsb_timely.specs.Hits.{is_hit}
-use Rattle.fsb_timely.specs.Past.{Past}
-use Rattle.fsb_timely.specs.Runs.{Run, past_of}
-use Rattle.fsb_timely.specs.Scripts.{Need, is_load, locked_need, needs_after, needs_of, next_item, next_number}
-use Rattle.fsb_timely.specs.Scripts.{plain_need}
-use Rattle.fsb_timely.specs.Timely.{Timely}
-use Rattle.fsb_timely.proofs.Interface.{same-list, whole-completions}
-use Rattle.fsb_coherent.specs.LineEvents.{entries_on}
 
 -- each element is so
 abbrev pub Each : {X : Type 0} → (X → Type 0) → List X → Type 0

@@ -1,28 +1,11 @@
 -- The deferral of a line in the words of the run: a request that is Deferred and awaits its reply; and while there is
 -- one the line is given to nobody.
-use Rattle.std.proofs.Common.{ℕ, ◌+◌, ◌<◌, ◌≤◌, ◌≡◌, ◌≢◌, Bool, true, false, Option, Some, None, refl, ap, ◌∙◌, ◌⊎◌}
-use Rattle.std.proofs.Common.{arith, inl, inr}
-use Rattle.std.proofs.lemmas.Bool.{and_from, both_ways, le-leb}
-use Rattle.fsb_count.specs.Clocks.{any_where, from_clock, last_where}
-use Rattle.fsb_count.proofs.Interface.{any_where-none}
-use Rattle.fsb_encode.specs.declared.request.Kind.{Kind}
-use Rattle.fsb_encode.specs.declared.request.Request.{Request}
-use Rattle.fsb_hazard.specs.declared.choice.Turn.TheVariants.{Retry}
-use Rattle.fsb_hazard.specs.Choice.{is_never_held_up}
-use Rattle.fsb_line.specs.Line.{LineDeferral}
-use Rattle.fsb_signal.specs.declared.lines.TheConstants.Lines.{HITM}
-use Rattle.fsb_signal.specs.Samples.{line_at}
-use Rattle.fsb_trace.specs.declared.outcome.Outcome.{Outcome}
-use Rattle.fsb_trace.specs.declared.outcome.Outcome.TheVariants.{Handed, Retried, Written}
-use Rattle.fsb_timely.specs.Past.{Claim, Past, SnoopEnd}
-use Rattle.fsb_timely.specs.Runs.{Run, past_of}
-use Rattle.fsb_timely.specs.Timely.{Timely}
-use Rattle.fsb_timely.proofs.Interface.{last_where-found}
-use Rattle.fsb_coherent.specs.Fitting.{fits_kind, fits_write_back}
-use Rattle.fsb_coherent.specs.Relation.{deferral_at, deferral_below, deferred_to, defers_line, replies_line}
-use Rattle.fsb_coherent.specs.Settled.{outcome_by_turn, outcome_under}
-use Rattle.fsb_lawful.specs.Beginning.{KeepsBounds}
-use Rattle.fsb_lawful.proofs.Interface.{wants-lawfully}
+use Rattle.fsb_tied.proofs.Words
+use Words.{ℕ, ◌+◌, ◌<◌, ◌≤◌, ◌≡◌, ◌≢◌, Bool, true, false, Option, Some, None, refl, ap, ◌∙◌, ◌⊎◌, arith, inl, inr}
+use Words.{and_from, both_ways, le-leb, any_where, from_clock, last_where, any_where-none, Kind, Request, Retry}
+use Words.{is_never_held_up, LineDeferral, HITM, line_at, Outcome, Handed, Retried, Written, Claim, Past, SnoopEnd, Run}
+use Words.{past_of, Timely, last_where-found, fits_kind, fits_write_back, deferral_at, deferral_below, deferred_to}
+use Words.{defers_line, replies_line, outcome_by_turn, outcome_under, KeepsBounds, wants-lawfully}
 use Rattle.fsb_tied.proofs.PendingLines.{HasNoReply, IsPutOff, pending-retried, put-off-as, put-off-at}
 use Rattle.fsb_tied.proofs.ReplyGrants.{replies-there, reply-behind}
 use Rattle.fsb_tied.proofs.SnoopClaims.{IsClaimed, IsSnooped}

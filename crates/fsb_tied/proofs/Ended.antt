@@ -1,25 +1,11 @@
 -- The ends of live requests, in the moments of a run and in its cut traces; what has ended has its snoop end behind it.
-use Rattle.std.proofs.Common.{ℕ, suc, ◌+◌, ◌<◌, ◌≤◌, ◌≡◌, true, Some, length, nat_eq, refl, ◌∙◌, arith}
-use Rattle.std.proofs.lemmas.Bool.{eq-eqb}
-use Rattle.fsb_count.specs.Options.{is_at, is_some_and}
-use Rattle.fsb_count.proofs.Interface.{any_where-at, any_where-found, is_at-from, is_at-some, nth_where-found}
-use Rattle.fsb_trace.specs.At.{Trace, responds_at}
-use Rattle.fsb_trace.specs.Outcome.{response_clock_of}
-use Rattle.fsb_trace.specs.Requests.{live_clock_of, live_count}
-use Rattle.fsb_trace.specs.Response.{end_of}
-use Rattle.fsb_trace.specs.Snoop.{snoop_end_of}
-use Rattle.fsb_trace.proofs.Interface.{AgreeTo-sym, end_of-response, end_of-stays, live_below_count}
-use Rattle.fsb_trace.proofs.Interface.{live_clock_of-stays, snoop_end_of-stays}
-use Rattle.fsb_laws.proofs.Interface.{end_after_clock, has_answer}
-use Rattle.fsb_timely.specs.Grants.{is_end_at, is_ended, snooped_at}
-use Rattle.fsb_timely.specs.Moments.{is_snoop_of, requests_ending_at}
-use Rattle.fsb_timely.specs.Past.{SnoopEnd}
-use Rattle.fsb_timely.specs.Runs.{Run, past_of, run_to}
-use Rattle.fsb_timely.specs.Tied.{IsSnoopOf}
-use Rattle.fsb_timely.specs.Timely.{Timely}
-use Rattle.fsb_timely.proofs.Interface.{snoop-tied}
-use Rattle.fsb_lawful.proofs.Interface.{IsListed, any-from, any-listed, cuts-agree, orderly-at, run_to-agrees}
-use Rattle.fsb_coherent.specs.Relation.{is_snooped_below}
+use Rattle.fsb_tied.proofs.Words
+use Words.{ℕ, suc, ◌+◌, ◌<◌, ◌≤◌, ◌≡◌, true, Some, length, nat_eq, refl, ◌∙◌, arith, eq-eqb, is_at, is_some_and}
+use Words.{any_where-at, any_where-found, is_at-from, is_at-some, nth_where-found, Trace, responds_at}
+use Words.{response_clock_of, live_clock_of, live_count, end_of, snoop_end_of, AgreeTo-sym, end_of-response}
+use Words.{end_of-stays, live_below_count, live_clock_of-stays, snoop_end_of-stays, end_after_clock, has_answer}
+use Words.{is_end_at, is_ended, snooped_at, is_snoop_of, requests_ending_at, SnoopEnd, Run, past_of, run_to, IsSnoopOf}
+use Words.{Timely, snoop-tied, IsListed, any-from, any-listed, cuts-agree, orderly-at, run_to-agrees, is_snooped_below}
 use Rattle.fsb_tied.proofs.Bridge.{ended-at}
 
 -- the live request that has its end at c

@@ -1,24 +1,10 @@
 -- The request whose end at a clock is awaited on a line: its snoop end, its claim, and whether memory takes its data.
-use Rattle.std.proofs.Common.{ℕ, ◌+◌, ◌<◌, ◌≤◌, ◌≡◌, true, false, nat_eq, List, [], ◌∷◌, Option, Some, None, length}
-use Rattle.std.proofs.Common.{refl, sym, ap, subst, ◌∙◌, arith}
-use Rattle.std.proofs.lemmas.Bool.{and_parts, eqb-true}
-use Rattle.std.specs.Option.{option_and_then}
-use Rattle.fsb_count.specs.Options.{is_some_and}
-use Rattle.fsb_trace.specs.Outcome.{does_take}
-use Rattle.fsb_trace.specs.Response.{end_of}
-use Rattle.fsb_trace.proofs.Interface.{end_of-response}
-use Rattle.fsb_timely.specs.Grants.{ended_requests, is_end_at, snooped_at}
-use Rattle.fsb_timely.specs.Moments.{claim_at, live_claim_of}
-use Rattle.fsb_timely.specs.Past.{Claim, Grant, Past, SnoopEnd}
-use Rattle.fsb_timely.specs.Runs.{Run, past_of}
-use Rattle.fsb_timely.specs.Tied.{IsSnoopOf}
-use Rattle.fsb_timely.specs.Timely.{Timely}
-use Rattle.fsb_timely.specs.Transfers.{settled_of}
-use Rattle.fsb_timely.proofs.Interface.{snoop-tied, tied-snoop}
-use Rattle.fsb_lawful.specs.Beginning.{KeepsBounds}
-use Rattle.fsb_lawful.proofs.Interface.{some-and}
-use Rattle.fsb_coherent.specs.Awaits.{Awaited, awaited_by}
-use Rattle.fsb_coherent.specs.Facts.{does_end_on}
+use Rattle.fsb_tied.proofs.Words
+use Words.{ℕ, ◌+◌, ◌<◌, ◌≤◌, ◌≡◌, true, false, nat_eq, List, [], ◌∷◌, Option, Some, None, length, refl, sym, ap, subst}
+use Words.{◌∙◌, arith, and_parts, eqb-true, option_and_then, is_some_and, does_take, end_of, end_of-response}
+use Words.{ended_requests, is_end_at, snooped_at, claim_at, live_claim_of, Claim, Grant, Past, SnoopEnd, Run, past_of}
+use Words.{IsSnoopOf, Timely, settled_of, snoop-tied, tied-snoop, KeepsBounds, some-and, Awaited, awaited_by}
+use Words.{does_end_on}
 use Rattle.fsb_tied.proofs.AnswersInOrder.{answers-in-order}
 use Rattle.fsb_tied.proofs.Awaiting.{awaited-there}
 use Rattle.fsb_tied.proofs.Bridge.{ended-number, number-ended}

@@ -1,8 +1,6 @@
 -- The accesses of each clock of a timely run are served.
-use Rattle.std.proofs.Common.{ℕ, ◌<◌, length, arith}
-use Rattle.fsb_timely.specs.Runs.{Run, past_of}
-use Rattle.fsb_timely.specs.Timely.{Timely}
-use Rattle.fsb_coherent.specs.Facts.{AccessesServed}
+use Rattle.fsb_tied.proofs.Words
+use Words.{ℕ, ◌<◌, length, arith, Run, past_of, Timely, AccessesServed}
 use Rattle.fsb_tied.proofs.ServedAccesses.{hits-served, others-served}
 use Rattle.fsb_tied.proofs.Unlinked.{arrived-ready, unlinked}
 

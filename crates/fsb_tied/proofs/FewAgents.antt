@@ -1,20 +1,11 @@
 -- An agent that holds a line is one of four.
-use Rattle.std.proofs.Common.{ℕ, zero, suc, ◌-◌, ◌<◌, ◌≤◌, ◌≡◌, Bool, true, false, Some, length, nat_lt, refl, sym}
-use Rattle.std.proofs.Common.{ap, subst, ◌∙◌, arith, inl, inr, add-one}
-use Rattle.std.proofs.lemmas.Bool.{cases_Bool, false_from_ne_true}
-use Rattle.fsb_signal.specs.declared.lines.TheConstants.Lines.{ADS, BPRI, LOCK}
-use Rattle.fsb_signal.specs.Samples.{line_at}
-use Rattle.fsb_trace.specs.declared.who.Who.TheVariants.{Symmetric}
-use Rattle.fsb_trace.specs.At.{Trace}
-use Rattle.fsb_trace.specs.Winner.{Requesters, agent_in_order, first_asking, last_if_asking, requesters_before}
-use Rattle.fsb_trace.specs.Winner.{then_begun, winner_after, winner_at, winner_by}
-use Rattle.fsb_trace.proofs.Interface.{requesters_before-begun, requesters_before-kept, requesters_before-start}
-use Rattle.fsb_trace.proofs.Interface.{winner_after-high, winner_after-low, winner_by-locked, winner_by-priority}
-use Rattle.fsb_trace.proofs.Interface.{winner_by-symmetric}
-use Rattle.fsb_timely.specs.Grants.{holds_line}
-use Rattle.fsb_timely.specs.Runs.{Run, past_of}
-use Rattle.fsb_timely.proofs.Interface.{holds_line-says}
-use Rattle.fsb_lawful.proofs.Interface.{granted-by}
+use Rattle.fsb_tied.proofs.Words
+use Words.{ℕ, zero, suc, ◌-◌, ◌<◌, ◌≤◌, ◌≡◌, Bool, true, false, Some, length, nat_lt, refl, sym, ap, subst, ◌∙◌, arith}
+use Words.{inl, inr, add-one, cases_Bool, false_from_ne_true, ADS, BPRI, LOCK, line_at, Symmetric, Trace, Requesters}
+use Words.{agent_in_order, first_asking, last_if_asking, requesters_before, then_begun, winner_after, winner_at}
+use Words.{winner_by, requesters_before-begun, requesters_before-kept, requesters_before-start, winner_after-high}
+use Words.{winner_after-low, winner_by-locked, winner_by-priority, winner_by-symmetric, holds_line, Run, past_of}
+use Words.{holds_line-says, granted-by}
 use Rattle.fsb_tied.proofs.Beginnings.{claimed}
 
 in-order : (first n : ℕ) → agent_in_order first n < 4

@@ -1,34 +1,17 @@
 -- A write-back begins only where no other agent's request for the line is open.
-use Rattle.std.proofs.Common.{ℕ, zero, suc, ◌+◌, ◌<◌, ◌≤◌, ◌≡◌, Bool, true, false, not, if◌then◌else◌, List, [], ◌∷◌}
-use Rattle.std.proofs.Common.{Option, Some, None, length, nat_eq, refl, sym, ap, ◌∙◌, inl, inr, arith}
-use Rattle.std.specs.List.{filter, filter_map, list_any}
-use Rattle.std.specs.Option.{option_map_or}
-use Rattle.std.proofs.lemmas.Bool.{and_from, both_ways, cases_Bool, eq-eqb, eqb-true, not-true}
+use Rattle.fsb_tied.proofs.Words
+use Words.{ℕ, zero, suc, ◌+◌, ◌<◌, ◌≤◌, ◌≡◌, Bool, true, false, not, if◌then◌else◌, List, [], ◌∷◌, Option, Some, None}
+use Words.{length, nat_eq, refl, sym, ap, ◌∙◌, inl, inr, arith, filter, filter_map, list_any, option_map_or, and_from}
+use Words.{both_ways, cases_Bool, eq-eqb, eqb-true, not-true, all_where, is_some_and, any_where-none, is_before-parts}
+use Words.{Request, OpenRequest, ADS, line_at, Who, Symmetric, has_ended, in_flight, is_dropped, is_in_flight}
+use Words.{is_cancelled, is_write_back_kind, winner_at, line_at-agree, live_clock_of-number, winner_at-agree}
+use Words.{is_claim_of_other, snooped_at, claim_at, is_snoop_of, is_snooped_in, is_unsnooped, moment_at, snoop_at}
+use Words.{Claim, Past, Run, moments_below, past_of, past_to, past_with, run_to, drives_ads, has_free_winner}
+use Words.{is_kept_back, may_begin, starts_requests, Timely, holds_at, holds_in, is_held_back, is_open_to_other}
+use Words.{unsnooped_at, want_of, claim_at-agree, done_below, is_held_back-alike, moment-at, moment_of, past-begins}
+use Words.{IsListed, any-listed, run_to-agrees, IsOpen, is_cancelled_below, is_snooped_below}
 use Rattle.std.proofs.lemmas.List.Folds.{list_any-append}
-use Rattle.fsb_count.specs.Clocks.{all_where}
-use Rattle.fsb_count.specs.Options.{is_some_and}
-use Rattle.fsb_count.proofs.Interface.{any_where-none, is_before-parts}
-use Rattle.fsb_encode.specs.declared.request.Request.{Request}
-use Rattle.fsb_line.specs.Line.{OpenRequest}
-use Rattle.fsb_signal.specs.declared.lines.TheConstants.Lines.{ADS}
-use Rattle.fsb_signal.specs.Samples.{line_at}
-use Rattle.fsb_trace.specs.declared.who.Who.{Who}
-use Rattle.fsb_trace.specs.declared.who.Who.TheVariants.{Symmetric}
-use Rattle.fsb_trace.specs.Flight.{has_ended, in_flight, is_dropped, is_in_flight}
-use Rattle.fsb_trace.specs.Requests.{is_cancelled, is_write_back_kind}
-use Rattle.fsb_trace.specs.Winner.{winner_at}
-use Rattle.fsb_trace.proofs.Interface.{line_at-agree, live_clock_of-number, winner_at-agree}
-use Rattle.fsb_timely.specs.Grants.{is_claim_of_other, snooped_at}
-use Rattle.fsb_timely.specs.Moments.{claim_at, is_snoop_of, is_snooped_in, is_unsnooped, moment_at, snoop_at}
-use Rattle.fsb_timely.specs.Past.{Claim, Past}
-use Rattle.fsb_timely.specs.Runs.{Run, moments_below, past_of, past_to, past_with, run_to}
-use Rattle.fsb_timely.specs.Starts.{drives_ads, has_free_winner, is_kept_back, may_begin, starts_requests}
-use Rattle.fsb_timely.specs.Timely.{Timely, holds_at, holds_in}
-use Rattle.fsb_timely.specs.Wants.{is_held_back, is_open_to_other, unsnooped_at, want_of}
-use Rattle.fsb_timely.proofs.Interface.{claim_at-agree, done_below, is_held_back-alike, moment-at, moment_of}
-use Rattle.fsb_timely.proofs.Interface.{past-begins, snooped-there as snooped-in-moments}
-use Rattle.fsb_lawful.proofs.Interface.{IsListed, any-listed, run_to-agrees}
-use Rattle.fsb_coherent.specs.Relation.{IsOpen, is_cancelled_below, is_snooped_below}
+use Rattle.fsb_timely.proofs.Interface.{snooped-there as snooped-in-moments}
 use Rattle.fsb_tied.proofs.Beginnings.{IsBegunWant, begun-there}
 use Rattle.fsb_tied.proofs.Ended.{end-below, ended-snooped}
 use Rattle.fsb_tied.proofs.Owing.{cancelled-below}

@@ -1,22 +1,10 @@
 -- The entries of a clock on a line: those of hits come before the others.
-use Rattle.std.proofs.Common.{◌≡◌, ℕ, ◌<◌, Bool, true, false, ◌&&◌, not, if◌then◌else◌, nat_eq, List, [], ◌∷◌, ◌++◌}
-use Rattle.std.proofs.Common.{map, Option, Some, None, length, refl, sym, ap, subst, inl, inr, arith}
-use Rattle.std.proofs.lemmas.Bool.{cases_Bool}
-use Rattle.std.specs.List.{filter, list_all}
-use Rattle.std.specs.Option.{option_map_or}
-use Rattle.fsb_access.specs.Access.{accessed_line}
-use Rattle.fsb_access.specs.declared.item.Item.{Item}
-use Rattle.fsb_access.specs.declared.log.Done.{Done}
-use Rattle.fsb_access.specs.ScriptOrder.{Step, steps_of_item}
-use Rattle.fsb_timely.specs.Completions.{Completed, completed_at, completed_if, completed_of_item, entries_at}
-use Rattle.fsb_timely.specs.Completions.{is_arrival, next_accesses, of_all_agents}
-use Rattle.fsb_timely.specs.Hits.{is_hit}
-use Rattle.fsb_timely.specs.Past.{Past}
-use Rattle.fsb_timely.specs.Runs.{Run, past_of}
-use Rattle.fsb_timely.specs.Scripts.{next_item, next_number}
-use Rattle.fsb_timely.specs.Timely.{Timely}
-use Rattle.fsb_timely.proofs.Interface.{same-list, whole-completions}
-use Rattle.fsb_coherent.specs.LineEvents.{entries_on}
+use Rattle.fsb_tied.proofs.Words
+use Words.{◌≡◌, ℕ, ◌<◌, Bool, true, false, ◌&&◌, not, if◌then◌else◌, nat_eq, List, [], ◌∷◌, ◌++◌, map, Option, Some}
+use Words.{None, length, refl, sym, ap, subst, inl, inr, arith, cases_Bool, filter, list_all, option_map_or}
+use Words.{accessed_line, Item, Done, Step, steps_of_item, Completed, completed_at, completed_if, completed_of_item}
+use Words.{entries_at, is_arrival, next_accesses, of_all_agents, is_hit, Past, Run, past_of, next_item, next_number}
+use Words.{Timely, same-list, whole-completions, entries_on}
 use Rattle.fsb_tied.proofs.CompletedAccesses.{entry_of}
 use Rattle.fsb_tied.proofs.ServedAccesses.{arrival-parts}
 use Rattle.fsb_tied.proofs.StoredClocks.{arrivals_on, hit_entries_on}

@@ -1,11 +1,8 @@
 -- What follows for a request of a past whose answers come in order: where its snoop end, its response and its end lie.
-use Rattle.std.proofs.Common.{ℕ, ◌+◌, ◌<◌, ◌≤◌, ◌≡◌, Bool, true, false, Some, arith}
-use Rattle.fsb_count.proofs.Interface.{any_where-at, any_where-found, first_where-found}
-use Rattle.fsb_timely.specs.Grants.{is_end_at, is_ended, snooped_at}
-use Rattle.fsb_timely.specs.Moments.{is_snoop_of}
-use Rattle.fsb_timely.specs.Past.{Past, SnoopEnd}
-use Rattle.fsb_lawful.proofs.Interface.{some-and}
-use Rattle.fsb_coherent.specs.Awaits.{Awaited, awaited_at, awaited_by, responded_in, snoop_end_below}
+use Rattle.fsb_tied.proofs.Words
+use Words.{ℕ, ◌+◌, ◌<◌, ◌≤◌, ◌≡◌, Bool, true, false, Some, arith, any_where-at, any_where-found, first_where-found}
+use Words.{is_end_at, is_ended, snooped_at, is_snoop_of, Past, SnoopEnd, some-and, Awaited, awaited_at, awaited_by}
+use Words.{responded_in, snoop_end_below}
 use Rattle.fsb_tied.proofs.AnswersInOrder.{AnswersInOrder}
 
 -- what can't be true is false

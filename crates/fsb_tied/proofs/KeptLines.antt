@@ -1,31 +1,12 @@
 -- The memory has of a line, at each clock, the bytes that were put there last; at the end copies and memory are kept.
-use Rattle.std.proofs.Common.{ℕ, zero, suc, ◌+◌, ◌<◌, ◌≤◌, ◌≡◌, true, false, nat_lt, List, [], ◌∷◌, Option, Some}
-use Rattle.std.proofs.Common.{None, is_some, length, refl, sym, ap, subst, ◌∙◌, arith, inl, inr}
-use Rattle.std.specs.Prelude.{cond, unwrap_or}
-use Rattle.std.specs.List.{list_all}
-use Rattle.std.specs.Option.{option_and_then}
-use Rattle.std.proofs.lemmas.Bool.{both_ways, cases_Bool, le-ltb, lt-ltb}
-use Rattle.fsb_count.specs.Options.{is_before, is_some_and}
-use Rattle.fsb_access.specs.declared.log.Done.{Done}
-use Rattle.fsb_access.specs.ByteMemory.{start_memory}
-use Rattle.fsb_access.specs.Replay.{replay, start_of}
-use Rattle.fsb_line.specs.declared.link.Link.{Link}
-use Rattle.fsb_line.specs.Line.{Bytes, MemoryLine, brought}
-use Rattle.fsb_line.specs.Links.{carries, feeds_memory}
-use Rattle.fsb_trace.specs.Outcome.{does_take, response_clock_of}
-use Rattle.fsb_trace.specs.Response.{end_of}
-use Rattle.fsb_trace.proofs.Interface.{end_of-response, live_below_count}
-use Rattle.fsb_timely.specs.Carried.{memory_below}
-use Rattle.fsb_timely.specs.Completions.{is_in_time}
-use Rattle.fsb_timely.specs.Grants.{holds_line, is_ready}
-use Rattle.fsb_timely.specs.Kept.{bytes_now, bytes_put, is_put, line_bytes, number_put, put_clock}
-use Rattle.fsb_timely.specs.Past.{Past}
-use Rattle.fsb_timely.specs.Runs.{Run, past_of}
-use Rattle.fsb_coherent.specs.Facts.{does_respond_on}
-use Rattle.fsb_coherent.specs.LineEvents.{events_below}
-use Rattle.fsb_coherent.specs.Relation.{is_moved_below}
-use Rattle.fsb_tied.specs.RunBytes.{HasValues, bytes_below, bytes_put_below, is_put_below, machine_line}
-use Rattle.fsb_tied.specs.RunBytes.{number_put_below, put_clock_below}
+use Rattle.fsb_tied.proofs.Words
+use Words.{ℕ, zero, suc, ◌+◌, ◌<◌, ◌≤◌, ◌≡◌, true, false, nat_lt, List, [], ◌∷◌, Option, Some, None, is_some, length}
+use Words.{refl, sym, ap, subst, ◌∙◌, arith, inl, inr, cond, unwrap_or, list_all, option_and_then, both_ways}
+use Words.{cases_Bool, le-ltb, lt-ltb, is_before, is_some_and, Done, start_memory, replay, start_of, Link, Bytes}
+use Words.{MemoryLine, brought, carries, feeds_memory, does_take, response_clock_of, end_of, end_of-response}
+use Words.{live_below_count, memory_below, is_in_time, holds_line, is_ready, bytes_now, bytes_put, is_put, line_bytes}
+use Words.{number_put, put_clock, Past, Run, past_of, does_respond_on, events_below, is_moved_below, HasValues}
+use Words.{bytes_below, bytes_put_below, is_put_below, machine_line, number_put_below, put_clock_below}
 use Rattle.fsb_tied.proofs.ClocksOfRuns.{clock-facts}
 use Rattle.fsb_tied.proofs.EndingLines.{EndsLine, ending-takes-none, ends-line, taken-ends}
 use Rattle.fsb_tied.proofs.HitsFirst.{all-kept}

@@ -1,19 +1,9 @@
 -- Each clock of a timely run stores into a line what its entries on it store, in the order of the log.
-use Rattle.std.proofs.Common.{ℕ, ◌<◌, ◌≡◌, ◌++◌, List, length, sym, ap, ◌∙◌, append_assoc}
-use Rattle.fsb_line.specs.Events.{Event}
-use Rattle.fsb_line.specs.Line.{MemoryLine}
-use Rattle.fsb_line.specs.LineRuns.{run, stored_by_all}
-use Rattle.fsb_line.proofs.Interface.{ordered_run}
-use Rattle.fsb_timely.specs.Past.{Past}
-use Rattle.fsb_timely.specs.Runs.{Run, past_of}
-use Rattle.fsb_timely.specs.Timely.{Timely}
-use Rattle.fsb_coherent.specs.Facts.{ClockFacts}
-use Rattle.fsb_coherent.specs.KeepsTie.{IsTiedTo}
-use Rattle.fsb_coherent.specs.LineEvents.{ends_on, events_at, others_on, snoops_on}
-use Rattle.fsb_coherent.specs.Relation.{chain_below}
-use Rattle.fsb_coherent.specs.BeforeSnoop.{events_before_snoop, events_from_snoop}
-use Rattle.fsb_coherent.proofs.Interface.{events-in-two, first-events, links_new, run-append, snoop-step}
-use Rattle.fsb_lawful.specs.Beginning.{KeepsBounds}
+use Rattle.fsb_tied.proofs.Words
+use Words.{ℕ, ◌<◌, ◌≡◌, ◌++◌, List, length, sym, ap, ◌∙◌, append_assoc, Event, MemoryLine, run, stored_by_all}
+use Words.{ordered_run, Past, Run, past_of, Timely, ClockFacts, IsTiedTo, ends_on, events_at, others_on, snoops_on}
+use Words.{chain_below, events_before_snoop, events_from_snoop, events-in-two, first-events, links_new, run-append}
+use Words.{snoop-step, KeepsBounds}
 use Rattle.fsb_tied.proofs.ClocksOfRuns.{clock-facts}
 use Rattle.fsb_tied.proofs.LineValues.{KeepsStores}
 use Rattle.fsb_tied.proofs.StoredClocks.{StoresInOrder, clock-stores}

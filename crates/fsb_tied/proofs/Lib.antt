@@ -1,3 +1,4 @@
+pub mod Words
 pub mod AnswersInOrder
 pub mod AwaitedAccesses
 pub mod Awaiting

@@ -1,18 +1,11 @@
 -- The bytes of a line in the replay of a log: what the stores on it make of them.
-use Rattle.std.proofs.Common.{◌≡◌, ℕ, zero, suc, ◌+◌, ◌*◌, ◌/◌, ◌%◌, ◌<◌, true, Bool, ◌&&◌, not, if◌then◌else◌, List}
-use Rattle.std.proofs.Common.{[], ◌∷◌, map, fold, slice_index, refl, ap, ◌∙◌, arith, add-zero}
-use Rattle.std.proofs.lemmas.Bool.{and_parts}
+use Rattle.fsb_tied.proofs.Words
+use Words.{◌≡◌, ℕ, zero, suc, ◌+◌, ◌*◌, ◌/◌, ◌%◌, ◌<◌, true, Bool, ◌&&◌, not, if◌then◌else◌, List, [], ◌∷◌, map, fold}
+use Words.{slice_index, refl, ap, ◌∙◌, arith, add-zero, and_parts, filter, list_all, accessed_line, addr_of, is_place}
+use Words.{size_of, ByteMemory, bytes_at, put_value, Access, Done, ReplayState, replay, replayed_values, served_state}
+use Words.{served_value, bytes_at-beside, put_value-inside, put_value-outside, is_load, change_of, changes_of}
+use Words.{line_bytes}
 use Rattle.std.specs.Prelude.{nat_eq}
-use Rattle.std.specs.List.{filter, list_all}
-use Rattle.fsb_access.specs.Access.{accessed_line, addr_of, is_place, size_of}
-use Rattle.fsb_access.specs.ByteMemory.{ByteMemory, bytes_at, put_value}
-use Rattle.fsb_access.specs.declared.access.Access.{Access}
-use Rattle.fsb_access.specs.declared.log.Done.{Done}
-use Rattle.fsb_access.specs.Replay.{ReplayState, replay, replayed_values, served_state, served_value}
-use Rattle.fsb_access.proofs.Interface.{bytes_at-beside, put_value-inside, put_value-outside}
-use Rattle.fsb_timely.specs.Scripts.{is_load}
-use Rattle.fsb_coherent.specs.LineEvents.{change_of, changes_of}
-use Rattle.fsb_timely.specs.Kept.{line_bytes}
 
 -- memories that agree on some addresses of theirs have the same bytes there
 bytes_at-shifted : (memory other : ByteMemory) (addr place count : ℕ)

@@ -1,27 +1,11 @@
 -- The bytes of a line in the machine are those of the one byte memory that serves the log.
-use Rattle.std.proofs.Common.{◌≡◌, ℕ, zero, suc, ◌<◌, ◌≤◌, true, ◌&&◌, nat_eq, nat_le, nat_lt, List, [], ◌∷◌, ◌++◌}
-use Rattle.std.proofs.Common.{length, refl, sym, ap, subst, ◌∙◌, inl, inr, arith}
-use Rattle.std.proofs.lemmas.Bool.{and_parts, cases_lt, le-ltb, leb-true, lt-ltb}
-use Rattle.std.proofs.lemmas.List.Elements.{filter-append}
-use Rattle.std.specs.List.{filter, list_all}
-use Rattle.fsb_access.specs.Access.{accessed_line}
-use Rattle.fsb_access.specs.declared.log.Done.{Done}
-use Rattle.fsb_access.specs.ByteMemory.{start_memory}
-use Rattle.fsb_access.specs.Replay.{Served, start_of}
-use Rattle.fsb_access.proofs.Interface.{Served-front}
-use Rattle.fsb_line.specs.Line.{Bytes, MemoryLine, unheld}
-use Rattle.fsb_line.specs.LineRuns.{run, stored_by_all}
-use Rattle.fsb_line.proofs.Interface.{run-now}
-use Rattle.fsb_timely.specs.Carried.{memory_below}
-use Rattle.fsb_timely.specs.Completions.{is_in_time}
-use Rattle.fsb_timely.specs.Kept.{line_bytes}
-use Rattle.fsb_timely.specs.Past.{Past}
-use Rattle.fsb_timely.specs.Runs.{Run, past_of}
-use Rattle.fsb_timely.proofs.Interface.{at, below, below-more}
-use Rattle.fsb_coherent.specs.KeepsTie.{IsTiedTo, KeepsTie}
-use Rattle.fsb_coherent.specs.LineEvents.{changes_of, entries_on, events_at, events_below}
-use Rattle.fsb_coherent.proofs.Interface.{may-below, run-append}
-use Rattle.fsb_tied.specs.RunBytes.{line_of_plan, stores_of}
+use Rattle.fsb_tied.proofs.Words
+use Words.{◌≡◌, ℕ, zero, suc, ◌<◌, ◌≤◌, true, ◌&&◌, nat_eq, nat_le, nat_lt, List, [], ◌∷◌, ◌++◌, length, refl, sym, ap}
+use Words.{subst, ◌∙◌, inl, inr, arith, and_parts, cases_lt, le-ltb, leb-true, lt-ltb, filter-append, filter, list_all}
+use Words.{accessed_line, Done, start_memory, Served, start_of, Served-front, Bytes, MemoryLine, unheld, run}
+use Words.{stored_by_all, run-now, memory_below, is_in_time, line_bytes, Past, Run, past_of, at, below, below-more}
+use Words.{IsTiedTo, KeepsTie, changes_of, entries_on, events_at, events_below, may-below, run-append, line_of_plan}
+use Words.{stores_of}
 use Rattle.fsb_tied.proofs.LineBytes.{is_placed, replay-line, stores_into}
 use Rattle.fsb_tied.proofs.StoredClocks.{changes-append}
 

@@ -1,11 +1,7 @@
 -- An agent has one line of a cache set at most, held or asked for.
-use Rattle.std.proofs.Common.{ℕ, ◌≤◌, ◌≡◌, true, false, length, inr, arith}
-use Rattle.std.proofs.lemmas.Bool.{false_from_ne_true}
-use Rattle.fsb_timely.specs.Grants.{holds_line, is_rival}
-use Rattle.fsb_timely.specs.Runs.{Run, past_of}
-use Rattle.fsb_timely.specs.Timely.{Timely}
-use Rattle.fsb_timely.specs.Wants.{is_asked_for, owed}
-use Rattle.fsb_lawful.specs.Beginning.{KeepsBounds}
+use Rattle.fsb_tied.proofs.Words
+use Words.{ℕ, ◌≤◌, ◌≡◌, true, false, length, inr, arith, false_from_ne_true, holds_line, is_rival, Run, past_of, Timely}
+use Words.{is_asked_for, owed, KeepsBounds}
 use Rattle.fsb_tied.proofs.Slots.{one-slot}
 
 pub held-alone : (r : Run) (a line other n : ℕ) → Timely r → KeepsBounds r.plan → n ≤ length r.trace

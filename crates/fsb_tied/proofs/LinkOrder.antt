@@ -1,17 +1,9 @@
 -- In a timely run responses and ends come in the order of the links of each line.
-use Rattle.std.proofs.Common.{ℕ, ◌+◌, ◌<◌, ◌≤◌, ◌≡◌, Bool, true, false, List, [], ◌∷◌, Option, Some, length, refl}
-use Rattle.std.proofs.Common.{sym, ap, ◌∙◌, arith}
-use Rattle.std.proofs.lemmas.Bool.{both_ways, eq-eqb, ne_eqb}
-use Rattle.fsb_line.specs.declared.link.Link.{Link}
-use Rattle.fsb_line.specs.Links.{carries}
-use Rattle.fsb_timely.specs.Grants.{ended_requests, is_end_at, is_ended, snooped_at}
-use Rattle.fsb_timely.specs.Past.{Past, SnoopEnd}
-use Rattle.fsb_timely.specs.Runs.{Run, past_of}
-use Rattle.fsb_timely.specs.Timely.{Timely}
-use Rattle.fsb_timely.proofs.Interface.{is_ended-more}
-use Rattle.fsb_coherent.specs.Awaits.{Awaited, awaited_by, responded_in}
-use Rattle.fsb_coherent.specs.Facts.{EndsInOrder, RespondsAsOldest, does_end_on}
-use Rattle.fsb_coherent.specs.Relation.{chain_below, is_moved_below, link_left, link_for, links_left}
+use Rattle.fsb_tied.proofs.Words
+use Words.{ℕ, ◌+◌, ◌<◌, ◌≤◌, ◌≡◌, Bool, true, false, List, [], ◌∷◌, Option, Some, length, refl, sym, ap, ◌∙◌, arith}
+use Words.{both_ways, eq-eqb, ne_eqb, Link, carries, ended_requests, is_end_at, is_ended, snooped_at, Past, SnoopEnd}
+use Words.{Run, past_of, Timely, is_ended-more, Awaited, awaited_by, responded_in, EndsInOrder, RespondsAsOldest}
+use Words.{does_end_on, chain_below, is_moved_below, link_left, link_for, links_left}
 use Rattle.fsb_tied.proofs.AnswersInOrder.{AnswersInOrder, answers-in-order}
 use Rattle.fsb_tied.proofs.Awaiting.{awaited-there}
 use Rattle.fsb_tied.proofs.CarryingRuns.{carries-awaited}

@@ -1,24 +1,12 @@
 -- An agent that awaits an end on a line has asked for the line.
-use Rattle.std.proofs.Common.{ℕ, zero, suc, ◌+◌, ◌<◌, ◌≤◌, ◌≡◌, ◌==◌, Bool, true, false, ◌||◌, List, [], ◌∷◌, ◌++◌}
-use Rattle.std.proofs.Common.{Option, Some, None, length, nat_eq, refl, sym, ap, subst, ◌∙◌, inl, inr, arith}
-use Rattle.std.specs.Option.{option_and_then, option_map_or}
-use Rattle.std.proofs.lemmas.Bool.{both_ways}
-use Rattle.fsb_count.specs.Options.{is_some_and}
-use Rattle.fsb_line.specs.declared.link.Link.{Link}
-use Rattle.fsb_line.specs.Links.{is_linked}
-use Rattle.fsb_trace.specs.Requests.{live_clock_of}
-use Rattle.fsb_trace.proofs.Interface.{AgreeTo-sym, live_clock_of-stays, snoop_end_of-rises}
-use Rattle.fsb_timely.specs.Grants.{grant_at, is_ended, is_granted, snooped_at}
-use Rattle.fsb_timely.specs.Moments.{claim_at, turns_in}
-use Rattle.fsb_timely.specs.Past.{Claim, Grant, Past, SnoopEnd}
-use Rattle.fsb_timely.specs.Runs.{Run, past_of, run_to}
-use Rattle.fsb_timely.specs.Timely.{Timely}
-use Rattle.fsb_timely.specs.Wants.{is_asked_for, owed}
-use Rattle.fsb_timely.proofs.Interface.{snoop-tied}
-use Rattle.fsb_lawful.specs.Beginning.{KeepsBounds}
-use Rattle.fsb_lawful.proofs.Interface.{IsGrantedBy, Serves, ServesOther, granted-by, run_to-agrees}
-use Rattle.fsb_coherent.specs.Awaits.{Awaited, awaited_by, awaited_by_claim, awaited_by_grant, is_written}
-use Rattle.fsb_coherent.specs.Relation.{chain_below, link_for, link_left, links_left}
+use Rattle.fsb_tied.proofs.Words
+use Words.{ℕ, zero, suc, ◌+◌, ◌<◌, ◌≤◌, ◌≡◌, ◌==◌, Bool, true, false, ◌||◌, List, [], ◌∷◌, ◌++◌, Option, Some, None}
+use Words.{length, nat_eq, refl, sym, ap, subst, ◌∙◌, inl, inr, arith, option_and_then, option_map_or, both_ways}
+use Words.{is_some_and, Link, is_linked, live_clock_of, AgreeTo-sym, live_clock_of-stays, snoop_end_of-rises, grant_at}
+use Words.{is_ended, is_granted, snooped_at, claim_at, turns_in, Claim, Grant, Past, SnoopEnd, Run, past_of, run_to}
+use Words.{Timely, is_asked_for, owed, snoop-tied, KeepsBounds, IsGrantedBy, Serves, ServesOther, granted-by}
+use Words.{run_to-agrees, Awaited, awaited_by, awaited_by_claim, awaited_by_grant, is_written, chain_below, link_for}
+use Words.{link_left, links_left}
 use Rattle.fsb_tied.proofs.ReplyGrants.{settled-there}
 use Rattle.fsb_tied.proofs.Awaiting.{awaits-grant}
 use Rattle.fsb_tied.proofs.Ended.{end-below, ends-at, snooped-there}

@@ -1,24 +1,10 @@
 -- The memory has of a line the bytes that were put there last.
-use Rattle.std.proofs.Common.{ℕ, suc, ◌+◌, ◌<◌, ◌≤◌, ◌≡◌, Bool, true, false, not, ◌&&◌, [], ◌∷◌, ◌++◌, Option, Some}
-use Rattle.std.proofs.Common.{None, is_none, is_some, length, refl, sym, ap, ◌∙◌, arith}
-use Rattle.std.specs.Prelude.{cond, unwrap_or}
-use Rattle.std.proofs.lemmas.Bool.{eq-eqb}
-use Rattle.fsb_line.specs.declared.link.Link.{Link}
-use Rattle.fsb_line.specs.Line.{MemoryLine, brought}
-use Rattle.fsb_line.specs.Links.{carries, feeds_memory}
-use Rattle.fsb_line.specs.LineRuns.{run}
-use Rattle.fsb_trace.specs.Outcome.{does_move, does_take, response_clock_of}
-use Rattle.fsb_trace.specs.declared.outcome.Outcome.{Outcome}
-use Rattle.fsb_trace.proofs.Interface.{end_of-response}
-use Rattle.fsb_timely.specs.Past.{Past}
-use Rattle.fsb_timely.specs.Runs.{Run, past_of}
-use Rattle.fsb_coherent.specs.Awaits.{Awaited}
-use Rattle.fsb_coherent.specs.Facts.{does_end_on}
-use Rattle.fsb_coherent.specs.LineEvents.{snoops_on}
-use Rattle.fsb_coherent.specs.Relation.{giver_at, links_left}
-use Rattle.fsb_coherent.specs.BeforeSnoop.{events_before_snoop}
-use Rattle.fsb_coherent.proofs.Interface.{links_new}
-use Rattle.fsb_tied.specs.RunBytes.{HasValues, machine_line}
+use Rattle.fsb_tied.proofs.Words
+use Words.{ℕ, suc, ◌+◌, ◌<◌, ◌≤◌, ◌≡◌, Bool, true, false, not, ◌&&◌, [], ◌∷◌, ◌++◌, Option, Some, None, is_none}
+use Words.{is_some, length, refl, sym, ap, ◌∙◌, arith, cond, unwrap_or, eq-eqb, Link, MemoryLine, brought, carries}
+use Words.{feeds_memory, run, does_move, does_take, response_clock_of, Outcome, end_of-response, Past, Run, past_of}
+use Words.{Awaited, does_end_on, snoops_on, giver_at, links_left, events_before_snoop, links_new, HasValues}
+use Words.{machine_line}
 use Rattle.fsb_tied.proofs.AnswersInOrder.{answers-in-order}
 use Rattle.fsb_tied.proofs.Awaiting.{awaited-there}
 use Rattle.fsb_tied.proofs.Bridge.{number-ended, number-responded}

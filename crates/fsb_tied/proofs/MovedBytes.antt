@@ -1,19 +1,9 @@
 -- The data of a line that are on the bus are, up to their end, those that their response put there.
-use Rattle.std.proofs.Common.{ℕ, zero, suc, ◌+◌, ◌<◌, ◌≤◌, ◌≡◌, true, false, not, ◌||◌, List, ◌++◌, Some, length, sym}
-use Rattle.std.proofs.Common.{ap, ◌∙◌, arith}
-use Rattle.std.proofs.lemmas.Bool.{and_parts, both_ways, not-true}
-use Rattle.fsb_line.specs.Events.{Event}
-use Rattle.fsb_line.specs.Line.{MemoryLine}
-use Rattle.fsb_line.specs.LineRuns.{run}
-use Rattle.fsb_timely.specs.Grants.{is_ended}
-use Rattle.fsb_timely.specs.Past.{Past}
-use Rattle.fsb_timely.specs.Runs.{Run, past_of}
-use Rattle.fsb_coherent.specs.Facts.{ClockFacts, does_end_on, does_respond_on}
-use Rattle.fsb_coherent.specs.LineEvents.{ends_on, events_at, events_below, others_on, responds_on, snoops_on}
-use Rattle.fsb_coherent.specs.Relation.{is_moved_below}
-use Rattle.fsb_coherent.specs.BeforeSnoop.{events_before_snoop}
-use Rattle.fsb_coherent.proofs.Interface.{run-append}
-use Rattle.fsb_tied.specs.RunBytes.{HasValues, bytes_below, machine_line}
+use Rattle.fsb_tied.proofs.Words
+use Words.{ℕ, zero, suc, ◌+◌, ◌<◌, ◌≤◌, ◌≡◌, true, false, not, ◌||◌, List, ◌++◌, Some, length, sym, ap, ◌∙◌, arith}
+use Words.{and_parts, both_ways, not-true, Event, MemoryLine, run, is_ended, Past, Run, past_of, ClockFacts}
+use Words.{does_end_on, does_respond_on, ends_on, events_at, events_below, others_on, responds_on, snoops_on}
+use Words.{is_moved_below, events_before_snoop, run-append, HasValues, bytes_below, machine_line}
 use Rattle.fsb_tied.proofs.AnswersInOrder.{answers-in-order}
 use Rattle.fsb_tied.proofs.Awaiting.{awaited-there}
 use Rattle.fsb_tied.proofs.InTurn.{ended-later, not-so, snooped-before}

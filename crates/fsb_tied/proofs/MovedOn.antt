@@ -1,12 +1,8 @@
 -- Data of one request at most are on the bus, from its response up to its end.
-use Rattle.std.proofs.Common.{ℕ, ◌+◌, ◌<◌, ◌≡◌, true, false, not, ◌&&◌, ◌||◌, Some, sym, ap, subst, ◌∙◌, arith, inl}
-use Rattle.std.proofs.Common.{inr}
-use Rattle.std.proofs.lemmas.Bool.{and_from, both_ways, cases_lt, or_left, or_right}
-use Rattle.fsb_timely.specs.Grants.{is_end_at, is_ended, snooped_at}
-use Rattle.fsb_timely.specs.Past.{Past, SnoopEnd}
-use Rattle.fsb_coherent.specs.Awaits.{responded_in}
-use Rattle.fsb_coherent.specs.Facts.{does_end_on, does_respond_on}
-use Rattle.fsb_coherent.specs.Relation.{is_moved_below}
+use Rattle.fsb_tied.proofs.Words
+use Words.{ℕ, ◌+◌, ◌<◌, ◌≡◌, true, false, not, ◌&&◌, ◌||◌, Some, sym, ap, subst, ◌∙◌, arith, inl, inr, and_from}
+use Words.{both_ways, cases_lt, or_left, or_right, is_end_at, is_ended, snooped_at, Past, SnoopEnd, responded_in}
+use Words.{does_end_on, does_respond_on, is_moved_below}
 use Rattle.fsb_tied.proofs.AnswersInOrder.{AnswersInOrder}
 use Rattle.fsb_tied.proofs.Awaiting.{awaited-there}
 use Rattle.fsb_tied.proofs.InTurn.{earlier-ended, ended-by, ended-later, ended-parts, not-so, snooped-before}

@@ -1,16 +1,9 @@
 -- Data that move on a line, and the ends that are awaited there: what it says that they do.
-use Rattle.std.proofs.Common.{ℕ, ◌<◌, ◌≡◌, Bool, true, false, List, [], ◌∷◌, Some, nat_eq, refl, ap, ◌∙◌, arith}
-use Rattle.std.proofs.lemmas.Bool.{eq-eqb, eqb-true}
-use Rattle.std.specs.List.{list_any}
-use Rattle.fsb_count.specs.Options.{is_at, is_some_and}
-use Rattle.fsb_count.proofs.Interface.{any_where-at, any_where-found, is_at-from, is_at-some}
-use Rattle.fsb_timely.specs.Grants.{ended_requests, is_end_at, is_ended, snooped_at}
-use Rattle.fsb_timely.specs.Past.{Past, SnoopEnd}
-use Rattle.fsb_lawful.proofs.Interface.{some-and}
-use Rattle.fsb_coherent.specs.Awaits.{Awaited, awaited_at, awaited_by, responded_in}
-use Rattle.fsb_coherent.specs.Facts.{does_end_on, does_respond_on}
-use Rattle.fsb_coherent.specs.LineEvents.{moves_on}
-use Rattle.fsb_coherent.specs.Relation.{is_moved_below, is_moved_for, is_responded_below}
+use Rattle.fsb_tied.proofs.Words
+use Words.{ℕ, ◌<◌, ◌≡◌, Bool, true, false, List, [], ◌∷◌, Some, nat_eq, refl, ap, ◌∙◌, arith, eq-eqb, eqb-true}
+use Words.{list_any, is_at, is_some_and, any_where-at, any_where-found, is_at-from, is_at-some, ended_requests}
+use Words.{is_end_at, is_ended, snooped_at, Past, SnoopEnd, some-and, Awaited, awaited_at, awaited_by, responded_in}
+use Words.{does_end_on, does_respond_on, moves_on, is_moved_below, is_moved_for, is_responded_below}
 use Rattle.fsb_tied.proofs.InTurn.{HasAwaited, has-awaited}
 
 -- data of the line are put on the bus at n

@@ -1,16 +1,8 @@
 -- What coherence says of a timely run, in the words of the run: who has a line for itself, and who writes one back.
-use Rattle.std.proofs.Common.{ℕ, ◌≡◌, ◌≢◌, true, false, sym, ◌∙◌, arith}
-use Rattle.fsb_count.proofs.Interface.{any_where-off}
+use Rattle.fsb_tied.proofs.Words
+use Words.{ℕ, ◌≡◌, ◌≢◌, true, false, sym, ◌∙◌, arith, any_where-off, MemoryLine, is_modified, is_sole, modified_is_sole}
+use Words.{Past, holds_line, is_exclusive, is_dirty, is_held_elsewhere, IsTiedTo, IsOpen}
 use Rattle.fsb_line.specs.declared.purpose.Purpose.TheVariants.{WriteBack}
-use Rattle.fsb_line.specs.Line.{MemoryLine}
-use Rattle.fsb_line.specs.States.{is_modified, is_sole}
-use Rattle.fsb_line.proofs.Interface.{modified_is_sole}
-use Rattle.fsb_timely.specs.Past.{Past}
-use Rattle.fsb_timely.specs.Grants.{holds_line, is_exclusive}
-use Rattle.fsb_timely.specs.Hits.{is_dirty}
-use Rattle.fsb_timely.specs.Snoops.{is_held_elsewhere}
-use Rattle.fsb_coherent.specs.KeepsTie.{IsTiedTo}
-use Rattle.fsb_coherent.specs.Relation.{IsOpen}
 
 -- whoever has an open write-back of a line is the only one that holds it
 alone-with-write-back : (p : Past) (line n a b first : ℕ) (x : MemoryLine) → IsTiedTo p line n x

@@ -1,39 +1,18 @@
 -- A reply answers one request alone: while a Deferred request awaits its reply no other one begins with its ID.
-use Rattle.std.proofs.Common.{ℕ, suc, ◌+◌, ◌-◌, ◌<◌, ◌≤◌, ◌≡◌, Bool, true, false, not, Option, Some, length, nat_lt}
-use Rattle.std.proofs.Common.{refl, sym, ap, subst, ◌∙◌, arith, inl, inr}
-use Rattle.std.proofs.lemmas.Bool.{and_from, and_left, and_parts, and_right, both_ways, cases_Bool, eq-eqb}
-use Rattle.std.proofs.lemmas.Bool.{false_from_ne_true, lt-ltb}
-use Rattle.fsb_count.specs.Options.{is_before, is_some_and}
-use Rattle.fsb_count.proofs.Interface.{is_before-parts, nth_where-found}
-use Rattle.fsb_encode.specs.declared.request.Kind.{Kind}
-use Rattle.fsb_encode.specs.declared.request.Request.{Request}
-use Rattle.fsb_hazard.specs.declared.choice.Turn.TheVariants.{Keep}
-use Rattle.fsb_hazard.specs.Choice.{is_never_held_up}
-use Rattle.fsb_signal.specs.declared.lines.TheConstants.Lines.{ADS, HITM}
-use Rattle.fsb_signal.specs.Samples.{line_at}
-use Rattle.fsb_trace.specs.Winner.{winner_at}
-use Rattle.fsb_trace.specs.At.{Trace, request_at}
-use Rattle.fsb_trace.specs.Flight.{is_dropped, is_finished, is_outstanding, last_clock_of, reply_end_of}
-use Rattle.fsb_trace.specs.Flight.{reply_number_of}
-use Rattle.fsb_trace.specs.Outcome.{is_deferral, is_deferred, outcome_by_kind}
-use Rattle.fsb_trace.specs.Requests.{have_same_id, is_cancelled, is_live, is_reply, is_reply_kind, live_clock_of}
-use Rattle.fsb_trace.specs.Requests.{live_number_of, live_request_of}
-use Rattle.fsb_trace.specs.Response.{end_of}
-use Rattle.fsb_trace.specs.Rules.{is_id_taken_by}
-use Rattle.fsb_trace.proofs.Interface.{AgreeTo-sym, end_of-response, line_at-agree, live_clock_of-rises}
-use Rattle.fsb_trace.proofs.Interface.{live_clock_of-stays, live_request_of-at, request_at-agree}
-use Rattle.fsb_trace.proofs.Interface.{response_clock_of-stays, snoop_end_of-clock, snoop_end_of-stays}
-use Rattle.fsb_trace.proofs.Interface.{winner_at-agree}
-use Rattle.fsb_laws.proofs.Interface.{end_after_clock, last_clock_of-deferred, last_clock_of-plain}
-use Rattle.fsb_timely.specs.Grants.{snooped_at}
-use Rattle.fsb_timely.specs.Past.{SnoopEnd}
-use Rattle.fsb_timely.specs.Runs.{Run, past_of, past_to, run_to}
-use Rattle.fsb_timely.specs.Starts.{request_begun, would_begin}
-use Rattle.fsb_timely.specs.Timely.{Timely}
-use Rattle.fsb_coherent.specs.Settled.{outcome_by_turn, outcome_under}
-use Rattle.fsb_lawful.specs.Beginning.{WantsLawfully}
-use Rattle.fsb_lawful.proofs.Interface.{IsWanted, and-then, begun-winner, cuts-agree, id-free, length-cut, not-true}
-use Rattle.fsb_lawful.proofs.Interface.{orderly-at, run_to-agrees, told-as-settled, turned-at, wanted-by}
+use Rattle.fsb_tied.proofs.Words
+use Words.{ℕ, suc, ◌+◌, ◌-◌, ◌<◌, ◌≤◌, ◌≡◌, Bool, true, false, not, Option, Some, length, nat_lt, refl, sym, ap, subst}
+use Words.{◌∙◌, arith, inl, inr, and_from, and_left, and_parts, and_right, both_ways, cases_Bool, eq-eqb}
+use Words.{false_from_ne_true, lt-ltb, is_before, is_some_and, is_before-parts, nth_where-found, Kind, Request, Keep}
+use Words.{is_never_held_up, ADS, HITM, line_at, winner_at, Trace, request_at, is_dropped, is_finished, is_outstanding}
+use Words.{last_clock_of, reply_end_of, reply_number_of, is_deferral, is_deferred, outcome_by_kind, have_same_id}
+use Words.{is_cancelled, is_live, is_reply, is_reply_kind, live_clock_of, live_number_of, live_request_of, end_of}
+use Words.{is_id_taken_by, AgreeTo-sym, end_of-response, line_at-agree, live_clock_of-rises, live_clock_of-stays}
+use Words.{live_request_of-at, request_at-agree, response_clock_of-stays, snoop_end_of-clock, snoop_end_of-stays}
+use Words.{winner_at-agree, end_after_clock, last_clock_of-deferred, last_clock_of-plain, snooped_at, SnoopEnd, Run}
+use Words.{past_of, past_to, run_to, request_begun, would_begin, Timely, outcome_by_turn, outcome_under, WantsLawfully}
+use Words.{IsWanted, and-then, begun-winner, cuts-agree, id-free, length-cut, orderly-at, run_to-agrees}
+use Words.{told-as-settled, turned-at, wanted-by}
+use Rattle.fsb_lawful.proofs.Interface.{not-true}
 use Rattle.fsb_tied.proofs.RepliesSeen.{HasReply, has-reply, reply-clock-stays}
 use Rattle.fsb_tied.proofs.SnoopClaims.{IsShown, IsSnooped, asked-at, shown-at}
 use Rattle.fsb_tied.proofs.SnoopOutcomes.{outcome-shown, turn-fits}

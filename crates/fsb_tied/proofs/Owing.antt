@@ -1,33 +1,15 @@
 -- A request that has begun, and is neither cancelled nor ended, is one that its agent owes.
-use Rattle.std.proofs.Common.{ℕ, zero, suc, ◌+◌, ◌<◌, ◌≤◌, ◌≡◌, Bool, true, false, ◌&&◌, List, [], ◌∷◌, Some, None}
-use Rattle.std.proofs.Common.{length, nat_eq, refl, sym, ap, subst, ◌∙◌, inl, inr, arith}
-use Rattle.std.specs.List.{filter, list_any}
-use Rattle.std.proofs.lemmas.Bool.{and_from, and_parts, both_ways, cases_Bool, cases_lt, eq-eqb, eqb-true}
-use Rattle.std.proofs.lemmas.Bool.{false_from_ne_true}
-use Rattle.fsb_count.specs.Options.{is_at, is_some_and}
-use Rattle.fsb_count.proofs.Interface.{any_where-at, is_at-from, is_before-parts}
-use Rattle.fsb_encode.specs.declared.request.Request.{Request}
-use Rattle.fsb_signal.specs.declared.lines.TheConstants.Lines.{ADS, AERR}
-use Rattle.fsb_signal.specs.Samples.{line_at}
-use Rattle.fsb_line.specs.Line.{OpenRequest}
-use Rattle.fsb_trace.specs.At.{Trace, request_at}
-use Rattle.fsb_trace.specs.Flight.{is_dropped, is_finished, is_outstanding, last_clock_of, outstanding}
-use Rattle.fsb_trace.specs.Outcome.{is_deferred}
-use Rattle.fsb_trace.specs.Requests.{is_cancelled, is_live, is_reply, is_reply_kind, live_clock_of, live_number_of}
-use Rattle.fsb_trace.proofs.Interface.{line_at-agree, live_clock_of-number, request_at-agree}
-use Rattle.fsb_laws.proofs.Interface.{deferred_response, last_clock_of-plain, request_at-last}
-use Rattle.fsb_timely.specs.Grants.{begun_at, is_ended}
-use Rattle.fsb_timely.specs.Moments.{cancelled_at, moment_at, owing_at}
-use Rattle.fsb_timely.specs.Past.{Claim, Owing}
-use Rattle.fsb_timely.specs.Runs.{Run, moments_below, past_of, past_with, run_to}
-use Rattle.fsb_timely.specs.Timely.{Timely}
-use Rattle.fsb_timely.specs.Wants.{is_asked_for, owed}
-use Rattle.fsb_timely.proofs.Interface.{cancelled-told, moment-at, moment_of}
-use Rattle.fsb_lawful.specs.Beginning.{KeepsBounds}
-use Rattle.fsb_lawful.proofs.Interface.{IsListed, any-from, any-kept, any-listed, length-cut, outstanding-of}
-use Rattle.fsb_lawful.proofs.Interface.{owing-then, run_to-agrees}
-use Rattle.fsb_coherent.specs.Awaits.{cancelled_in}
-use Rattle.fsb_coherent.specs.Relation.{IsOpen, is_cancelled_below}
+use Rattle.fsb_tied.proofs.Words
+use Words.{ℕ, zero, suc, ◌+◌, ◌<◌, ◌≤◌, ◌≡◌, Bool, true, false, ◌&&◌, List, [], ◌∷◌, Some, None, length, nat_eq, refl}
+use Words.{sym, ap, subst, ◌∙◌, inl, inr, arith, filter, list_any, and_from, and_parts, both_ways, cases_Bool, cases_lt}
+use Words.{eq-eqb, eqb-true, false_from_ne_true, is_at, is_some_and, any_where-at, is_at-from, is_before-parts, Request}
+use Words.{ADS, AERR, line_at, OpenRequest, Trace, request_at, is_dropped, is_finished, is_outstanding, last_clock_of}
+use Words.{outstanding, is_deferred, is_cancelled, is_live, is_reply, is_reply_kind, live_clock_of, live_number_of}
+use Words.{line_at-agree, live_clock_of-number, request_at-agree, deferred_response, last_clock_of-plain}
+use Words.{request_at-last, begun_at, is_ended, cancelled_at, moment_at, owing_at, Claim, Owing, Run, moments_below}
+use Words.{past_of, past_with, run_to, Timely, is_asked_for, owed, cancelled-told, moment-at, moment_of, KeepsBounds}
+use Words.{IsListed, any-from, any-kept, any-listed, length-cut, outstanding-of, owing-then, run_to-agrees}
+use Words.{cancelled_in, IsOpen, is_cancelled_below}
 use Rattle.fsb_tied.proofs.Beginnings.{IsBegunWant, begun-shown, begun-want}
 use Rattle.fsb_tied.proofs.Ended.{end-below, ended-snooped, response-within}
 

@@ -1,16 +1,8 @@
 -- Who has a line for itself in a timely run.
-use Rattle.std.proofs.Common.{ℕ, ◌≤◌, ◌≡◌, ◌≢◌, true, false, [], Some, length}
-use Rattle.fsb_line.specs.Line.{LineDeferral, MemoryLine, unheld}
-use Rattle.fsb_line.specs.LineRuns.{run}
-use Rattle.fsb_timely.specs.Grants.{holds_line, is_exclusive}
-use Rattle.fsb_timely.specs.Hits.{is_dirty}
-use Rattle.fsb_timely.specs.Runs.{Run, past_of}
-use Rattle.fsb_timely.specs.Timely.{Timely}
-use Rattle.fsb_lawful.specs.Beginning.{KeepsBounds}
-use Rattle.fsb_coherent.specs.KeepsTie.{IsTiedTo}
-use Rattle.fsb_coherent.specs.LineEvents.{events_below}
-use Rattle.fsb_coherent.specs.Relation.{deferral_below}
-use Rattle.fsb_coherent.proofs.Interface.{only_holder, pending_shared}
+use Rattle.fsb_tied.proofs.Words
+use Words.{ℕ, ◌≤◌, ◌≡◌, ◌≢◌, true, false, [], Some, length, LineDeferral, MemoryLine, unheld, run, holds_line}
+use Words.{is_exclusive, is_dirty, Run, past_of, Timely, KeepsBounds, IsTiedTo, events_below, deferral_below}
+use Words.{only_holder, pending_shared}
 use Rattle.fsb_tied.proofs.OneOwner.{one-dirty}
 use Rattle.fsb_tied.proofs.TiedRuns.{events-may-happen}
 

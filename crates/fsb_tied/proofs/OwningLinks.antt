@@ -1,21 +1,9 @@
 -- In a timely run the link of a grant that owns its line owns it.
-use Rattle.std.proofs.Common.{ℕ, ◌≡◌, Bool, true, false, Option, Some, refl, sym, ◌∙◌, arith}
-use Rattle.std.specs.Option.{option_map}
-use Rattle.fsb_count.specs.Options.{is_some_and}
-use Rattle.fsb_encode.specs.declared.request.Request.{Request}
-use Rattle.fsb_line.specs.States.{kind_owns}
-use Rattle.fsb_trace.specs.At.{Trace, request_at}
-use Rattle.fsb_trace.specs.declared.outcome.Outcome.{Outcome}
-use Rattle.fsb_trace.specs.Requests.{is_reply, is_reply_kind}
-use Rattle.fsb_timely.specs.Grants.{is_owning, snooped_at}
-use Rattle.fsb_timely.specs.Moments.{gives_line, grant_to, is_owner_request}
-use Rattle.fsb_timely.specs.Past.{Claim, Grant, Past, SnoopEnd}
-use Rattle.fsb_timely.specs.Runs.{Run, past_of}
-use Rattle.fsb_timely.proofs.Interface.{tied-snoop}
-use Rattle.fsb_coherent.specs.Awaits.{purpose_of}
-use Rattle.fsb_coherent.specs.Relation.{purpose_at, purpose_granted}
-use Rattle.fsb_coherent.specs.Settled.{own_grant}
-use Rattle.fsb_coherent.proofs.Interface.{grant-made}
+use Rattle.fsb_tied.proofs.Words
+use Words.{ℕ, ◌≡◌, Bool, true, false, Option, Some, refl, sym, ◌∙◌, arith, option_map, is_some_and, Request, kind_owns}
+use Words.{Trace, request_at, Outcome, is_reply, is_reply_kind, is_owning, snooped_at, gives_line, grant_to}
+use Words.{is_owner_request, Claim, Grant, Past, SnoopEnd, Run, past_of, tied-snoop, purpose_of, purpose_at}
+use Words.{purpose_granted, own_grant, grant-made}
 use Rattle.fsb_tied.proofs.CarryingRuns.{claims-grant}
 
 -- a grant of a request that is no reply owns where the request does

@@ -1,32 +1,17 @@
 -- A line with a deferral that is not replied to is pending: requests for it are retried.
-use Rattle.std.proofs.Common.{ℕ, zero, suc, ◌+◌, ◌<◌, ◌≤◌, ◌≡◌, true, false, not, List, Option, Some, length}
-use Rattle.std.proofs.Common.{slice_index, take, refl, sym, ap, subst, ◌∙◌, arith, inl, inr}
-use Rattle.std.specs.Option.{option_and_then}
-use Rattle.std.proofs.lemmas.Bool.{and_from, cases_lt, false_from_ne_true}
-use Rattle.std.proofs.lemmas.List.{take-append-le, take_all}
-use Rattle.fsb_count.specs.Options.{is_before, is_some_and}
-use Rattle.fsb_count.proofs.Interface.{any_where-at, is_at-from, is_before-from, is_before-parts}
-use Rattle.fsb_encode.specs.declared.request.Request.{Request}
+use Rattle.fsb_tied.proofs.Words
+use Words.{ℕ, zero, suc, ◌+◌, ◌<◌, ◌≤◌, ◌≡◌, true, false, not, List, Option, Some, length, slice_index, take, refl, sym}
+use Words.{ap, subst, ◌∙◌, arith, inl, inr, option_and_then, and_from, cases_lt, false_from_ne_true, take-append-le}
+use Words.{take_all, is_before, is_some_and, any_where-at, is_at-from, is_before-from, is_before-parts, Request, Retry}
+use Words.{is_never_held_up, Trace, request_at, reply_number_of, is_deferral, is_settled_deferred, settled_by}
+use Words.{settled_outcome_of, line_of, live_clock_of, live_count, snoop_end_of, AgreeTo-sym, live_below_count}
+use Words.{live_clock_of-stays, request_at-agree, settled_outcome_of-ended, snoop_end_of-stays, claim_at}
+use Words.{effective_choice, number_of_turn, snoop_end_with, turns_in, Claim, SnoopEnd, Run, moments_below, past_of}
+use Words.{past_to, run_to, Timely, length-moments, line_of-agree, moment-snooped, settled_by-agree, snoop_of}
+use Words.{snooped-there, deferral_at, deferred_to, defers_line, and-then, past-cut, run_to-agrees, some-and, turned-at}
 use Rattle.fsb_hazard.specs.declared.choice.Choice.{Choice}
-use Rattle.fsb_hazard.specs.declared.choice.Turn.TheVariants.{Retry}
-use Rattle.fsb_hazard.specs.Choice.{is_never_held_up}
 use Rattle.fsb_script.specs.declared.plan.Window.{Window}
-use Rattle.fsb_trace.specs.At.{Trace, request_at}
 use Rattle.fsb_trace.specs.Deferral.{is_pending, keeps_pending}
-use Rattle.fsb_trace.specs.Flight.{reply_number_of}
-use Rattle.fsb_trace.specs.Outcome.{is_deferral, is_settled_deferred, settled_by, settled_outcome_of}
-use Rattle.fsb_trace.specs.Requests.{line_of, live_clock_of, live_count}
-use Rattle.fsb_trace.specs.Snoop.{snoop_end_of}
-use Rattle.fsb_trace.proofs.Interface.{AgreeTo-sym, live_below_count, live_clock_of-stays, request_at-agree}
-use Rattle.fsb_trace.proofs.Interface.{settled_outcome_of-ended, snoop_end_of-stays}
-use Rattle.fsb_timely.specs.Moments.{claim_at, effective_choice, number_of_turn, snoop_end_with, turns_in}
-use Rattle.fsb_timely.specs.Past.{Claim, SnoopEnd}
-use Rattle.fsb_timely.specs.Runs.{Run, moments_below, past_of, past_to, run_to}
-use Rattle.fsb_timely.specs.Timely.{Timely}
-use Rattle.fsb_timely.proofs.Interface.{length-moments, line_of-agree, moment-snooped, settled_by-agree, snoop_of}
-use Rattle.fsb_timely.proofs.Interface.{snooped-there}
-use Rattle.fsb_coherent.specs.Relation.{deferral_at, deferred_to, defers_line}
-use Rattle.fsb_lawful.proofs.Interface.{and-then, past-cut, run_to-agrees, some-and, turned-at}
 use Rattle.fsb_tied.proofs.RepliesSeen.{reply-snooped}
 use Rattle.fsb_tied.proofs.SnoopClaims.{IsSnooped, snooped-in}
 

@@ -1,14 +1,11 @@
 -- The accesses of a log that follows lawful scripts lie within one line each.
-use Rattle.std.proofs.Common.{◌≡◌, ℕ, zero, suc, ◌+◌, Bool, true, false, ◌⊎◌, List, [], ◌∷◌, ◌++◌, map, take, length}
-use Rattle.std.proofs.Common.{slice_get, Option, Some, None, unwrap_or, refl, arith}
-use Rattle.std.proofs.lemmas.Bool.{and_parts, cases_Bool, eq-eqb}
+use Rattle.fsb_tied.proofs.Words
+use Words.{◌≡◌, ℕ, zero, suc, ◌+◌, Bool, true, false, ◌⊎◌, List, [], ◌∷◌, ◌++◌, map, take, length, slice_get, Option}
+use Words.{Some, None, refl, arith, and_parts, cases_Bool, eq-eqb, filter, list_all, addr_of, is_lawful_access}
+use Words.{is_place, size_of, Access, Item, Done, InOrder, Step, accesses_from, accesses_of, script_of, step_of}
+use Words.{steps_from}
+use Rattle.std.proofs.Common.{unwrap_or}
 use Rattle.std.specs.Prelude.{◌==◌, nat_le}
-use Rattle.std.specs.List.{filter, list_all}
-use Rattle.fsb_access.specs.Access.{addr_of, is_lawful_access, is_place, size_of}
-use Rattle.fsb_access.specs.declared.access.Access.{Access}
-use Rattle.fsb_access.specs.declared.item.Item.{Item}
-use Rattle.fsb_access.specs.declared.log.Done.{Done}
-use Rattle.fsb_access.specs.ScriptOrder.{InOrder, Step, accesses_from, accesses_of, script_of, step_of, steps_from}
 use Rattle.fsb_script.specs.Bounds.{is_lawful_item, is_lawful_script}
 use Rattle.fsb_tied.proofs.LineBytes.{is_placed}
 

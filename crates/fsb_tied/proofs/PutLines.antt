@@ -1,16 +1,8 @@
 -- The last live request that put a line into memory, one clock on.
-use Rattle.std.proofs.Common.{ℕ, zero, suc, ◌+◌, ◌<◌, ◌≡◌, Bool, true, false, ◌&&◌, nat_eq, Option, Some, None, refl}
-use Rattle.std.proofs.Common.{ap, ◌∙◌, arith}
-use Rattle.fsb_count.specs.Clocks.{last_where}
-use Rattle.fsb_count.specs.Options.{is_before, is_some_and}
-use Rattle.fsb_count.proofs.Interface.{last_where-failed, last_where-passed}
-use Rattle.fsb_trace.specs.Outcome.{does_take}
-use Rattle.fsb_trace.specs.Requests.{live_count}
-use Rattle.fsb_trace.specs.Response.{end_of}
-use Rattle.fsb_timely.specs.Moments.{live_claim_of}
-use Rattle.fsb_timely.specs.Runs.{Run, past_of}
-use Rattle.fsb_timely.specs.Transfers.{settled_of}
-use Rattle.fsb_tied.specs.RunBytes.{is_put_below, number_put_below}
+use Rattle.fsb_tied.proofs.Words
+use Words.{ℕ, zero, suc, ◌+◌, ◌<◌, ◌≡◌, Bool, true, false, ◌&&◌, nat_eq, Option, Some, None, refl, ap, ◌∙◌, arith}
+use Words.{last_where, is_before, is_some_and, last_where-failed, last_where-passed, does_take, live_count, end_of}
+use Words.{live_claim_of, Run, past_of, settled_of, is_put_below, number_put_below}
 
 -- live request i, with this end, is for the line and memory takes its data
 abbrev pub takes_line : Run → ℕ → ℕ → Bool

@@ -1,25 +1,11 @@
 -- A request that was put off is owed while its reply has no end; so is each one that had its snoop end and has no end.
-use Rattle.std.proofs.Common.{ℕ, zero, suc, ◌+◌, ◌<◌, ◌≤◌, ◌≡◌, true, false, Some, length, refl, sym, ap, subst, ◌∙◌}
-use Rattle.std.proofs.Common.{inl, inr, arith}
-use Rattle.std.proofs.lemmas.Bool.{both_ways, cases_Bool}
-use Rattle.fsb_count.proofs.Interface.{any_where-off}
-use Rattle.fsb_line.specs.Line.{LineDeferral}
-use Rattle.fsb_signal.specs.declared.lines.TheConstants.Lines.{AERR}
-use Rattle.fsb_signal.specs.Samples.{line_at}
-use Rattle.fsb_trace.specs.Flight.{last_clock_of, reply_end_of, reply_number_of}
-use Rattle.fsb_trace.specs.Outcome.{is_deferred}
-use Rattle.fsb_trace.specs.Response.{end_of}
-use Rattle.fsb_trace.proofs.Interface.{AgreeTo-sym, live_clock_of-stays, snoop_end_of-stays}
-use Rattle.fsb_laws.proofs.Interface.{last_clock_of-deferred, last_clock_of-plain}
-use Rattle.fsb_timely.specs.Grants.{is_ended, snooped_at}
-use Rattle.fsb_timely.specs.Past.{Claim, SnoopEnd}
-use Rattle.fsb_timely.specs.Runs.{Run, past_of, run_to}
-use Rattle.fsb_timely.specs.Timely.{Timely}
-use Rattle.fsb_timely.specs.Wants.{is_asked_for, owed}
-use Rattle.fsb_timely.proofs.Interface.{tied-snoop}
-use Rattle.fsb_lawful.specs.Beginning.{KeepsBounds}
-use Rattle.fsb_lawful.proofs.Interface.{and-then, run_to-agrees}
-use Rattle.fsb_coherent.specs.Relation.{deferral_below, is_cancelled_below}
+use Rattle.fsb_tied.proofs.Words
+use Words.{ℕ, zero, suc, ◌+◌, ◌<◌, ◌≤◌, ◌≡◌, true, false, Some, length, refl, sym, ap, subst, ◌∙◌, inl, inr, arith}
+use Words.{both_ways, cases_Bool, any_where-off, LineDeferral, AERR, line_at, last_clock_of, reply_end_of}
+use Words.{reply_number_of, is_deferred, end_of, AgreeTo-sym, live_clock_of-stays, snoop_end_of-stays}
+use Words.{last_clock_of-deferred, last_clock_of-plain, is_ended, snooped_at, Claim, SnoopEnd, Run, past_of, run_to}
+use Words.{Timely, is_asked_for, owed, tied-snoop, KeepsBounds, and-then, run_to-agrees, deferral_below}
+use Words.{is_cancelled_below}
 use Rattle.fsb_tied.proofs.Deferrals.{deferral-awaits}
 use Rattle.fsb_tied.proofs.Beginnings.{begun-from, begun-want}
 use Rattle.fsb_tied.proofs.Ended.{ends-at}

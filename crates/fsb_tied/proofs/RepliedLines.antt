@@ -1,42 +1,16 @@
 -- The snoop end of a reply that grants a line: it is for the line's deferral, and HIT# tells what it told there.
-use Rattle.std.proofs.Common.{ℕ, ◌+◌, ◌<◌, ◌≤◌, ◌≡◌, Bool, true, false, ◌&&◌, ◌||◌, Option, Some, None, length}
-use Rattle.std.proofs.Common.{slice_index, refl, sym, ap, ◌∙◌, arith}
-use Rattle.std.specs.Option.{option_and_then}
-use Rattle.std.proofs.lemmas.Bool.{both_ways}
+use Rattle.fsb_tied.proofs.Words
+use Words.{ℕ, ◌+◌, ◌<◌, ◌≤◌, ◌≡◌, Bool, true, false, ◌&&◌, ◌||◌, Option, Some, None, length, slice_index, refl, sym, ap}
+use Words.{◌∙◌, arith, option_and_then, both_ways, is_at, is_some_and, first_where-same, is_at-from, is_at-some, Kind}
+use Words.{Reply, Request, Turn, Keep, kind_owns, HIT, HITM, line_at, Replied, request_at, reply_number_of, is_deferral}
+use Words.{is_settled_deferred, outcome_by_kind, is_reply, is_reply_kind, line_at_snoop_end, AgreeTo-sym, line_at-agree}
+use Words.{live_clock_of-stays, live_request_of-at, live_request_of-stays, snoop_end_of-rises, snoop_end_of-stays}
+use Words.{is_owning, snooped_at, grant_to, is_answered_by, is_owner_request, is_shared_at, number_of_turn}
+use Words.{served_number, turns_in, Grant, SnoopEnd, Run, past_of, past_to, run_to, is_held_elsewhere, number_served_at}
+use Words.{was_hit_before, Timely, number-found, snoop-tied, purpose_of, IsRepliedOn, deferred_to, purpose_at}
+use Words.{is_always_kept, outcome_by_turn, outcome_under, outcome-made, turn-kept, KeepsBounds, past-cut}
+use Words.{run_to-agrees, turned-at}
 use Rattle.std.proofs.Math.Bool.{or-false}
-use Rattle.fsb_count.specs.Options.{is_at, is_some_and}
-use Rattle.fsb_count.proofs.Interface.{first_where-same, is_at-from, is_at-some}
-use Rattle.fsb_encode.specs.declared.request.Kind.{Kind}
-use Rattle.fsb_encode.specs.declared.request.Kind.TheVariants.{Reply}
-use Rattle.fsb_encode.specs.declared.request.Request.{Request}
-use Rattle.fsb_hazard.specs.declared.choice.Turn.{Turn}
-use Rattle.fsb_hazard.specs.declared.choice.Turn.TheVariants.{Keep}
-use Rattle.fsb_line.specs.States.{kind_owns}
-use Rattle.fsb_signal.specs.declared.lines.TheConstants.Lines.{HIT, HITM}
-use Rattle.fsb_signal.specs.Samples.{line_at}
-use Rattle.fsb_trace.specs.declared.outcome.Outcome.TheVariants.{Replied}
-use Rattle.fsb_trace.specs.At.{request_at}
-use Rattle.fsb_trace.specs.Flight.{reply_number_of}
-use Rattle.fsb_trace.specs.Outcome.{is_deferral, is_settled_deferred, outcome_by_kind}
-use Rattle.fsb_trace.specs.Requests.{is_reply, is_reply_kind}
-use Rattle.fsb_trace.specs.Snoop.{line_at_snoop_end}
-use Rattle.fsb_trace.proofs.Interface.{AgreeTo-sym, line_at-agree, live_clock_of-stays, live_request_of-at}
-use Rattle.fsb_trace.proofs.Interface.{live_request_of-stays, snoop_end_of-rises, snoop_end_of-stays}
-use Rattle.fsb_timely.specs.Grants.{is_owning, snooped_at}
-use Rattle.fsb_timely.specs.Moments.{grant_to, is_answered_by, is_owner_request, is_shared_at, number_of_turn}
-use Rattle.fsb_timely.specs.Moments.{served_number, turns_in}
-use Rattle.fsb_timely.specs.Past.{Grant, SnoopEnd}
-use Rattle.fsb_timely.specs.Runs.{Run, past_of, past_to, run_to}
-use Rattle.fsb_timely.specs.Snoops.{is_held_elsewhere, number_served_at, was_hit_before}
-use Rattle.fsb_timely.specs.Timely.{Timely}
-use Rattle.fsb_timely.proofs.Interface.{number-found, snoop-tied}
-use Rattle.fsb_coherent.specs.Awaits.{purpose_of}
-use Rattle.fsb_coherent.specs.Facts.{IsRepliedOn}
-use Rattle.fsb_coherent.specs.Relation.{deferred_to, purpose_at}
-use Rattle.fsb_coherent.specs.Settled.{is_always_kept, outcome_by_turn, outcome_under}
-use Rattle.fsb_coherent.proofs.Interface.{outcome-made, turn-kept}
-use Rattle.fsb_lawful.specs.Beginning.{KeepsBounds}
-use Rattle.fsb_lawful.proofs.Interface.{past-cut, run_to-agrees, turned-at}
 use Rattle.fsb_tied.proofs.PendingLines.{deferred-so-far}
 use Rattle.fsb_tied.proofs.RepliesSeen.{reply-stays, same-both}
 use Rattle.fsb_tied.proofs.ReplyEnds.{IsReplyEnd, reply-deferral, reply-end-at}

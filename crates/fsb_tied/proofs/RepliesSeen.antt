@@ -1,20 +1,12 @@
 -- A reply that is seen in the samples up to a clock is the reply of the whole run.
-use Rattle.std.proofs.Common.{ℕ, ◌+◌, ◌<◌, ◌≤◌, ◌≡◌, Bool, true, ◌&&◌, Some, length, refl, sym, ap, ◌∙◌, arith}
-use Rattle.std.specs.Option.{option_map}
-use Rattle.fsb_count.specs.Options.{is_before}
-use Rattle.fsb_count.proofs.Interface.{count_where-same, first_where-carried, first_where-found, is_before-from}
-use Rattle.fsb_count.proofs.Interface.{is_before-parts}
-use Rattle.fsb_signal.specs.declared.lines.TheConstants.Lines.{ADS}
-use Rattle.fsb_signal.specs.Samples.{line_at}
+use Rattle.fsb_tied.proofs.Words
+use Words.{ℕ, ◌+◌, ◌<◌, ◌≤◌, ◌≡◌, Bool, true, ◌&&◌, Some, length, refl, sym, ap, ◌∙◌, arith, option_map, is_before}
+use Words.{count_where-same, first_where-carried, first_where-found, is_before-from, is_before-parts, ADS, line_at}
+use Words.{Trace, request_at, is_live_reply_to, is_reply_to, reply_clock_of, reply_number_of, response_clock_of}
+use Words.{have_same_id, is_reply, live_clock_of, live_number_of, live_request_of, is_live-agree, line_at-agree}
+use Words.{live_clock_of-number, live_clock_of-stays, request_at-agree, response_clock_of-stays, snoop_end_of-clock}
+use Words.{snoop_end_of-stays, snoop_end_of}
 use Rattle.fsb_trace.specs.Agree.{AgreeTo}
-use Rattle.fsb_trace.specs.At.{Trace, request_at}
-use Rattle.fsb_trace.specs.Flight.{is_live_reply_to, is_reply_to, reply_clock_of, reply_number_of}
-use Rattle.fsb_trace.specs.Outcome.{response_clock_of}
-use Rattle.fsb_trace.specs.Requests.{have_same_id, is_reply, live_clock_of, live_number_of, live_request_of}
-use Rattle.fsb_trace.proofs.Interface.{is_live-agree, line_at-agree, live_clock_of-number, live_clock_of-stays}
-use Rattle.fsb_trace.proofs.Interface.{request_at-agree, response_clock_of-stays, snoop_end_of-clock}
-use Rattle.fsb_trace.proofs.Interface.{snoop_end_of-stays}
-use Rattle.fsb_trace.specs.Snoop.{snoop_end_of}
 
 -- two tests of which each gives the other are the same
 pub same-both : (x y : Bool) → (x ≡ true → y ≡ true) → (y ≡ true → x ≡ true) → x ≡ y

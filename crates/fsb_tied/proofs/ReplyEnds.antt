@@ -1,28 +1,13 @@
 -- What the snoop end of a reply that grants a line answers: a request that was Deferred on the line, the last one.
-use Rattle.std.proofs.Common.{ℕ, ◌+◌, ◌<◌, ◌≤◌, ◌≡◌, Bool, true, false, List, Some, None, refl, sym, ap, subst, ◌∙◌}
-use Rattle.std.proofs.Common.{arith, inl, inr}
-use Rattle.std.specs.Option.{option_and_then}
-use Rattle.std.proofs.lemmas.Bool.{and_parts, both_ways, cases_lt, false_from_ne_true}
-use Rattle.fsb_count.specs.Clocks.{any_where, from_clock, last_where}
-use Rattle.fsb_count.specs.Options.{is_at}
-use Rattle.fsb_count.proofs.Interface.{any_where-off, first_where-found, is_at-some}
-use Rattle.fsb_trace.specs.declared.outcome.Outcome.{Outcome}
-use Rattle.fsb_trace.specs.At.{Trace, request_at}
-use Rattle.fsb_trace.specs.Flight.{reply_number_of}
-use Rattle.fsb_trace.specs.Outcome.{is_deferral, is_settled_deferred}
-use Rattle.fsb_trace.specs.Requests.{is_reply, live_clock_of, live_request_of}
-use Rattle.fsb_trace.specs.Snoop.{snoop_end_of}
-use Rattle.fsb_trace.proofs.Interface.{snoop_end_of-rises}
-use Rattle.fsb_timely.specs.Grants.{snooped_at}
-use Rattle.fsb_timely.specs.Moments.{claim_at, gives_line, grant_for, grant_of, grant_to, is_answered_by}
-use Rattle.fsb_timely.specs.Moments.{is_owner_request, is_shared_at, live_claim_of, served_number, turns_in}
-use Rattle.fsb_timely.specs.Past.{Claim, Grant, Past, SnoopEnd}
-use Rattle.fsb_timely.specs.Runs.{Run, past_of}
-use Rattle.fsb_timely.specs.Timely.{Timely}
-use Rattle.fsb_timely.proofs.Interface.{last_where-found, last_where-from, one_end, snoop-tied}
-use Rattle.fsb_coherent.specs.Relation.{deferral_at, deferral_below, deferred_to, defers_line, replies_line}
-use Rattle.fsb_lawful.specs.Beginning.{KeepsBounds}
-use Rattle.fsb_lawful.proofs.Interface.{and-then, some-and}
+use Rattle.fsb_tied.proofs.Words
+use Words.{ℕ, ◌+◌, ◌<◌, ◌≤◌, ◌≡◌, Bool, true, false, List, Some, None, refl, sym, ap, subst, ◌∙◌, arith, inl, inr}
+use Words.{option_and_then, and_parts, both_ways, cases_lt, false_from_ne_true, any_where, from_clock, last_where}
+use Words.{is_at, any_where-off, first_where-found, is_at-some, Outcome, Trace, request_at, reply_number_of}
+use Words.{is_deferral, is_settled_deferred, is_reply, live_clock_of, live_request_of, snoop_end_of, snoop_end_of-rises}
+use Words.{snooped_at, claim_at, gives_line, grant_for, grant_of, grant_to, is_answered_by, is_owner_request}
+use Words.{is_shared_at, live_claim_of, served_number, turns_in, Claim, Grant, Past, SnoopEnd, Run, past_of, Timely}
+use Words.{last_where-found, last_where-from, one_end, snoop-tied, deferral_at, deferral_below, deferred_to}
+use Words.{defers_line, replies_line, KeepsBounds, and-then, some-and}
 use Rattle.fsb_tied.proofs.Deferrals.{retry-outcome}
 use Rattle.fsb_tied.proofs.OneReply.{deferred-held}
 use Rattle.fsb_tied.proofs.PendingLines.{HasNoReply, IsPutOff, defers-there, pending-retried, put-off-as, put-off-at}

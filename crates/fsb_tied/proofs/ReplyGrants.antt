@@ -1,34 +1,14 @@
 -- A reply grants the line of the request that it answers.
-use Rattle.std.proofs.Common.{ℕ, suc, ◌+◌, ◌<◌, ◌≤◌, ◌≡◌, true, false, List, Option, Some, None, length, refl, sym}
-use Rattle.std.proofs.Common.{ap, subst, ◌∙◌, arith}
-use Rattle.std.specs.Option.{option_and_then}
-use Rattle.std.proofs.lemmas.Bool.{and_from, and_parts, eq-eqb, false_from_ne_true}
-use Rattle.fsb_count.specs.Options.{is_at, is_some_and}
-use Rattle.fsb_count.proofs.Interface.{first_where-at, is_at-from, is_at-some}
-use Rattle.fsb_encode.specs.declared.request.Request.{Request}
-use Rattle.fsb_signal.specs.declared.lines.TheConstants.Lines.{ADS}
-use Rattle.fsb_signal.specs.Samples.{line_at}
-use Rattle.fsb_trace.specs.declared.outcome.Outcome.{Outcome}
-use Rattle.fsb_trace.specs.declared.who.Who.{Who}
-use Rattle.fsb_trace.specs.declared.who.Who.TheVariants.{Priority}
-use Rattle.fsb_trace.specs.At.{Trace, request_at}
-use Rattle.fsb_trace.specs.Flight.{reply_number_of}
-use Rattle.fsb_trace.specs.Outcome.{is_deferral, is_settled_deferred}
-use Rattle.fsb_trace.specs.Requests.{is_reply, is_reply_kind, live_clock_of, live_request_of}
-use Rattle.fsb_trace.specs.Snoop.{snoop_end_of}
-use Rattle.fsb_trace.specs.Winner.{begins_at, is_agent, is_same_agent, winner_at}
-use Rattle.fsb_trace.proofs.Interface.{line_at-agree, live_clock_of-rises, request_at-agree, snoop_end_of-rises}
-use Rattle.fsb_trace.proofs.Interface.{winner_at-agree}
-use Rattle.fsb_timely.specs.Moments.{agent_at, claim_at, gives_line, grant_for, grant_of, grant_to, is_answered_by}
-use Rattle.fsb_timely.specs.Moments.{is_owner_request, is_shared_at, live_claim_of, makes_grant, served_number}
-use Rattle.fsb_timely.specs.Moments.{turns_in}
-use Rattle.fsb_timely.specs.Past.{Claim, Past, SnoopEnd}
-use Rattle.fsb_timely.specs.Runs.{Run, past_of, run_to}
-use Rattle.fsb_timely.specs.Timely.{Timely}
-use Rattle.fsb_timely.proofs.Interface.{snoop-tied}
-use Rattle.fsb_coherent.specs.Relation.{replies_line}
-use Rattle.fsb_lawful.specs.Beginning.{WantsLawfully}
-use Rattle.fsb_lawful.proofs.Interface.{reply-before, reply-is, run_to-agrees}
+use Rattle.fsb_tied.proofs.Words
+use Words.{ℕ, suc, ◌+◌, ◌<◌, ◌≤◌, ◌≡◌, true, false, List, Option, Some, None, length, refl, sym, ap, subst, ◌∙◌, arith}
+use Words.{option_and_then, and_from, and_parts, eq-eqb, false_from_ne_true, is_at, is_some_and, first_where-at}
+use Words.{is_at-from, is_at-some, Request, ADS, line_at, Outcome, Who, Priority, Trace, request_at, reply_number_of}
+use Words.{is_deferral, is_settled_deferred, is_reply, is_reply_kind, live_clock_of, live_request_of, snoop_end_of}
+use Words.{begins_at, is_agent, is_same_agent, winner_at, line_at-agree, live_clock_of-rises, request_at-agree}
+use Words.{snoop_end_of-rises, winner_at-agree, agent_at, claim_at, gives_line, grant_for, grant_of, grant_to}
+use Words.{is_answered_by, is_owner_request, is_shared_at, live_claim_of, makes_grant, served_number, turns_in, Claim}
+use Words.{Past, SnoopEnd, Run, past_of, run_to, Timely, snoop-tied, replies_line, WantsLawfully, reply-before}
+use Words.{reply-is, run_to-agrees}
 use Rattle.fsb_tied.proofs.OneReply.{reply-after, two-replies}
 use Rattle.fsb_tied.proofs.PendingLines.{IsPutOff}
 use Rattle.fsb_tied.proofs.RepliesSeen.{HasReply, has-reply, live-request}

@@ -1,17 +1,8 @@
 -- The machine's line in a timely run whose log is served and follows its scripts: its bytes, and those of the copies.
-use Rattle.std.proofs.Common.{ℕ, ◌≤◌, ◌≡◌, true, List, ◌∷◌, Some, length, ap, ◌∙◌, arith}
-use Rattle.fsb_access.specs.ByteMemory.{start_memory}
-use Rattle.fsb_line.specs.declared.link.Link.{Link}
-use Rattle.fsb_line.specs.Line.{MemoryLine, source}
-use Rattle.fsb_line.specs.Links.{is_linked}
-use Rattle.fsb_line.proofs.Interface.{ready_has_copy}
-use Rattle.fsb_timely.specs.Grants.{holds_line, is_ready}
-use Rattle.fsb_timely.specs.Kept.{line_bytes}
-use Rattle.fsb_timely.specs.Runs.{Run, past_of}
-use Rattle.fsb_coherent.specs.KeepsTie.{IsTiedTo}
-use Rattle.fsb_coherent.specs.Relation.{chain_below}
-use Rattle.fsb_coherent.proofs.Interface.{may-below}
-use Rattle.fsb_tied.specs.RunBytes.{HasValues, bytes_below, machine_line}
+use Rattle.fsb_tied.proofs.Words
+use Words.{ℕ, ◌≤◌, ◌≡◌, true, List, ◌∷◌, Some, length, ap, ◌∙◌, arith, start_memory, Link, MemoryLine, source}
+use Words.{is_linked, ready_has_copy, holds_line, is_ready, line_bytes, Run, past_of, IsTiedTo, chain_below, may-below}
+use Words.{HasValues, bytes_below, machine_line}
 use Rattle.fsb_tied.proofs.KeptStores.{stores-kept}
 use Rattle.fsb_tied.proofs.LineValues.{now-served}
 use Rattle.fsb_tied.proofs.PlacedLogs.{log-placed}

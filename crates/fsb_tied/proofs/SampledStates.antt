@@ -1,19 +1,11 @@
 -- The states of a line in the machine at the sample of a clock are those of the run: the response and the hits of
 -- the clock
 -- are counted, and nothing else of it.
-use Rattle.std.proofs.Common.{ℕ, ◌<◌, ◌≡◌, ◌++◌, length, arith}
+use Rattle.fsb_tied.proofs.Words
+use Words.{ℕ, ◌<◌, ◌≡◌, ◌++◌, length, arith, Bytes, MemoryLine, unheld, run, is_held, is_modified, is_sole, holds_line}
+use Words.{is_exclusive, is_dirty, line_state_of, Past, Run, past_of, Timely, KeepsBounds, events_below, hits_on}
+use Words.{responds_on, AfterHits, AfterResponse, goes-on, hits-step, responds-step}
 use Rattle.fsb_line.specs.declared.state.Mesi.{Mesi}
-use Rattle.fsb_line.specs.Line.{Bytes, MemoryLine, unheld}
-use Rattle.fsb_line.specs.LineRuns.{run}
-use Rattle.fsb_line.specs.States.{is_held, is_modified, is_sole}
-use Rattle.fsb_timely.specs.Grants.{holds_line, is_exclusive}
-use Rattle.fsb_timely.specs.Hits.{is_dirty, line_state_of}
-use Rattle.fsb_timely.specs.Past.{Past}
-use Rattle.fsb_timely.specs.Runs.{Run, past_of}
-use Rattle.fsb_timely.specs.Timely.{Timely}
-use Rattle.fsb_lawful.specs.Beginning.{KeepsBounds}
-use Rattle.fsb_coherent.specs.LineEvents.{events_below, hits_on, responds_on}
-use Rattle.fsb_coherent.proofs.Interface.{AfterHits, AfterResponse, goes-on, hits-step, responds-step}
 use Rattle.fsb_tied.proofs.ClocksOfRuns.{clock-facts}
 use Rattle.fsb_tied.proofs.TiedRuns.{events-may-happen}
 

@@ -1,30 +1,13 @@
 -- The accesses of a clock of a timely run are served: those of hits, and those that come with the end of another line.
-use Rattle.std.proofs.Common.{ℕ, ◌+◌, ◌<◌, ◌≡◌, Bool, true, false, not, ◌&&◌, ◌||◌, List, [], ◌∷◌, Some, length}
-use Rattle.std.proofs.Common.{nat_eq, refl, sym, ap, subst, ◌∙◌, arith}
-use Rattle.std.proofs.lemmas.Bool.{and_from, and_parts, both_ways, eq-eqb}
-use Rattle.std.specs.List.{list_all, list_any}
-use Rattle.std.specs.Option.{option_and_then}
-use Rattle.fsb_count.specs.Options.{is_some_and}
-use Rattle.fsb_count.proofs.Interface.{any_where-found}
-use Rattle.fsb_access.specs.Access.{accessed_line}
-use Rattle.fsb_trace.specs.Requests.{live_clock_of}
-use Rattle.fsb_access.specs.declared.item.Item.{Item}
-use Rattle.fsb_access.specs.declared.log.Done.{Done}
-use Rattle.fsb_access.specs.ScriptOrder.{Step, step_of}
-use Rattle.fsb_timely.specs.Completions.{Completed, brings_at, completed_of_item, completes_by, is_arrival}
-use Rattle.fsb_timely.specs.Completions.{is_brought, is_there}
-use Rattle.fsb_timely.specs.Grants.{ended_requests, grant_at, has_arrived, holds_line, is_end_at, is_exclusive}
-use Rattle.fsb_timely.specs.Grants.{is_granted, is_ready, snooped_at}
-use Rattle.fsb_timely.specs.Hits.{is_hit, is_met, is_served}
-use Rattle.fsb_timely.specs.Past.{Grant, Past, SnoopEnd}
-use Rattle.fsb_timely.specs.Runs.{Run, past_of}
-use Rattle.fsb_timely.specs.Scripts.{Need, is_load, needs_of, next_item}
-use Rattle.fsb_timely.specs.Timely.{Timely}
-use Rattle.fsb_timely.proofs.Interface.{one_end, tied-snoop}
-use Rattle.fsb_lawful.proofs.Interface.{granted-by, some-and}
-use Rattle.fsb_coherent.specs.Awaits.{awaited_at, awaited_by_grant}
-use Rattle.fsb_coherent.specs.Facts.{is_served_hit, is_served_other}
-use Rattle.fsb_coherent.specs.LineEvents.{entries_on, is_awaited_for, is_brought_to, is_of_other_line}
+use Rattle.fsb_tied.proofs.Words
+use Words.{ℕ, ◌+◌, ◌<◌, ◌≡◌, Bool, true, false, not, ◌&&◌, ◌||◌, List, [], ◌∷◌, Some, length, nat_eq, refl, sym, ap}
+use Words.{subst, ◌∙◌, arith, and_from, and_parts, both_ways, eq-eqb, list_all, list_any, option_and_then, is_some_and}
+use Words.{any_where-found, accessed_line, live_clock_of, Item, Done, Step, step_of, Completed, brings_at}
+use Words.{completed_of_item, completes_by, is_arrival, is_brought, is_there, ended_requests, grant_at, has_arrived}
+use Words.{holds_line, is_end_at, is_exclusive, is_granted, is_ready, snooped_at, is_hit, is_met, is_served, Grant}
+use Words.{Past, SnoopEnd, Run, past_of, Need, is_load, needs_of, next_item, Timely, one_end, tied-snoop, granted-by}
+use Words.{some-and, awaited_at, awaited_by_grant, is_served_hit, is_served_other, entries_on, is_awaited_for}
+use Words.{is_brought_to, is_of_other_line}
 use Rattle.fsb_tied.proofs.AnswersInOrder.{answers-in-order}
 use Rattle.fsb_tied.proofs.Awaiting.{awaited-there, awaits-grant}
 use Rattle.fsb_tied.proofs.CompletedAccesses.{Each, NeedOf, each-of-item, entries-pass}

@@ -1,22 +1,9 @@
 -- The snoop end of each clock settles in order.
-use Rattle.std.proofs.Common.{ℕ, ◌<◌, ◌≡◌, ◌≢◌, Bool, if◌then◌else◌, Some, None, length, refl, sym, ap, subst, ◌∙◌}
-use Rattle.std.proofs.Common.{arith}
-use Rattle.fsb_encode.specs.declared.request.Kind.{Kind}
-use Rattle.fsb_line.specs.declared.purpose.Purpose.{Purpose}
-use Rattle.fsb_line.specs.States.{kind_owns}
-use Rattle.fsb_trace.specs.declared.outcome.Outcome.{Outcome}
-use Rattle.fsb_trace.specs.declared.outcome.Outcome.TheVariants.{Granted, Handed, Retried, Deferred, Written}
-use Rattle.fsb_trace.specs.declared.outcome.Outcome.TheVariants.{Upgraded}
-use Rattle.fsb_timely.specs.Grants.{begun_at, holds_line, is_owning, snooped_at}
-use Rattle.fsb_timely.specs.Moments.{is_shared_at}
-use Rattle.fsb_timely.specs.Past.{Claim, Grant, SnoopEnd}
-use Rattle.fsb_timely.specs.Runs.{Run, past_of}
-use Rattle.fsb_timely.specs.Timely.{Timely}
-use Rattle.fsb_timely.proofs.Interface.{begun-told}
-use Rattle.fsb_coherent.specs.Awaits.{purpose_of}
-use Rattle.fsb_coherent.specs.Facts.{IsSettledOn, SettlesInOrder}
-use Rattle.fsb_coherent.specs.Relation.{deferral_below}
-use Rattle.fsb_lawful.specs.Beginning.{KeepsBounds}
+use Rattle.fsb_tied.proofs.Words
+use Words.{ℕ, ◌<◌, ◌≡◌, ◌≢◌, Bool, if◌then◌else◌, Some, None, length, refl, sym, ap, subst, ◌∙◌, arith, Kind, Purpose}
+use Words.{kind_owns, Outcome, Granted, Handed, Retried, Deferred, Written, Upgraded, begun_at, holds_line, is_owning}
+use Words.{snooped_at, is_shared_at, Claim, Grant, SnoopEnd, Run, past_of, Timely, begun-told, purpose_of, IsSettledOn}
+use Words.{SettlesInOrder, deferral_below, KeepsBounds}
 use Rattle.fsb_tied.proofs.Deferrals.{given-free}
 use Rattle.fsb_tied.proofs.FewAgents.{few-agents}
 use Rattle.fsb_tied.proofs.RepliedLines.{replied-on}

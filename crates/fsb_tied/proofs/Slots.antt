@@ -1,25 +1,12 @@
 -- An agent has at most one line of a cache set, held or asked for.
-use Rattle.std.proofs.Common.{ℕ, zero, suc, ◌+◌, ◌<◌, ◌≤◌, ◌≡◌, ◌⊎◌, true, false, not, Some, length, nat_eq, refl}
-use Rattle.std.proofs.Common.{sym, subst, ◌∙◌, inl, inr, arith, add-one}
-use Rattle.std.proofs.lemmas.Bool.{and_parts, both_ways, cases_Bool, cases_lt, false_from_ne_true, not-true, or_parts}
-use Rattle.fsb_count.specs.Options.{is_some_and}
-use Rattle.fsb_signal.specs.declared.lines.TheConstants.Lines.{ADS}
-use Rattle.fsb_signal.specs.Samples.{line_at}
-use Rattle.fsb_trace.specs.declared.who.Who.TheVariants.{Symmetric}
-use Rattle.fsb_trace.specs.At.{Trace}
-use Rattle.fsb_trace.specs.Flight.{is_outstanding}
-use Rattle.fsb_trace.specs.Winner.{begins_at}
-use Rattle.fsb_trace.proofs.Interface.{line_at-agree}
-use Rattle.fsb_laws.proofs.Interface.{same_outstanding}
-use Rattle.fsb_timely.specs.Grants.{begun_at, holds_line, is_evicted, is_granted, is_lost, is_rival}
-use Rattle.fsb_timely.specs.Hits.{is_dirty}
-use Rattle.fsb_timely.specs.Past.{Claim, Past}
-use Rattle.fsb_timely.specs.Runs.{Run, past_of, run_to}
-use Rattle.fsb_timely.specs.Timely.{Timely}
-use Rattle.fsb_timely.specs.Wants.{is_asked_for, is_same_set, outstanding_at, owed}
-use Rattle.fsb_timely.proofs.Interface.{holds_line-more, holds_line-says, is_outstanding-more}
-use Rattle.fsb_lawful.specs.Beginning.{KeepsBounds}
-use Rattle.fsb_lawful.proofs.Interface.{begins-after, grants-are-owed, length-cut, owes-less, run_to-agrees, some-and}
+use Rattle.fsb_tied.proofs.Words
+use Words.{ℕ, zero, suc, ◌+◌, ◌<◌, ◌≤◌, ◌≡◌, ◌⊎◌, true, false, not, Some, length, nat_eq, refl, sym, subst, ◌∙◌, inl}
+use Words.{inr, arith, add-one, and_parts, both_ways, cases_Bool, cases_lt, false_from_ne_true, not-true, or_parts}
+use Words.{is_some_and, ADS, line_at, Symmetric, Trace, is_outstanding, begins_at, line_at-agree, same_outstanding}
+use Words.{begun_at, holds_line, is_evicted, is_granted, is_lost, is_rival, is_dirty, Claim, Past, Run, past_of, run_to}
+use Words.{Timely, is_asked_for, is_same_set, outstanding_at, owed, holds_line-more, holds_line-says}
+use Words.{is_outstanding-more, KeepsBounds, begins-after, grants-are-owed, length-cut, owes-less, run_to-agrees}
+use Words.{some-and}
 use Rattle.fsb_tied.proofs.Beginnings.{begun-want}
 use Rattle.fsb_tied.proofs.Owing.{IsOwed, is-owed, listed-owed}
 use Rattle.fsb_tied.proofs.Victims.{dirty-held, rival-other, rival-set, rival-sym}

@@ -1,22 +1,9 @@
 -- The request whose snoop end this is.
-use Rattle.std.proofs.Common.{ℕ, suc, ◌+◌, ◌<◌, ◌≤◌, ◌≡◌, true, false, Some, length, sym, ap, ◌∙◌, arith}
-use Rattle.fsb_encode.specs.declared.request.Request.{Request}
-use Rattle.fsb_encode.specs.Request.{is_lawful_request}
-use Rattle.fsb_signal.specs.declared.lines.TheConstants.Lines.{ADS}
-use Rattle.fsb_signal.specs.Samples.{line_at}
-use Rattle.std.specs.Option.{option_map}
-use Rattle.fsb_trace.specs.At.{request_at}
-use Rattle.fsb_trace.specs.Requests.{is_reply_kind}
-use Rattle.fsb_trace.proofs.Interface.{request_at-agree, snoop_end_of-clock}
-use Rattle.fsb_timely.specs.Grants.{snooped_at}
-use Rattle.fsb_timely.specs.Moments.{claim_at}
-use Rattle.fsb_timely.specs.Past.{Claim, SnoopEnd}
-use Rattle.fsb_timely.specs.Runs.{Run, past_of}
-use Rattle.fsb_timely.specs.Tied.{IsSnoopOf}
-use Rattle.fsb_timely.specs.Timely.{Timely}
-use Rattle.fsb_timely.proofs.Interface.{tied-snoop}
-use Rattle.fsb_lawful.specs.Beginning.{KeepsBounds, WantsLawfully}
-use Rattle.fsb_lawful.proofs.Interface.{begun-decoded, begun_of, live-ads, run_to-agrees, wants-lawfully}
+use Rattle.fsb_tied.proofs.Words
+use Words.{ℕ, suc, ◌+◌, ◌<◌, ◌≤◌, ◌≡◌, true, false, Some, length, sym, ap, ◌∙◌, arith, Request, is_lawful_request, ADS}
+use Words.{line_at, option_map, request_at, is_reply_kind, request_at-agree, snoop_end_of-clock, snooped_at, claim_at}
+use Words.{Claim, SnoopEnd, Run, past_of, IsSnoopOf, Timely, tied-snoop, KeepsBounds, WantsLawfully, begun-decoded}
+use Words.{begun_of, live-ads, run_to-agrees, wants-lawfully}
 use Rattle.fsb_tied.proofs.Beginnings.{begun-from, begun-shown, begun-want}
 use Rattle.fsb_tied.proofs.SnoopTold.{line-whole}
 

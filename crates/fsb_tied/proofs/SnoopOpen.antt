@@ -1,29 +1,13 @@
 -- At the snoop end of a symmetric agent's request that request is open, and no open one is older.
-use Rattle.std.proofs.Common.{ℕ, ◌+◌, ◌-◌, ◌<◌, ◌≤◌, ◌≡◌, Bool, true, false, not, ◌&&◌, Some, length, nat_le, refl}
-use Rattle.std.proofs.Common.{sym, ap, subst, ◌∙◌, inl, inr, arith}
-use Rattle.std.specs.Option.{option_and_then, option_map}
-use Rattle.std.proofs.lemmas.Bool.{and_from, and_parts, both_ways, cases_Bool, cases_lt, false_from_ne_true, not-true}
-use Rattle.fsb_count.specs.Options.{is_at, is_some_and}
-use Rattle.fsb_count.proofs.Interface.{any_where-off, count_where-above, is_at-some, nth_where-found}
-use Rattle.fsb_encode.specs.declared.request.Kind.{Kind}
-use Rattle.fsb_line.specs.declared.purpose.Purpose.{Purpose}
-use Rattle.fsb_line.specs.Line.{OpenRequest}
-use Rattle.fsb_signal.specs.declared.lines.TheConstants.Lines.{ADS, AERR}
-use Rattle.fsb_signal.specs.Samples.{line_at}
-use Rattle.fsb_trace.specs.At.{Trace}
-use Rattle.fsb_trace.specs.Requests.{is_cancelled, is_live, live_clock_of, live_number_of}
-use Rattle.fsb_trace.specs.Snoop.{snoop_end_of}
-use Rattle.fsb_trace.proofs.Interface.{line_at-agree, live_clock_of-number, snoop_end_of-clock, snoop_end_of-rises}
-use Rattle.fsb_timely.specs.Grants.{is_evicted, snooped_at}
-use Rattle.fsb_timely.specs.Moments.{cancelled_at, is_snoop_of}
-use Rattle.fsb_timely.specs.Past.{Claim, SnoopEnd}
-use Rattle.fsb_timely.specs.Runs.{Run, past_of, past_to, run_to}
-use Rattle.fsb_timely.specs.Timely.{Timely}
-use Rattle.fsb_timely.proofs.Interface.{cancelled-told, tied-snoop}
-use Rattle.fsb_lawful.specs.Beginning.{KeepsBounds}
-use Rattle.fsb_lawful.proofs.Interface.{orderly-at, run_to-agrees, some-and}
-use Rattle.fsb_coherent.specs.Awaits.{cancelled_in, purpose_of, purpose_wanted}
-use Rattle.fsb_coherent.specs.Relation.{IsOpen, is_cancelled_below, is_snooped_below}
+use Rattle.fsb_tied.proofs.Words
+use Words.{ℕ, ◌+◌, ◌-◌, ◌<◌, ◌≤◌, ◌≡◌, Bool, true, false, not, ◌&&◌, Some, length, nat_le, refl, sym, ap, subst, ◌∙◌}
+use Words.{inl, inr, arith, option_and_then, option_map, and_from, and_parts, both_ways, cases_Bool, cases_lt}
+use Words.{false_from_ne_true, not-true, is_at, is_some_and, any_where-off, count_where-above, is_at-some}
+use Words.{nth_where-found, Kind, Purpose, OpenRequest, ADS, AERR, line_at, Trace, is_cancelled, is_live, live_clock_of}
+use Words.{live_number_of, snoop_end_of, line_at-agree, live_clock_of-number, snoop_end_of-clock, snoop_end_of-rises}
+use Words.{is_evicted, snooped_at, cancelled_at, is_snoop_of, Claim, SnoopEnd, Run, past_of, past_to, run_to, Timely}
+use Words.{cancelled-told, tied-snoop, KeepsBounds, orderly-at, run_to-agrees, some-and, cancelled_in, purpose_of}
+use Words.{purpose_wanted, IsOpen, is_cancelled_below, is_snooped_below}
 use Rattle.fsb_tied.proofs.Beginnings.{IsBegunWant, begun-from, begun-shown, begun-there, begun-want}
 use Rattle.fsb_tied.proofs.Ended.{snooped-below}
 use Rattle.fsb_tied.proofs.WholeOrder.{one-begins}

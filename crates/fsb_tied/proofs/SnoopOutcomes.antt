@@ -1,37 +1,15 @@
 -- How a request of a symmetric agent is settled: its outcome fits its kind, and its grant is the one that both make.
-use Rattle.std.proofs.Common.{ℕ, ◌+◌, ◌<◌, ◌≤◌, ◌≡◌, ◌≢◌, Bool, true, false, not, ◌&&◌, nat_eq, Option, Some, None}
-use Rattle.std.proofs.Common.{is_some, refl, sym, ap, subst, ◌∙◌, arith, inl, inr}
-use Rattle.std.proofs.lemmas.Bool.{both_ways, cases_lt, false_from_ne_true, ne_eqb}
-use Rattle.fsb_count.specs.Clocks.{any_where, first_where}
-use Rattle.fsb_count.specs.Options.{is_some_and}
-use Rattle.fsb_count.proofs.Interface.{any_where-found, any_where-none, first_where-none}
-use Rattle.fsb_encode.specs.declared.request.Kind.{Kind}
-use Rattle.fsb_encode.specs.declared.request.Kind.TheVariants.{Upgrade}
-use Rattle.fsb_encode.specs.declared.request.Request.{Request}
-use Rattle.fsb_encode.specs.Request.{are_lawful_fields, is_lawful_request}
-use Rattle.fsb_hazard.specs.declared.choice.Turn.{Turn}
-use Rattle.fsb_hazard.specs.declared.choice.Turn.TheVariants.{Keep}
-use Rattle.fsb_hazard.specs.Choice.{is_defer, is_never_held_up}
-use Rattle.fsb_signal.specs.declared.lines.TheConstants.Lines.{HIT, HITM}
-use Rattle.fsb_signal.specs.Samples.{line_at}
-use Rattle.fsb_trace.specs.At.{Trace, request_at}
-use Rattle.fsb_trace.specs.declared.outcome.Outcome.{Outcome}
-use Rattle.fsb_trace.specs.declared.outcome.Outcome.TheVariants.{Handed}
-use Rattle.fsb_trace.specs.Outcome.{outcome_by_kind}
-use Rattle.fsb_trace.specs.Requests.{is_reply, is_reply_kind}
-use Rattle.fsb_trace.proofs.Interface.{live_clock_of-stays, live_request_of-at, request_at-agree, snoop_end_of-stays}
-use Rattle.fsb_timely.specs.Grants.{holds_line, is_exclusive, is_owning}
-use Rattle.fsb_timely.specs.Hits.{is_dirty}
-use Rattle.fsb_timely.specs.Moments.{claim_at, gives_line, grant_to, is_owner_request, is_shared_at, wins_race}
-use Rattle.fsb_timely.specs.Past.{Claim, Past, SnoopEnd}
-use Rattle.fsb_timely.specs.Runs.{Run, past_of, past_to, run_to}
-use Rattle.fsb_timely.specs.Snoops.{is_dirty_elsewhere, is_held_elsewhere}
-use Rattle.fsb_timely.specs.Timely.{Timely}
-use Rattle.fsb_coherent.specs.Awaits.{owner_at}
-use Rattle.fsb_coherent.specs.Fitting.{IsUncontested, fits_getting, fits_kind, fits_upgrade, fits_write_back}
-use Rattle.fsb_coherent.specs.Settled.{outcome_by_turn, outcome_under, own_grant}
-use Rattle.fsb_coherent.proofs.Interface.{grant-made, outcome-made, grant_if}
-use Rattle.fsb_lawful.proofs.Interface.{TurnFits, run_to-agrees, turned-at}
+use Rattle.fsb_tied.proofs.Words
+use Words.{ℕ, ◌+◌, ◌<◌, ◌≤◌, ◌≡◌, ◌≢◌, Bool, true, false, not, ◌&&◌, nat_eq, Option, Some, None, is_some, refl, sym, ap}
+use Words.{subst, ◌∙◌, arith, inl, inr, both_ways, cases_lt, false_from_ne_true, ne_eqb, any_where, first_where}
+use Words.{is_some_and, any_where-found, any_where-none, first_where-none, Kind, Upgrade, Request, are_lawful_fields}
+use Words.{is_lawful_request, Turn, Keep, is_defer, is_never_held_up, HIT, HITM, line_at, Trace, request_at, Outcome}
+use Words.{Handed, outcome_by_kind, is_reply, is_reply_kind, live_clock_of-stays, live_request_of-at, request_at-agree}
+use Words.{snoop_end_of-stays, holds_line, is_exclusive, is_owning, is_dirty, claim_at, gives_line, grant_to}
+use Words.{is_owner_request, is_shared_at, wins_race, Claim, Past, SnoopEnd, Run, past_of, past_to, run_to}
+use Words.{is_dirty_elsewhere, is_held_elsewhere, Timely, owner_at, IsUncontested, fits_getting, fits_kind}
+use Words.{fits_upgrade, fits_write_back, outcome_by_turn, outcome_under, own_grant, grant-made, outcome-made, grant_if}
+use Words.{TurnFits, run_to-agrees, turned-at}
 use Rattle.fsb_tied.proofs.SnoopClaims.{IsClaimed, IsSnooped}
 use Rattle.fsb_tied.proofs.SnoopTold.{IsTold, dirty-whole, told-at}
 

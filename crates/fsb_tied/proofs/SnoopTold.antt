@@ -1,22 +1,11 @@
 -- What HIT# and HITM# tell at a snoop end, in the words of the run's past.
-use Rattle.std.proofs.Common.{ℕ, ◌+◌, ◌<◌, ◌≡◌, true, false, not, ◌&&◌, Some, length, nat_eq, ap, ◌∙◌, arith}
-use Rattle.fsb_count.specs.Options.{is_some_and}
-use Rattle.fsb_count.proofs.Interface.{any_where-same}
-use Rattle.fsb_encode.specs.declared.request.Kind.{Kind}
+use Rattle.fsb_tied.proofs.Words
+use Words.{ℕ, ◌+◌, ◌<◌, ◌≡◌, true, false, not, ◌&&◌, Some, length, nat_eq, ap, ◌∙◌, arith, is_some_and, any_where-same}
+use Words.{Kind, HIT, HITM, line_at, is_reply_kind, line_at-agree, holds_line, snooped_at, is_dirty, Claim, Past}
+use Words.{SnoopEnd, Run, past_of, past_to, run_to, has_right_result, has_snoop_result, is_dirty_elsewhere}
+use Words.{is_dirty_for, is_held_elsewhere, is_held_for, is_reply_end, was_hit_before, Timely, holds_at, holds_in}
+use Words.{done_below, going-alike, holds_line-same, is_dirty-alike, past-begins, run_to-agrees, snooped-to}
 use Rattle.fsb_signal.specs.declared.lines.Lines.{Lines}
-use Rattle.fsb_signal.specs.declared.lines.TheConstants.Lines.{HIT, HITM}
-use Rattle.fsb_signal.specs.Samples.{line_at}
-use Rattle.fsb_trace.specs.Requests.{is_reply_kind}
-use Rattle.fsb_trace.proofs.Interface.{line_at-agree}
-use Rattle.fsb_timely.specs.Grants.{holds_line, snooped_at}
-use Rattle.fsb_timely.specs.Hits.{is_dirty}
-use Rattle.fsb_timely.specs.Past.{Claim, Past, SnoopEnd}
-use Rattle.fsb_timely.specs.Runs.{Run, past_of, past_to, run_to}
-use Rattle.fsb_timely.specs.Snoops.{has_right_result, has_snoop_result, is_dirty_elsewhere, is_dirty_for}
-use Rattle.fsb_timely.specs.Snoops.{is_held_elsewhere, is_held_for, is_reply_end, was_hit_before}
-use Rattle.fsb_timely.specs.Timely.{Timely, holds_at, holds_in}
-use Rattle.fsb_timely.proofs.Interface.{done_below, going-alike, holds_line-same, is_dirty-alike, past-begins}
-use Rattle.fsb_lawful.proofs.Interface.{run_to-agrees, snooped-to}
 
 -- a line at a clock, in the whole run and in the run up to it
 pub line-whole : (line : Lines) (r : Run) (n : ℕ) → n < length r.trace

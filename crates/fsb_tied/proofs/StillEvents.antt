@@ -1,30 +1,15 @@
 -- Which events of a clock leave the data that are on the bus and the memory of a line as they are.
-use Rattle.std.proofs.Common.{ℕ, ◌≡◌, Bool, true, false, List, [], ◌∷◌, ◌++◌, map, Option, Some, None, refl, ap, ◌∙◌}
-use Rattle.std.proofs.Common.{inl, inr, arith}
-use Rattle.std.proofs.lemmas.Bool.{cases_Bool}
-use Rattle.std.specs.List.{filter, list_all, list_any}
-use Rattle.std.specs.Option.{option_and_then}
-use Rattle.std.specs.Prelude.{cond, nat_eq, unwrap_or}
-use Rattle.fsb_count.specs.Options.{is_some_and}
-use Rattle.fsb_access.specs.declared.log.Done.{Done}
-use Rattle.fsb_line.specs.declared.link.Link.{Link}
-use Rattle.fsb_line.specs.Events.{Event, after, arrived, effect, given, linked, oldest_ended, replied, responded}
-use Rattle.fsb_line.specs.Events.{settled}
-use Rattle.fsb_line.specs.Events.Event.{Begins, Drops, Ends, IsCancelled, IsDeferred, IsGranted, IsHanded, IsLost}
-use Rattle.fsb_line.specs.Events.Event.{IsReplied, IsRetried, IsUpgraded, IsWritten, Loads, Responds, Stores}
-use Rattle.fsb_line.specs.Line.{Bytes, LineDeferral, MemoryLine, brought, source, trimmed}
-use Rattle.fsb_line.specs.Links.{feeds_memory}
-use Rattle.fsb_line.specs.LineRuns.{run}
-use Rattle.fsb_timely.specs.Grants.{ended_requests}
-use Rattle.fsb_timely.specs.Past.{Past}
-use Rattle.fsb_timely.specs.Scripts.{is_load}
-use Rattle.fsb_coherent.specs.Awaits.{Awaited, awaited_at, responded_in}
-use Rattle.fsb_coherent.specs.Facts.{does_end_on, does_respond_on}
-use Rattle.fsb_coherent.specs.LineEvents.{access_event, awaited_events, awaiting_stores, begins_on, cancels_on}
-use Rattle.fsb_coherent.specs.LineEvents.{changes_of, end_events, ends_on, entries_on, events_of_ends, hits_on}
-use Rattle.fsb_coherent.specs.LineEvents.{is_of_other_line, moves_on, others_on, responds_on, snoops_on}
-use Rattle.fsb_coherent.specs.BeforeSnoop.{events_before_snoop}
-use Rattle.fsb_coherent.proofs.Interface.{run-append}
+use Rattle.fsb_tied.proofs.Words
+use Words.{ℕ, ◌≡◌, Bool, true, false, List, [], ◌∷◌, ◌++◌, map, Option, Some, None, refl, ap, ◌∙◌, inl, inr, arith}
+use Words.{cases_Bool, filter, list_all, list_any, option_and_then, cond, unwrap_or, is_some_and, Done, Link, Event}
+use Words.{after, arrived, effect, given, linked, oldest_ended, replied, responded, settled, Begins, Drops, Ends}
+use Words.{IsCancelled, IsDeferred, IsGranted, IsHanded, IsLost, IsReplied, IsRetried, IsUpgraded, IsWritten, Loads}
+use Words.{Responds, Stores, Bytes, LineDeferral, MemoryLine, brought, source, trimmed, feeds_memory, run}
+use Words.{ended_requests, Past, is_load, Awaited, awaited_at, responded_in, does_end_on, does_respond_on, access_event}
+use Words.{awaited_events, awaiting_stores, begins_on, cancels_on, changes_of, end_events, ends_on, entries_on}
+use Words.{events_of_ends, hits_on, is_of_other_line, moves_on, others_on, responds_on, snoops_on, events_before_snoop}
+use Words.{run-append}
+use Rattle.std.specs.Prelude.{nat_eq}
 use Rattle.fsb_tied.proofs.StoredBytes.{begins-still, cancels-still, is_still, snoops-still}
 use Rattle.fsb_tied.proofs.StoredClocks.{all_both, hit_entries_on, lists-are}
 

@@ -1,22 +1,9 @@
 -- The stores of each clock of a timely run are made in the order of its log: first those of hits, then the others.
-use Rattle.std.proofs.Common.{ℕ, ◌<◌, ◌≡◌, Bool, true, false, not, ◌&&◌, ◌||◌, List, [], ◌∷◌, Option, Some, length}
-use Rattle.std.proofs.Common.{nat_eq, refl, ap, ◌∙◌, inl, inr, arith}
-use Rattle.std.proofs.lemmas.Bool.{and_parts, cases_Bool, or_from, or_parts}
-use Rattle.std.specs.List.{filter, list_all, list_any}
-use Rattle.fsb_count.specs.Options.{is_some_and}
-use Rattle.fsb_access.specs.declared.log.Done.{Done}
-use Rattle.fsb_line.specs.Links.{owns}
-use Rattle.fsb_timely.specs.Grants.{ended_requests}
-use Rattle.fsb_timely.specs.Hits.{is_hit}
-use Rattle.fsb_timely.specs.Past.{Past}
-use Rattle.fsb_timely.specs.Runs.{Run, past_of}
-use Rattle.fsb_timely.specs.Scripts.{is_load}
-use Rattle.fsb_timely.specs.Timely.{Timely}
-use Rattle.fsb_coherent.specs.Awaits.{Awaited, awaited_at}
-use Rattle.fsb_coherent.specs.Facts.{does_end_on}
-use Rattle.fsb_coherent.specs.LineEvents.{awaiting_stores, entries_on, is_awaited_for, is_brought_to}
-use Rattle.fsb_coherent.specs.LineEvents.{is_of_other_line}
-use Rattle.fsb_tied.specs.RunBytes.{stores_of}
+use Rattle.fsb_tied.proofs.Words
+use Words.{ℕ, ◌<◌, ◌≡◌, Bool, true, false, not, ◌&&◌, ◌||◌, List, [], ◌∷◌, Option, Some, length, nat_eq, refl, ap, ◌∙◌}
+use Words.{inl, inr, arith, and_parts, cases_Bool, or_from, or_parts, filter, list_all, list_any, is_some_and, Done}
+use Words.{owns, ended_requests, is_hit, Past, Run, past_of, is_load, Timely, Awaited, awaited_at, does_end_on}
+use Words.{awaiting_stores, entries_on, is_awaited_for, is_brought_to, is_of_other_line, stores_of}
 use Rattle.fsb_tied.proofs.HitsFirst.{hits-first}
 use Rattle.fsb_tied.proofs.StoredClocks.{StoresInOrder}
 use Rattle.fsb_tied.proofs.AwaitedAccesses.{awaiting-agents, awaiting-loads, one-end}

@@ -1,25 +1,12 @@
 -- What the events of a clock store into a line: the stores of the entries on it, in their order.
-use Rattle.std.proofs.Common.{◌≡◌, ℕ, Bool, true, false, not, if◌then◌else◌, nat_eq, List, [], ◌∷◌, ◌++◌, map, fold}
-use Rattle.std.proofs.Common.{Option, Some, None, refl, ◌∙◌, inl, inr, arith}
-use Rattle.std.proofs.lemmas.Bool.{cases_Bool}
-use Rattle.std.specs.List.{filter, list_all}
-use Rattle.std.specs.Option.{option_and_then, option_map_or}
-use Rattle.fsb_count.specs.Options.{is_some_and}
-use Rattle.fsb_access.specs.declared.log.Done.{Done}
-use Rattle.fsb_line.specs.declared.purpose.Purpose.{Purpose}
-use Rattle.fsb_line.specs.Events.{Event, after, stored}
-use Rattle.fsb_line.specs.Events.Event.{Begins, Drops, Ends, IsCancelled, IsDeferred, IsGranted, IsHanded, IsLost}
-use Rattle.fsb_line.specs.Events.Event.{IsReplied, IsRetried, IsUpgraded, IsWritten, Loads, Responds, Stores}
-use Rattle.fsb_line.specs.Line.{Bytes, MemoryLine}
-use Rattle.fsb_line.specs.LineRuns.{run, stored_by_all}
-use Rattle.fsb_trace.specs.declared.outcome.Outcome.{Outcome}
-use Rattle.fsb_timely.specs.Past.{Claim, Past, SnoopEnd}
-use Rattle.fsb_timely.specs.Grants.{snooped_at}
-use Rattle.fsb_timely.specs.Scripts.{is_load}
-use Rattle.fsb_coherent.specs.Awaits.{purpose_of}
-use Rattle.fsb_coherent.specs.LineEvents.{access_event, begin_events, begins_on, cancel_events, cancels_on, change_of}
-use Rattle.fsb_coherent.specs.LineEvents.{changes_of, claimed_events, responds_on, settled_events, snoop_events}
-use Rattle.fsb_coherent.specs.LineEvents.{snoops_on}
+use Rattle.fsb_tied.proofs.Words
+use Words.{◌≡◌, ℕ, Bool, true, false, not, if◌then◌else◌, nat_eq, List, [], ◌∷◌, ◌++◌, map, fold, Option, Some, None}
+use Words.{refl, ◌∙◌, inl, inr, arith, cases_Bool, filter, list_all, option_and_then, option_map_or, is_some_and, Done}
+use Words.{Purpose, Event, after, stored, Begins, Drops, Ends, IsCancelled, IsDeferred, IsGranted, IsHanded, IsLost}
+use Words.{IsReplied, IsRetried, IsUpgraded, IsWritten, Loads, Responds, Stores, Bytes, MemoryLine, run, stored_by_all}
+use Words.{Outcome, Claim, Past, SnoopEnd, snooped_at, is_load, purpose_of, access_event, begin_events, begins_on}
+use Words.{cancel_events, cancels_on, change_of, changes_of, claimed_events, responds_on, settled_events, snoop_events}
+use Words.{snoops_on}
 
 -- the stores of two lists of events, one after the other
 pub stored-append : (x : MemoryLine) (es fs : List Event) (bytes : Bytes)

@@ -1,29 +1,12 @@
 -- What a clock stores into a line: the stores of its entries on the line, in their order.
-use Rattle.std.proofs.Common.{◌≡◌, ℕ, true, false, ◌⊎◌, ◌+◌, not, nat_eq, List, [], ◌∷◌, ◌++◌, map, Option, Some}
-use Rattle.std.proofs.Common.{None, refl, sym, ap, ◌∙◌, inl, inr, append_assoc, arith}
-use Rattle.std.proofs.lemmas.Bool.{cases_Bool, eqb-true}
-use Rattle.std.proofs.lemmas.List.Elements.{filter-append}
-use Rattle.std.specs.List.{filter, list_all}
-use Rattle.fsb_access.specs.declared.log.Done.{Done}
-use Rattle.fsb_line.specs.declared.link.Link.{Link}
-use Rattle.fsb_line.specs.Events.{Event, stored}
-use Rattle.fsb_line.specs.Events.Event.{Ends}
-use Rattle.fsb_line.specs.Line.{Bytes, MemoryLine}
-use Rattle.fsb_line.specs.Links.{owns}
-use Rattle.fsb_line.specs.LineRuns.{run, stored_by_all}
-use Rattle.fsb_timely.specs.Grants.{ended_requests}
-use Rattle.fsb_count.specs.Options.{is_some_and}
-use Rattle.fsb_timely.specs.Hits.{is_hit}
-use Rattle.fsb_timely.specs.Past.{Past}
-use Rattle.fsb_timely.specs.Scripts.{is_load}
-use Rattle.fsb_coherent.specs.Awaits.{Awaited, awaited_at}
-use Rattle.fsb_coherent.specs.Facts.{EndsInOrder, does_end_on}
-use Rattle.fsb_coherent.specs.LineEvents.{access_event, awaited_events, awaiting_stores, begins_on, cancels_on}
-use Rattle.fsb_coherent.specs.LineEvents.{responds_on, snoops_on, change_of, changes_of, end_events, ends_on}
-use Rattle.fsb_coherent.specs.LineEvents.{entries_on, events_of_ends, hits_on, is_of_other_line, others_on}
-use Rattle.fsb_coherent.specs.BeforeSnoop.{events_before_snoop}
-use Rattle.fsb_coherent.specs.Relation.{chain_below, links_left}
-use Rattle.fsb_tied.specs.RunBytes.{stores_of}
+use Rattle.fsb_tied.proofs.Words
+use Words.{◌≡◌, ℕ, true, false, ◌⊎◌, ◌+◌, not, nat_eq, List, [], ◌∷◌, ◌++◌, map, Option, Some, None, refl, sym, ap, ◌∙◌}
+use Words.{inl, inr, append_assoc, arith, cases_Bool, eqb-true, filter-append, filter, list_all, Done, Link, Event}
+use Words.{stored, Ends, Bytes, MemoryLine, owns, run, stored_by_all, ended_requests, is_some_and, is_hit, Past}
+use Words.{is_load, Awaited, awaited_at, EndsInOrder, does_end_on, access_event, awaited_events, awaiting_stores}
+use Words.{begins_on, cancels_on, responds_on, snoops_on, change_of, changes_of, end_events, ends_on, entries_on}
+use Words.{events_of_ends, hits_on, is_of_other_line, others_on, events_before_snoop, chain_below, links_left}
+use Words.{stores_of}
 use Rattle.fsb_tied.proofs.StoredBytes.{accesses-store, begins-still, cancels-still, is_still, response-storeless}
 use Rattle.fsb_tied.proofs.StoredBytes.{snoops-still, stored-append, storeless}
 

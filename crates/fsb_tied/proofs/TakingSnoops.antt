@@ -1,26 +1,12 @@
 -- Where memory takes the data of a request for a line, its end is awaited on the line, and its link has a giver.
-use Rattle.std.proofs.Common.{ℕ, ◌≡◌, Bool, true, false, not, ◌&&◌, ◌||◌, nat_eq, if◌then◌else◌, Option, Some, None}
-use Rattle.std.proofs.Common.{is_some, refl, ◌∙◌, arith}
-use Rattle.std.proofs.lemmas.Bool.{and_from, and_parts, both_ways}
-use Rattle.fsb_count.specs.Clocks.{first_where}
-use Rattle.fsb_count.specs.Options.{is_some_and}
-use Rattle.fsb_count.proofs.Interface.{any_where-at, first_where-found}
-use Rattle.fsb_encode.specs.declared.request.Kind.{Kind}
-use Rattle.fsb_trace.specs.declared.outcome.Outcome.{Outcome}
-use Rattle.fsb_trace.specs.declared.outcome.Outcome.TheVariants.{Deferred, Failed, Granted, Handed, Replied, Retried}
-use Rattle.fsb_trace.specs.declared.outcome.Outcome.TheVariants.{Upgraded, Written}
-use Rattle.fsb_trace.specs.Outcome.{does_take}
-use Rattle.fsb_trace.specs.Requests.{is_write_back_kind}
-use Rattle.fsb_timely.specs.Grants.{holds_line, is_exclusive, snooped_at}
-use Rattle.fsb_timely.specs.Hits.{is_dirty}
-use Rattle.fsb_timely.specs.Moments.{is_got, is_upgraded, makes_grant}
-use Rattle.fsb_timely.specs.Past.{Grant, Past, SnoopEnd}
-use Rattle.fsb_timely.specs.Runs.{Run, past_of, past_to}
-use Rattle.fsb_timely.specs.Snoops.{is_held_elsewhere, is_held_for}
-use Rattle.fsb_lawful.specs.Premises.{WritesBackAlone}
-use Rattle.fsb_coherent.specs.Awaits.{Awaited, awaited_by, awaited_by_claim, awaited_by_grant, is_written, owner_at}
-use Rattle.fsb_coherent.specs.Fitting.{IsSnoopOn, IsUncontested, fits_kind, fits_write_back}
-use Rattle.fsb_coherent.specs.Relation.{giver_at}
+use Rattle.fsb_tied.proofs.Words
+use Words.{ℕ, ◌≡◌, Bool, true, false, not, ◌&&◌, ◌||◌, nat_eq, if◌then◌else◌, Option, Some, None, is_some, refl, ◌∙◌}
+use Words.{arith, and_from, and_parts, both_ways, first_where, is_some_and, any_where-at, first_where-found, Kind}
+use Words.{Outcome, Deferred, Failed, Granted, Handed, Replied, Retried, Upgraded, Written, does_take}
+use Words.{is_write_back_kind, holds_line, is_exclusive, snooped_at, is_dirty, is_got, is_upgraded, makes_grant, Grant}
+use Words.{Past, SnoopEnd, Run, past_of, past_to, is_held_elsewhere, is_held_for, WritesBackAlone, Awaited, awaited_by}
+use Words.{awaited_by_claim, awaited_by_grant, is_written, owner_at, IsSnoopOn, IsUncontested, fits_kind}
+use Words.{fits_write_back, giver_at}
 
 exclusive-holds : (p : Past) (a line n : ℕ) → is_exclusive p a line n ≡ true → holds_line p a line n ≡ true
 unfolding is_exclusive

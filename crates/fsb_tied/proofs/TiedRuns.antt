@@ -1,15 +1,8 @@
 -- Each clock of a timely run keeps the tie of each line, so its events may happen, and the machine's line is that
 -- of the run.
-use Rattle.std.proofs.Common.{ℕ, ◌<◌, ◌≤◌, length, arith}
-use Rattle.fsb_line.specs.Line.{Bytes, unheld}
-use Rattle.fsb_line.specs.LineRuns.{MayRun, run}
-use Rattle.fsb_timely.specs.Runs.{Run, past_of}
-use Rattle.fsb_timely.specs.Timely.{Timely}
-use Rattle.fsb_lawful.specs.Beginning.{KeepsBounds}
-use Rattle.fsb_coherent.specs.KeepsTie.{IsTiedTo, KeepsTie}
-use Rattle.fsb_coherent.specs.LineEvents.{events_below}
-use Rattle.fsb_coherent.specs.BeforeSnoop.{TiedThrough, events_before_snoop}
-use Rattle.fsb_coherent.proofs.Interface.{facts-keep-ties, first-events, may-below}
+use Rattle.fsb_tied.proofs.Words
+use Words.{ℕ, ◌<◌, ◌≤◌, length, arith, Bytes, unheld, MayRun, run, Run, past_of, Timely, KeepsBounds, IsTiedTo}
+use Words.{KeepsTie, events_below, TiedThrough, events_before_snoop, facts-keep-ties, first-events, may-below}
 use Rattle.fsb_tied.proofs.ClocksOfRuns.{clock-facts}
 
 pub keeps-ties : (r : Run) (line n : ℕ) → Timely r → KeepsBounds r.plan → n < length r.trace

@@ -1,27 +1,12 @@
 -- An agent that has a line ready awaits no link of it.
-use Rattle.std.proofs.Common.{ℕ, zero, suc, ◌<◌, ◌≤◌, ◌≡◌, true, false, ◌||◌, List, [], ◌∷◌, ◌++◌, Option, Some, None}
-use Rattle.std.proofs.Common.{length, refl, sym, ap, subst, ◌∙◌, arith, inl, inr}
-use Rattle.std.proofs.lemmas.Bool.{both_ways, cases_lt, eq-eqb, or_left, or_right}
-use Rattle.std.specs.Option.{option_and_then, option_map_or}
-use Rattle.fsb_count.specs.Clocks.{last_where}
-use Rattle.fsb_count.specs.Options.{is_some_and}
-use Rattle.fsb_encode.specs.declared.request.Kind.TheVariants.{WriteBack}
-use Rattle.fsb_line.specs.declared.link.Link.{Link}
-use Rattle.fsb_line.specs.Links.{is_linked}
-use Rattle.fsb_trace.specs.Outcome.{outcome_by_kind}
-use Rattle.fsb_trace.specs.Requests.{is_write_back_kind}
-use Rattle.fsb_timely.specs.Grants.{grant_at, has_arrived, holds_line, is_claim_of, is_ended, is_evicted, is_granted}
-use Rattle.fsb_timely.specs.Grants.{is_lost, is_ready, is_snooped, is_taken_away, is_written_back, latest_grant}
-use Rattle.fsb_timely.specs.Grants.{snooped_at}
-use Rattle.fsb_timely.specs.Past.{Grant, Past, SnoopEnd}
-use Rattle.fsb_timely.specs.Runs.{Run, past_of}
-use Rattle.fsb_timely.specs.Timely.{Timely}
-use Rattle.fsb_timely.proofs.Interface.{holds_line-says, last_where-found, last_where-from, tied-snoop}
-use Rattle.fsb_lawful.proofs.Interface.{some-and}
-use Rattle.fsb_coherent.specs.Awaits.{Awaited, awaited_by}
-use Rattle.fsb_coherent.specs.Relation.{chain_below, link_for, link_left, links_left}
-use Rattle.fsb_coherent.specs.Settled.{outcome_by_turn, outcome_under}
-use Rattle.fsb_coherent.proofs.Interface.{outcome-made}
+use Rattle.fsb_tied.proofs.Words
+use Words.{ℕ, zero, suc, ◌<◌, ◌≤◌, ◌≡◌, true, false, ◌||◌, List, [], ◌∷◌, ◌++◌, Option, Some, None, length, refl, sym}
+use Words.{ap, subst, ◌∙◌, arith, inl, inr, both_ways, cases_lt, eq-eqb, or_left, or_right, option_and_then}
+use Words.{option_map_or, last_where, is_some_and, WriteBack, Link, is_linked, outcome_by_kind, is_write_back_kind}
+use Words.{grant_at, has_arrived, holds_line, is_claim_of, is_ended, is_evicted, is_granted, is_lost, is_ready}
+use Words.{is_snooped, is_taken_away, is_written_back, latest_grant, snooped_at, Grant, Past, SnoopEnd, Run, past_of}
+use Words.{Timely, holds_line-says, last_where-found, last_where-from, tied-snoop, some-and, Awaited, awaited_by}
+use Words.{chain_below, link_for, link_left, links_left, outcome_by_turn, outcome_under, outcome-made}
 use Rattle.fsb_tied.proofs.AnswersInOrder.{answers-in-order}
 use Rattle.fsb_tied.proofs.Carrying.{ByGrant, ByWriteBack}
 use Rattle.fsb_tied.proofs.CarryingRuns.{granted-await, written-await}

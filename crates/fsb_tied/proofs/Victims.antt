@@ -1,16 +1,10 @@
 -- Lines of one cache set, and the victim among them.
-use Rattle.std.proofs.Common.{ℕ, zero, suc, ◌+◌, ◌<◌, ◌≤◌, ◌≡◌, Bool, true, false, not, ◌&&◌, List, [], ◌∷◌, Option}
-use Rattle.std.proofs.Common.{Some, None, nat_eq, refl, sym, subst, inl, inr, arith}
-use Rattle.std.specs.List.{filter, filter_map, list_any, range_with_len}
-use Rattle.std.proofs.lemmas.Bool.{and_from, and_parts, both_ways, cases_Bool, cases_lt, eq-eqb, eqb-true}
-use Rattle.std.proofs.lemmas.Bool.{false_from_ne_true, or_left}
-use Rattle.fsb_timely.specs.Past.{Owing, Past}
-use Rattle.fsb_timely.specs.Grants.{holds_line, is_exclusive, is_granted, is_rival, line_granted_at, lines_granted}
-use Rattle.fsb_timely.specs.Grants.{set_of}
-use Rattle.fsb_timely.specs.Hits.{is_dirty}
-use Rattle.fsb_timely.specs.Wants.{is_asked_for, is_same_set, least_of, victim_of}
-use Rattle.fsb_timely.proofs.Interface.{holds_line-says}
-use Rattle.fsb_lawful.proofs.Interface.{some-and}
+use Rattle.fsb_tied.proofs.Words
+use Words.{ℕ, zero, suc, ◌+◌, ◌<◌, ◌≤◌, ◌≡◌, Bool, true, false, not, ◌&&◌, List, [], ◌∷◌, Option, Some, None, nat_eq}
+use Words.{refl, sym, subst, inl, inr, arith, filter, filter_map, list_any, range_with_len, and_from, and_parts}
+use Words.{both_ways, cases_Bool, cases_lt, eq-eqb, eqb-true, false_from_ne_true, or_left, Owing, Past, holds_line}
+use Words.{is_exclusive, is_granted, is_rival, line_granted_at, lines_granted, set_of, is_dirty, is_asked_for}
+use Words.{is_same_set, least_of, victim_of, holds_line-says, some-and}
 
 -- who has a line for itself, or is dirty on it, holds it
 pub exclusive-held : (p : Past) (a line c : ℕ) → is_exclusive p a line c ≡ true → holds_line p a line c ≡ true

@@ -1,20 +1,11 @@
 -- What an agent wants suits what it has, and lies in a cache set of which it has asked for no line.
-use Rattle.std.proofs.Common.{ℕ, ◌≡◌, ◌⊎◌, Bool, true, false, ◌&&◌, List, Option, Some, None, refl, inl, inr, arith}
-use Rattle.std.proofs.lemmas.Bool.{and_from, and_parts, both_ways, false_from_ne_true, not-true}
-use Rattle.fsb_encode.specs.declared.request.Kind.{Kind}
-use Rattle.fsb_encode.specs.declared.request.Request.{Request}
-use Rattle.fsb_line.specs.declared.purpose.Purpose.{Purpose}
+use Rattle.fsb_tied.proofs.Words
+use Words.{ℕ, ◌≡◌, ◌⊎◌, Bool, true, false, ◌&&◌, List, Option, Some, None, refl, inl, inr, arith, and_from, and_parts}
+use Words.{both_ways, false_from_ne_true, not-true, Kind, Request, Purpose, is_write_back_kind, Owing, Past, holds_line}
+use Words.{is_exclusive, is_rival, is_dirty, is_met, Need, is_asked_for, is_missing, is_same_set, kind_needed}
+use Words.{may_upgrade, owed, request_of_kind, victim_of, want_for, want_of, write_back_of, find-passes, missing-parts}
+use Words.{purpose_of, suits_holder}
 use Rattle.fsb_line.specs.declared.purpose.Purpose.TheVariants as purposes
-use Rattle.fsb_trace.specs.Requests.{is_write_back_kind}
-use Rattle.fsb_timely.specs.Past.{Owing, Past}
-use Rattle.fsb_timely.specs.Grants.{holds_line, is_exclusive, is_rival}
-use Rattle.fsb_timely.specs.Hits.{is_dirty, is_met}
-use Rattle.fsb_timely.specs.Scripts.{Need}
-use Rattle.fsb_timely.specs.Wants.{is_asked_for, is_missing, is_same_set, kind_needed, may_upgrade, owed}
-use Rattle.fsb_timely.specs.Wants.{request_of_kind, victim_of, want_for, want_of, write_back_of}
-use Rattle.fsb_timely.proofs.Interface.{find-passes, missing-parts}
-use Rattle.fsb_coherent.specs.Awaits.{purpose_of}
-use Rattle.fsb_coherent.specs.Facts.{suits_holder}
 use Rattle.fsb_tied.proofs.Victims.{a-victim, exclusive-held, no-victim, not-asked, rival-set, same-set}
 
 -- what an agent wants: it suits what the agent has of the line; no request that it has outstanding is for a line of the

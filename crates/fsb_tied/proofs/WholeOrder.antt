@@ -1,18 +1,8 @@
 -- The whole trace of a timely run is orderly: its live requests respond and end one after the other.
-use Rattle.std.proofs.Common.{ℕ, zero, suc, ◌+◌, ◌-◌, ◌<◌, ◌≤◌, ◌≡◌, Some, length, subst, arith, inl, inr}
-use Rattle.std.proofs.lemmas.Bool.{cases_lt}
-use Rattle.std.proofs.lemmas.List.{take_all}
-use Rattle.fsb_count.proofs.Interface.{nth_where-one}
-use Rattle.fsb_trace.specs.At.{Trace}
-use Rattle.fsb_trace.specs.Outcome.{response_clock_of}
-use Rattle.fsb_trace.specs.Requests.{is_live, live_clock_of}
-use Rattle.fsb_trace.specs.Response.{end_of}
-use Rattle.fsb_trace.proofs.Interface.{end_of-response}
-use Rattle.fsb_laws.specs.Orderly.{Orderly}
-use Rattle.fsb_laws.proofs.Interface.{HasAnswer, clear_parts, has_answer}
-use Rattle.fsb_timely.specs.Runs.{Run, run_to}
-use Rattle.fsb_timely.specs.Timely.{Timely}
-use Rattle.fsb_lawful.proofs.Interface.{orderly-at}
+use Rattle.fsb_tied.proofs.Words
+use Words.{ℕ, zero, suc, ◌+◌, ◌-◌, ◌<◌, ◌≤◌, ◌≡◌, Some, length, subst, arith, inl, inr, cases_lt, take_all}
+use Words.{nth_where-one, Trace, response_clock_of, is_live, live_clock_of, end_of, end_of-response, Orderly, HasAnswer}
+use Words.{clear_parts, has_answer, Run, run_to, Timely, orderly-at}
 
 whole-run : (r : Run) (c : ℕ) → length r.trace ≤ c + 1 → (run_to r c).trace ≡ r.trace
 unfolding run_to

@@ -1,27 +1,10 @@
 -- At the snoop end of a write-back of a timely run no other agent holds its line.
-use Rattle.std.proofs.Common.{ℕ, ◌<◌, ◌≡◌, true, false, Option, Some, None, [], ◌&&◌, not, nat_eq, length, refl}
-use Rattle.std.proofs.Common.{subst, ◌∙◌, arith}
-use Rattle.fsb_count.specs.Clocks.{any_where}
-use Rattle.fsb_count.specs.Options.{is_some_and}
-use Rattle.fsb_encode.specs.declared.request.Kind.{Kind}
-use Rattle.fsb_line.specs.declared.purpose.Purpose.{Purpose}
+use Rattle.fsb_tied.proofs.Words
+use Words.{ℕ, ◌<◌, ◌≡◌, true, false, Option, Some, None, [], ◌&&◌, not, nat_eq, length, refl, subst, ◌∙◌, arith}
+use Words.{any_where, is_some_and, Kind, Purpose, unheld, run, is_write_back_kind, snoop_end_of-clock, Claim, Past}
+use Words.{SnoopEnd, snooped_at, Run, past_of, past_to, is_held_elsewhere, is_held_for, Timely, past-begins, tied-snoop}
+use Words.{KeepsBounds, WritesBackAlone, purpose_of, events_below, IsOpen, GoesOnAt, holds-to}
 use Rattle.fsb_line.specs.declared.purpose.Purpose.TheVariants as purposes
-use Rattle.fsb_line.specs.Line.{unheld}
-use Rattle.fsb_line.specs.LineRuns.{run}
-use Rattle.fsb_trace.specs.Requests.{is_write_back_kind}
-use Rattle.fsb_trace.proofs.Interface.{snoop_end_of-clock}
-use Rattle.fsb_timely.specs.Past.{Claim, Past, SnoopEnd}
-use Rattle.fsb_timely.specs.Grants.{snooped_at}
-use Rattle.fsb_timely.specs.Runs.{Run, past_of, past_to}
-use Rattle.fsb_timely.specs.Snoops.{is_held_elsewhere, is_held_for}
-use Rattle.fsb_timely.specs.Timely.{Timely}
-use Rattle.fsb_timely.proofs.Interface.{past-begins, tied-snoop}
-use Rattle.fsb_lawful.specs.Beginning.{KeepsBounds}
-use Rattle.fsb_lawful.specs.Premises.{WritesBackAlone}
-use Rattle.fsb_coherent.specs.Awaits.{purpose_of}
-use Rattle.fsb_coherent.specs.LineEvents.{events_below}
-use Rattle.fsb_coherent.specs.Relation.{IsOpen}
-use Rattle.fsb_coherent.proofs.Interface.{GoesOnAt, holds-to}
 use Rattle.fsb_tied.proofs.OneOwner.{held-nowhere-else}
 use Rattle.fsb_tied.proofs.SnoopOpen.{open-at-snoop-end}
 use Rattle.fsb_tied.proofs.TiedRuns.{events-may-happen}
