@@ -1,18 +1,9 @@
 -- The request that begins is what its agent wants, and has the ID of that want.
-use Rattle.std.proofs.Common.{ℕ, ◌+◌, ◌<◌, ◌≤◌, ◌≡◌, Bool, Some, length, refl, sym, ap, ◌∙◌, arith}
-use Rattle.fsb_signal.specs.declared.lines.TheConstants.Lines.{ADS}
-use Rattle.fsb_signal.specs.Samples.{line_at}
+use Rattle.fsb_run_laws.proofs.Words
+use Words.{ℕ, ◌+◌, ◌<◌, ◌≤◌, ◌≡◌, Bool, Some, length, refl, sym, ap, ◌∙◌, arith, ADS, line_at, Trace, begun_with}
+use Words.{moment_at, owing_for, Owing, Past, moments_below, past_of, past_with, Run, run_to, free_id, owed, want_of}
+use Words.{Alike, moment-at, owed-same, want-few, begun-want, Reaches, owing_begun}
 use Rattle.fsb_encode.specs.declared.request.Request.{Request}
-use Rattle.fsb_trace.specs.At.{Trace}
-use Rattle.fsb_timely.specs.Moments.{begun_with, moment_at, owing_for}
-use Rattle.fsb_timely.specs.Past.{Owing, Past}
-use Rattle.fsb_timely.specs.Runs.{moments_below, past_of, past_with, Run, run_to}
-use Rattle.fsb_timely.specs.Wants.{free_id, owed, want_of}
-use Rattle.fsb_timely.proofs.Interface.{Alike, moment-at, owed-same}
-use Rattle.fsb_lawful.proofs.Interface.{want-few}
-use Rattle.fsb_tied.proofs.Interface.{begun-want}
-use Rattle.fsb_run_laws.specs.Reaches.{Reaches}
-use Rattle.fsb_run_laws.specs.RunSteps.{owing_begun}
 use Rattle.fsb_run_laws.proofs.OwedRequests.{begun-field, owing-claim}
 
 -- the past below a clock is that of the whole run so far

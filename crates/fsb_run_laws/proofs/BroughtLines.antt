@@ -1,26 +1,12 @@
 -- A line that is brought is one that the request whose end it is was granted; a reply serves what was Deferred.
-use Rattle.std.proofs.Common.{ℕ, ◌+◌, ◌<◌, ◌≤◌, ◌≡◌, Bool, true, not, ◌&&◌, ◌||◌, Some, None, length, nat_eq, refl}
-use Rattle.std.proofs.Common.{ap, ◌∙◌, arith}
-use Rattle.std.specs.List.{list_any}
-use Rattle.std.specs.Option.{option_and_then}
-use Rattle.std.proofs.lemmas.Bool.{and_from, and_parts, eq-eqb}
-use Rattle.fsb_count.specs.Clocks.{first_where}
-use Rattle.fsb_count.specs.Options.{is_some_and}
-use Rattle.fsb_count.proofs.Interface.{any_where-at, any_where-found, first_where-at, first_where-found}
-use Rattle.fsb_timely.specs.Completions.{brings_at, is_brought}
-use Rattle.fsb_timely.specs.Grants.{ended_requests, grant_at, is_end_at, is_granted, snooped_at}
-use Rattle.fsb_timely.specs.Moments.{grant_to, is_snoop_of}
-use Rattle.fsb_timely.specs.Past.{Grant, Past, SnoopEnd}
-use Rattle.fsb_timely.specs.Runs.{past_of, Run}
-use Rattle.fsb_timely.specs.Scripts.{Need}
-use Rattle.fsb_coherent.specs.Awaits.{snoop_end_below}
-use Rattle.fsb_coherent.specs.Facts.{IsRepliedOn}
-use Rattle.fsb_coherent.proofs.Interface.{any-from, any-there}
-use Rattle.fsb_lawful.proofs.Interface.{and-then, some-and}
-use Rattle.fsb_tied.proofs.Interface.{answers-in-order, any-of, clock-facts, grant-first, granted-parts, is-found}
-use Rattle.fsb_tied.proofs.Interface.{none-before, reply-end-at}
+use Rattle.fsb_run_laws.proofs.Words
+use Words.{ℕ, ◌+◌, ◌<◌, ◌≤◌, ◌≡◌, Bool, true, not, ◌&&◌, ◌||◌, Some, None, length, nat_eq, refl, ap, ◌∙◌, arith}
+use Words.{list_any, option_and_then, and_from, and_parts, eq-eqb, first_where, is_some_and, any_where-at}
+use Words.{any_where-found, first_where-at, first_where-found, brings_at, is_brought, ended_requests, grant_at}
+use Words.{is_end_at, is_granted, snooped_at, grant_to, is_snoop_of, Grant, Past, SnoopEnd, past_of, Run, Need}
+use Words.{snoop_end_below, IsRepliedOn, any-from, any-there, and-then, some-and, answers-in-order, any-of, clock-facts}
+use Words.{grant-first, granted-parts, is-found, none-before, reply-end-at, Reaches}
 use Rattle.fsb_run_laws.specs.Brought.{brings, is_bringing, ServesDeferred}
-use Rattle.fsb_run_laws.specs.Reaches.{Reaches}
 
 -- a snoop end is the one of its request
 pub snoop-below : (r : Run) (n t : ℕ) (s : SnoopEnd) → Reaches r (n + 1) → t ≤ n → snooped_at (past_of r) t ≡ Some s

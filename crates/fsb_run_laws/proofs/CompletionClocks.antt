@@ -1,21 +1,9 @@
 -- An agent has an entry at a clock exactly where it has a hit or an arrival.
-use Rattle.std.proofs.Common.{ℕ, ◌+◌, ◌<◌, ◌≡◌, ◌⊎◌, true, false, ◌||◌, List, [], ◌∷◌, Option, Some, slice_get, refl}
-use Rattle.std.proofs.Common.{◌∙◌, arith}
-use Rattle.std.specs.List.{list_all, list_any}
-use Rattle.fsb_count.specs.Options.{is_some_and}
-use Rattle.fsb_count.proofs.Interface.{first_where-found}
-use Rattle.fsb_access.specs.declared.item.Item.{Item}
-use Rattle.fsb_access.specs.declared.log.Done.{Done}
-use Rattle.fsb_access.specs.ScriptOrder.{script_of, steps_of}
-use Rattle.fsb_script.specs.Bounds.{is_lawful_item, is_lawful_script}
-use Rattle.fsb_timely.specs.Completions.{is_arrival}
-use Rattle.fsb_timely.specs.Hits.{is_hit}
-use Rattle.fsb_timely.specs.Past.{Past}
-use Rattle.fsb_timely.specs.Runs.{past_of, Run}
-use Rattle.fsb_timely.specs.Scripts.{completes_at, is_done_at, is_idle, is_to_do, items_of, next_item, next_number}
-use Rattle.fsb_timely.proofs.Interface.{at, logged-next, logs-item, steps-completed}
-use Rattle.fsb_lawful.proofs.Interface.{all-at}
-use Rattle.fsb_run_laws.specs.Reaches.{Reaches}
+use Rattle.fsb_run_laws.proofs.Words
+use Words.{ℕ, ◌+◌, ◌<◌, ◌≡◌, ◌⊎◌, true, false, ◌||◌, List, [], ◌∷◌, Option, Some, slice_get, refl, ◌∙◌, arith, list_all}
+use Words.{list_any, is_some_and, first_where-found, Item, Done, script_of, steps_of, is_lawful_item, is_lawful_script}
+use Words.{is_arrival, is_hit, Past, past_of, Run, completes_at, is_done_at, is_idle, is_to_do, items_of, next_item}
+use Words.{next_number, at, logged-next, logs-item, steps-completed, all-at, Reaches}
 use Rattle.fsb_run_laws.proofs.NextItems.{first-step}
 
 -- an agent without an entry at a clock has no steps there

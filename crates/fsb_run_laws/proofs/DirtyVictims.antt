@@ -1,13 +1,8 @@
 -- The victim of an agent for a line is the rival of the line on which the agent is dirty.
-use Rattle.std.proofs.Common.{ℕ, ◌≡◌, true, false, Option, Some, None, nat_eq, refl, ap, inl, inr, arith}
-use Rattle.std.proofs.lemmas.Bool.{both_ways, cases_Bool, eqb-true}
-use Rattle.fsb_timely.specs.Grants.{is_rival}
-use Rattle.fsb_timely.specs.Hits.{is_dirty}
-use Rattle.fsb_timely.specs.Past.{Past}
-use Rattle.fsb_timely.specs.Runs.{past_of, Run}
-use Rattle.fsb_timely.specs.Wants.{is_same_set, victim_of}
-use Rattle.fsb_tied.proofs.Interface.{a-victim, dirty-held, no-victim, one-slot, rival-sym}
-use Rattle.fsb_run_laws.specs.Reaches.{Reaches}
+use Rattle.fsb_run_laws.proofs.Words
+use Words.{ℕ, ◌≡◌, true, false, Option, Some, None, nat_eq, refl, ap, inl, inr, arith, both_ways, cases_Bool, eqb-true}
+use Words.{is_rival, is_dirty, Past, past_of, Run, is_same_set, victim_of, a-victim, dirty-held, no-victim, one-slot}
+use Words.{rival-sym, Reaches}
 
 -- two rivals of a line that differ are rivals
 rivals : (p : Past) (line w v : ℕ) → is_rival p w line ≡ true → is_rival p v line ≡ true → nat_eq w v ≡ false

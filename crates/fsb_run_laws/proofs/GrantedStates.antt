@@ -1,18 +1,9 @@
 -- The state that a grant gives.
-use Rattle.std.proofs.Common.{ℕ, ◌+◌, ◌<◌, ◌≡◌, true, false, Some, sym, ap, ◌∙◌, arith}
-use Rattle.std.proofs.lemmas.Bool.{both_ways, false_from_ne_true, ltb-true}
-use Rattle.fsb_count.specs.Options.{is_some_and}
-use Rattle.fsb_count.proofs.Interface.{nat_lt-more}
-use Rattle.fsb_timely.specs.Past.{Grant, Past}
-use Rattle.fsb_timely.specs.Grants.{grant_at, is_ended, is_granted, is_sole_grant}
-use Rattle.fsb_timely.specs.Runs.{past_of, Run}
-use Rattle.fsb_timely.proofs.Interface.{holds_line-more, is_exclusive-more}
-use Rattle.fsb_coherent.specs.Facts.{ClockFacts}
-use Rattle.fsb_coherent.specs.Relation.{is_dirtying, is_stored_below}
-use Rattle.fsb_coherent.proofs.Interface.{dirty-more, ended-later, granted-now, stored-parts}
-use Rattle.fsb_tied.proofs.Interface.{clock-facts}
-use Rattle.fsb_run_laws.specs.Reaches.{Reaches}
-use Rattle.fsb_run_laws.specs.RunStates.{state_below, state_of_tests, state_granted}
+use Rattle.fsb_run_laws.proofs.Words
+use Words.{ℕ, ◌+◌, ◌<◌, ◌≡◌, true, false, Some, sym, ap, ◌∙◌, arith, both_ways, false_from_ne_true, ltb-true}
+use Words.{is_some_and, nat_lt-more, Grant, Past, grant_at, is_ended, is_granted, is_sole_grant, past_of, Run}
+use Words.{holds_line-more, is_exclusive-more, ClockFacts, is_dirtying, is_stored_below, dirty-more, ended-later}
+use Words.{granted-now, stored-parts, clock-facts, Reaches, state_below, state_of_tests, state_granted}
 
 -- no store is logged above the end of a grant that is new
 pub none-stored : (p : Past) (a line n : ℕ) (grant : Grant) → ClockFacts p line n → is_granted p a line n ≡ true

@@ -1,23 +1,11 @@
 -- The last clock at which a request is outstanding shows in the samples up to it.
-use Rattle.std.proofs.Common.{ℕ, ◌+◌, ◌<◌, ◌≤◌, ◌≡◌, true, Some, length, sym, ap, ◌∙◌, inl, inr, arith}
-use Rattle.std.specs.Option.{option_and_then}
-use Rattle.std.proofs.lemmas.Bool.{and_parts, cases_Bool}
-use Rattle.fsb_count.specs.Options.{is_before}
-use Rattle.fsb_count.proofs.Interface.{is_before-parts}
-use Rattle.fsb_trace.specs.Agree.{AgreeTo}
-use Rattle.fsb_trace.specs.At.{Trace}
-use Rattle.fsb_trace.specs.Flight.{is_finished, last_clock_of, reply_end_of, reply_number_of}
-use Rattle.fsb_trace.specs.Outcome.{is_deferred, response_clock_of}
-use Rattle.fsb_trace.specs.Requests.{is_live, live_clock_of, live_number_of}
-use Rattle.fsb_trace.specs.Response.{end_of}
-use Rattle.fsb_trace.specs.Snoop.{snoop_end_of}
-use Rattle.fsb_trace.proofs.Interface.{end_of-response, end_of-stays, is_deferred-stays, is_live-agree}
-use Rattle.fsb_trace.proofs.Interface.{live_clock_of-number, live_clock_of-stays}
-use Rattle.fsb_laws.specs.Orderly.{Orderly}
-use Rattle.fsb_laws.proofs.Interface.{deferred_response, end_after_clock, has_answer, last_clock_of-deferred}
-use Rattle.fsb_laws.proofs.Interface.{last_clock_of-plain}
-use Rattle.fsb_lawful.proofs.Interface.{and-then}
-use Rattle.fsb_tied.proofs.Interface.{has-reply, live-at, reply-stays}
+use Rattle.fsb_run_laws.proofs.Words
+use Words.{ℕ, ◌+◌, ◌<◌, ◌≤◌, ◌≡◌, true, Some, length, sym, ap, ◌∙◌, inl, inr, arith, option_and_then, and_parts}
+use Words.{cases_Bool, is_before, is_before-parts, AgreeTo, Trace, is_finished, last_clock_of, reply_end_of}
+use Words.{reply_number_of, is_deferred, response_clock_of, is_live, live_clock_of, live_number_of, end_of}
+use Words.{snoop_end_of, end_of-response, end_of-stays, is_deferred-stays, is_live-agree, live_clock_of-number}
+use Words.{live_clock_of-stays, Orderly, deferred_response, end_after_clock, has_answer, last_clock_of-deferred}
+use Words.{last_clock_of-plain, and-then, has-reply, live-at, reply-stays}
 
 -- the end x of live request i, with its first clock, its snoop end and its response
 pub record HasEnd (w : Trace) (i x : ℕ) : Type 0 where

@@ -1,19 +1,11 @@
 -- The last entry of an agent, one clock further.
-use Rattle.std.proofs.Common.{ℕ, zero, suc, ◌+◌, ◌<◌, ◌≤◌, ◌≡◌, Bool, true, false, nat_eq, nat_lt, List, [], ◌∷◌}
-use Rattle.std.proofs.Common.{Some, length, slice_get, sym, ap, ◌∙◌, arith}
-use Rattle.std.specs.List.{list_any}
-use Rattle.std.specs.Option.{option_and_then}
-use Rattle.std.proofs.lemmas.Bool.{and_parts, eqb-true, ltb-true, or_parts}
+use Rattle.fsb_run_laws.proofs.Words
+use Words.{ℕ, zero, suc, ◌+◌, ◌<◌, ◌≤◌, ◌≡◌, Bool, true, false, nat_eq, nat_lt, List, [], ◌∷◌, Some, length, slice_get}
+use Words.{sym, ap, ◌∙◌, arith, list_any, option_and_then, and_parts, eqb-true, ltb-true, or_parts, is_some_and, Done}
+use Words.{is_in_time, Past, past_of, Run, completes_at, is_done_at, is_done_by, is_logged_at, last_done, next_number}
+use Words.{Timely, done-same, last-same, last_where-found, last_where-from, logged-next, any-from, any-there}
+use Words.{some-there}
 use Rattle.std.proofs.lemmas.Option.{slice_get_within}
-use Rattle.fsb_count.specs.Options.{is_some_and}
-use Rattle.fsb_access.specs.declared.log.Done.{Done}
-use Rattle.fsb_timely.specs.Completions.{is_in_time}
-use Rattle.fsb_timely.specs.Past.{Past}
-use Rattle.fsb_timely.specs.Runs.{past_of, Run}
-use Rattle.fsb_timely.specs.Scripts.{completes_at, is_done_at, is_done_by, is_logged_at, last_done, next_number}
-use Rattle.fsb_timely.specs.Timely.{Timely}
-use Rattle.fsb_timely.proofs.Interface.{done-same, last-same, last_where-found, last_where-from, logged-next}
-use Rattle.fsb_coherent.proofs.Interface.{any-from, any-there, some-there}
 
 -- the clocks of a log in time never fall
 above : (first end : ℕ) (log : List Done) (k : ℕ) (x : Done) → is_in_time first end log ≡ true

@@ -1,14 +1,9 @@
 -- The last request that put a line into memory, one clock further.
-use Rattle.std.proofs.Common.{ℕ, ◌+◌, ◌≡◌, true, false, Some, arith}
-use Rattle.std.proofs.lemmas.Bool.{and_parts, false_from_ne_true}
-use Rattle.fsb_count.specs.Options.{is_before}
-use Rattle.fsb_count.proofs.Interface.{is_before-from, is_before-parts}
-use Rattle.fsb_trace.specs.Response.{end_of}
-use Rattle.fsb_trace.proofs.Interface.{live_below_count}
-use Rattle.fsb_timely.specs.Runs.{past_of, Run}
+use Rattle.fsb_run_laws.proofs.Words
+use Words.{ℕ, ◌+◌, ◌≡◌, true, false, Some, arith, and_parts, false_from_ne_true, is_before, is_before-from}
+use Words.{is_before-parts, end_of, live_below_count, past_of, Run, ended-before, number-put, number-stays}
+use Words.{orderly-whole, takes_line, Reaches}
 use Rattle.fsb_tied.specs.RunBytes.{is_put_below, number_put_below}
-use Rattle.fsb_tied.proofs.Interface.{ended-before, number-put, number-stays, orderly-whole, takes_line}
-use Rattle.fsb_run_laws.specs.Reaches.{Reaches}
 use Rattle.fsb_run_laws.proofs.LastClocks.{has-end}
 
 put-takes : (r : Run) (line n i : ℕ) → is_put_below r (past_of r) line (n + 1) i ≡ true → takes_line r line i ≡ true

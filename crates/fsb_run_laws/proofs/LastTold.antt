@@ -1,31 +1,15 @@
 -- Which requests stop being outstanding at a clock, by its moment.
-use Rattle.std.proofs.Common.{ℕ, ◌+◌, ◌<◌, ◌≤◌, ◌≡◌, true, false, not, ◌&&◌, [], Some, None, length, nat_eq, refl}
-use Rattle.std.proofs.Common.{sym, ap, subst, ◌∙◌, inl, inr, arith}
-use Rattle.std.specs.List.{list_any}
-use Rattle.std.proofs.lemmas.Bool.{and_parts, both_ways, cases_Bool, eqb-true, false_from_ne_true}
-use Rattle.fsb_count.specs.Options.{is_at, is_some_and}
-use Rattle.fsb_count.proofs.Interface.{is_at-from, is_at-some}
-use Rattle.fsb_signal.specs.declared.lines.TheConstants.Lines.{AERR}
-use Rattle.fsb_signal.specs.Samples.{line_at}
-use Rattle.fsb_trace.specs.At.{Trace}
-use Rattle.fsb_trace.specs.Flight.{last_clock_of, reply_end_of, reply_number_of}
-use Rattle.fsb_trace.specs.Outcome.{is_deferral, is_deferred, response_clock_of}
-use Rattle.fsb_trace.specs.Requests.{is_cancelled, is_live, live_clock_of, live_number_of}
-use Rattle.fsb_trace.specs.Response.{end_of}
-use Rattle.fsb_trace.proofs.Interface.{AgreeTo-sym, is_deferred-stays, live_clock_of-number, response_clock_of-stays}
-use Rattle.fsb_trace.proofs.Interface.{snoop_end_of-stays}
-use Rattle.fsb_laws.proofs.Interface.{deferred_response, last_clock_of-deferred, last_clock_of-plain}
-use Rattle.fsb_timely.specs.Grants.{begun_at, ended_requests, is_end_at, snooped_at}
-use Rattle.fsb_timely.specs.Growth.{is_last_clock}
-use Rattle.fsb_timely.specs.Moments.{grant_to}
-use Rattle.fsb_timely.specs.Past.{Claim, Grant, SnoopEnd}
-use Rattle.fsb_timely.specs.Runs.{past_of, Run, run_to}
-use Rattle.fsb_timely.proofs.Interface.{one_end, snoop-tied}
-use Rattle.fsb_lawful.proofs.Interface.{and-then, run_to-agrees, told-as-settled, turned-at}
-use Rattle.fsb_coherent.specs.Awaits.{cancelled_in, snoop_end_below}
-use Rattle.fsb_tied.proofs.Interface.{IsSnooped, answered, begun-want, cancelled-at, cancels, claimed, ended-number}
-use Rattle.fsb_tied.proofs.Interface.{has-reply, live-at, number-ended, orderly-whole, reply-end-at, snooped-by}
-use Rattle.fsb_run_laws.specs.Reaches.{Reaches}
+use Rattle.fsb_run_laws.proofs.Words
+use Words.{ℕ, ◌+◌, ◌<◌, ◌≤◌, ◌≡◌, true, false, not, ◌&&◌, [], Some, None, length, nat_eq, refl, sym, ap, subst, ◌∙◌}
+use Words.{inl, inr, arith, list_any, and_parts, both_ways, cases_Bool, eqb-true, false_from_ne_true, is_at}
+use Words.{is_some_and, is_at-from, is_at-some, AERR, line_at, Trace, last_clock_of, reply_end_of, reply_number_of}
+use Words.{is_deferral, is_deferred, response_clock_of, is_cancelled, is_live, live_clock_of, live_number_of, end_of}
+use Words.{AgreeTo-sym, is_deferred-stays, live_clock_of-number, response_clock_of-stays, snoop_end_of-stays}
+use Words.{deferred_response, last_clock_of-deferred, last_clock_of-plain, begun_at, ended_requests, is_end_at}
+use Words.{snooped_at, is_last_clock, grant_to, Claim, Grant, SnoopEnd, past_of, Run, run_to, one_end, snoop-tied}
+use Words.{and-then, run_to-agrees, told-as-settled, turned-at, cancelled_in, snoop_end_below, IsSnooped, answered}
+use Words.{begun-want, cancelled-at, cancels, claimed, ended-number, has-reply, live-at, number-ended, orderly-whole}
+use Words.{reply-end-at, snooped-by, Reaches}
 use Rattle.fsb_run_laws.proofs.BroughtLines.{snoop-below}
 use Rattle.fsb_run_laws.proofs.LastClocks.{has-end}
 

@@ -1,34 +1,15 @@
 -- Which requests are outstanding at a clock at which they have their snoop end or stop being so, and by what they stop.
-use Rattle.std.proofs.Common.{ℕ, ◌+◌, ◌<◌, ◌≤◌, ◌≡◌, ◌⊎◌, true, false, ◌&&◌, Option, Some, None, nat_eq, refl, sym}
-use Rattle.std.proofs.Common.{ap, subst, ◌∙◌, inl, inr, arith}
-use Rattle.std.specs.Option.{option_and_then}
-use Rattle.std.proofs.lemmas.Bool.{and_parts, both_ways, cases_Bool, cases_lt, eqb-true, lt-ltb, or_cases}
-use Rattle.fsb_count.specs.Options.{is_at, is_before}
-use Rattle.fsb_count.proofs.Interface.{is_at-from, is_at-some, is_before-parts}
-use Rattle.fsb_signal.specs.declared.lines.TheConstants.Lines.{ADS, AERR}
-use Rattle.fsb_signal.specs.Samples.{line_at}
-use Rattle.fsb_trace.specs.At.{Trace, request_at}
-use Rattle.fsb_trace.specs.Flight.{is_dropped, is_finished, is_outstanding, last_clock_of, reply_end_of}
-use Rattle.fsb_trace.specs.Flight.{reply_number_of}
-use Rattle.fsb_trace.specs.Outcome.{is_deferral, is_deferred}
-use Rattle.fsb_trace.specs.Requests.{is_cancelled, is_live, is_reply, live_clock_of, live_number_of}
-use Rattle.fsb_trace.specs.Response.{end_of}
-use Rattle.fsb_trace.specs.Snoop.{snoop_end_of}
-use Rattle.fsb_trace.proofs.Interface.{live_clock_of-number}
-use Rattle.fsb_laws.specs.Orderly.{Orderly}
-use Rattle.fsb_laws.proofs.Interface.{deferred_response, last_clock_of-deferred, last_clock_of-plain}
-use Rattle.fsb_timely.specs.Grants.{begun_at, is_end_at, snooped_at}
-use Rattle.fsb_timely.specs.Growth.{is_last_clock}
-use Rattle.fsb_timely.specs.Moments.{claim_at, grant_to, is_owner_request, served_number, turns_in}
-use Rattle.fsb_timely.specs.Past.{Claim, Grant, SnoopEnd}
-use Rattle.fsb_timely.specs.Runs.{past_of, Run}
-use Rattle.fsb_timely.proofs.Interface.{one_end, snoop-tied, tied-snoop}
-use Rattle.fsb_lawful.proofs.Interface.{and-then, wants-lawfully}
-use Rattle.fsb_coherent.specs.Awaits.{cancelled_in, snoop_end_below}
-use Rattle.fsb_tied.proofs.Interface.{IsPutOff, IsSnooped, begun-want, cancelled-at, clock-facts, has-reply, live-at}
-use Rattle.fsb_tied.proofs.Interface.{live-request, number-ended, orderly-whole, reply-end-at, reply-grants}
-use Rattle.fsb_tied.proofs.Interface.{snooped-by}
-use Rattle.fsb_run_laws.specs.Reaches.{Reaches}
+use Rattle.fsb_run_laws.proofs.Words
+use Words.{ℕ, ◌+◌, ◌<◌, ◌≤◌, ◌≡◌, ◌⊎◌, true, false, ◌&&◌, Option, Some, None, nat_eq, refl, sym, ap, subst, ◌∙◌, inl}
+use Words.{inr, arith, option_and_then, and_parts, both_ways, cases_Bool, cases_lt, eqb-true, lt-ltb, or_cases, is_at}
+use Words.{is_before, is_at-from, is_at-some, is_before-parts, ADS, AERR, line_at, Trace, request_at, is_dropped}
+use Words.{is_finished, is_outstanding, last_clock_of, reply_end_of, reply_number_of, is_deferral, is_deferred}
+use Words.{is_cancelled, is_live, is_reply, live_clock_of, live_number_of, end_of, snoop_end_of, live_clock_of-number}
+use Words.{Orderly, deferred_response, last_clock_of-deferred, last_clock_of-plain, begun_at, is_end_at, snooped_at}
+use Words.{is_last_clock, claim_at, grant_to, is_owner_request, served_number, turns_in, Claim, Grant, SnoopEnd}
+use Words.{past_of, Run, one_end, snoop-tied, tied-snoop, and-then, wants-lawfully, cancelled_in, snoop_end_below}
+use Words.{IsPutOff, IsSnooped, begun-want, cancelled-at, clock-facts, has-reply, live-at, live-request, number-ended}
+use Words.{orderly-whole, reply-end-at, reply-grants, snooped-by, Reaches}
 use Rattle.fsb_run_laws.proofs.BroughtLines.{snoop-below}
 use Rattle.fsb_run_laws.proofs.LastClocks.{has-end}
 use Rattle.fsb_run_laws.proofs.LastTold.{ends-with, last-live, told-same}

@@ -1,3 +1,4 @@
+pub mod Words
 pub mod LineStates
 pub mod GrantedStates
 pub mod DirtyVictims

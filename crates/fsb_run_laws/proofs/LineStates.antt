@@ -1,21 +1,12 @@
 -- The state of a line at an agent, by what happens at a clock.
-use Rattle.std.proofs.Common.{ℕ, ◌+◌, ◌≡◌, Bool, true, false, ◌&&◌, ◌||◌, if◌then◌else◌, nat_eq, nat_lt, List, []}
-use Rattle.std.proofs.Common.{◌∷◌, Option, refl, ap, ◌∙◌, arith}
-use Rattle.std.specs.List.{list_any}
-use Rattle.std.proofs.lemmas.Bool.{and_parts, or_left, or_right}
-use Rattle.fsb_count.specs.Options.{is_some_and}
-use Rattle.fsb_count.proofs.Interface.{nat_lt-more}
-use Rattle.fsb_access.specs.declared.log.Done.{Done}
+use Rattle.fsb_run_laws.proofs.Words
+use Words.{ℕ, ◌+◌, ◌≡◌, Bool, true, false, ◌&&◌, ◌||◌, if◌then◌else◌, nat_eq, nat_lt, List, [], ◌∷◌, Option, refl, ap}
+use Words.{◌∙◌, arith, list_any, and_parts, or_left, or_right, is_some_and, nat_lt-more, Done, Grant, Past, holds_line}
+use Words.{is_ended, is_evicted, is_exclusive, is_granted, is_lost, is_named_by_other, is_taken_away, is_written_back}
+use Words.{latest_grant, is_dirty, is_hit, is_store_on, line_state_of, holds_line-more, is_exclusive-more}
+use Words.{is_dirty_below, is_dirty_through, is_stored_below, dirty-by-hits, dirty-more, state_below, state_of_tests}
+use Words.{state_read, state_stored, state_through, stores_at}
 use Rattle.fsb_line.specs.declared.state.Mesi.TheVariants.{Invalid, Shared, Exclusive, Modified}
-use Rattle.fsb_timely.specs.Past.{Grant, Past}
-use Rattle.fsb_timely.specs.Grants.{holds_line, is_ended, is_evicted, is_exclusive, is_granted, is_lost}
-use Rattle.fsb_timely.specs.Grants.{is_named_by_other, is_taken_away, is_written_back, latest_grant}
-use Rattle.fsb_timely.specs.Hits.{is_dirty, is_hit, is_store_on, line_state_of}
-use Rattle.fsb_timely.proofs.Interface.{holds_line-more, is_exclusive-more}
-use Rattle.fsb_coherent.specs.Relation.{is_dirty_below, is_dirty_through, is_stored_below}
-use Rattle.fsb_coherent.proofs.Interface.{dirty-by-hits, dirty-more}
-use Rattle.fsb_run_laws.specs.RunStates.{state_below, state_of_tests, state_read, state_stored, state_through}
-use Rattle.fsb_run_laws.specs.RunStates.{stores_at}
 
 -- the state is told by holding, having for itself, and being dirty
 by-tests : (held own dirty : Bool)

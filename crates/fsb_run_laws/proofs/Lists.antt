@@ -1,10 +1,8 @@
 -- Lists of what some clocks give.
-use Rattle.std.proofs.Common.{ℕ, zero, suc, ◌+◌, ◌<◌, ◌≡◌, Bool, true, ◌&&◌, [], ◌∷◌, ◌++◌, Option, Some, None}
-use Rattle.std.proofs.Common.{if◌then◌else◌, refl, sym, ap, ◌∙◌, arith, add-one}
-use Rattle.std.specs.List.{filter, filter_map}
+use Rattle.fsb_run_laws.proofs.Words
+use Words.{ℕ, zero, suc, ◌+◌, ◌<◌, ◌≡◌, Bool, true, ◌&&◌, [], ◌∷◌, ◌++◌, Option, Some, None, if◌then◌else◌, refl, sym}
+use Words.{ap, ◌∙◌, arith, add-one, filter, filter_map, all_where, listed}
 use Rattle.std.proofs.lemmas.List.Elements.{filter-append, filter_map-append}
-use Rattle.fsb_count.specs.Clocks.{all_where}
-use Rattle.fsb_run_laws.specs.RunSteps.{listed}
 
 -- what a clock gives, where it passes
 abbrev pub given : {Y : Type 0} → Bool → Option Y → Option Y

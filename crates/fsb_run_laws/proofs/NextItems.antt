@@ -1,23 +1,11 @@
 -- Where an agent is in its script behind a completion, and at which clocks it has one.
-use Rattle.std.proofs.Common.{ℕ, ◌+◌, ◌<◌, ◌≡◌, Bool, true, false, ◌&&◌, nat_lt, List, [], ◌∷◌, Option, Some, length}
-use Rattle.std.proofs.Common.{refl, ap, arith}
-use Rattle.std.specs.Option.{option_map_or}
-use Rattle.std.proofs.lemmas.Bool.{lt-ltb}
-use Rattle.fsb_count.specs.Options.{is_some_and}
-use Rattle.fsb_count.proofs.Interface.{first_where-found, first_where-same}
-use Rattle.fsb_access.specs.declared.item.Item.{Item}
+use Rattle.fsb_run_laws.proofs.Words
+use Words.{ℕ, ◌+◌, ◌<◌, ◌≡◌, Bool, true, false, ◌&&◌, nat_lt, List, [], ◌∷◌, Option, Some, length, refl, ap, arith}
+use Words.{option_map_or, lt-ltb, is_some_and, first_where-found, first_where-same, Item, Step, steps_from}
+use Words.{steps_of_item, is_lawful_item, is_lock_size, Done, Past, past_of, Run, completes_at, idle_clocks, idle_start}
+use Words.{is_idle, is_idling, is_logged, is_to_do, items_of, next_number, number_after, done-before, done-now}
+use Words.{is_logged-more, logged-next, logs-item, next_number-same, not-behind, Reaches, is_behind, next_behind}
 use Rattle.fsb_access.specs.declared.item.Item.TheVariants.{Idle, Locked, One}
-use Rattle.fsb_access.specs.ScriptOrder.{Step, steps_from, steps_of_item}
-use Rattle.fsb_script.specs.Bounds.{is_lawful_item, is_lock_size}
-use Rattle.fsb_access.specs.declared.log.Done.{Done}
-use Rattle.fsb_timely.specs.Past.{Past}
-use Rattle.fsb_timely.specs.Runs.{past_of, Run}
-use Rattle.fsb_timely.specs.Scripts.{completes_at, idle_clocks, idle_start, is_idle, is_idling, is_logged, is_to_do}
-use Rattle.fsb_timely.specs.Scripts.{items_of, next_number, number_after}
-use Rattle.fsb_timely.proofs.Interface.{done-before, done-now, is_logged-more, logged-next, logs-item}
-use Rattle.fsb_timely.proofs.Interface.{next_number-same, not-behind}
-use Rattle.fsb_run_laws.specs.Reaches.{Reaches}
-use Rattle.fsb_run_laws.specs.RunSteps.{is_behind, next_behind}
 use Rattle.fsb_run_laws.proofs.LastEntries.{last-of, last-stays}
 
 -- which items are to do one clock on

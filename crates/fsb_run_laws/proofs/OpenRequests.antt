@@ -1,27 +1,13 @@
 -- The open requests of a run, by its moments: those that have begun, and were neither cancelled nor snooped.
-use Rattle.std.proofs.Common.{ℕ, zero, suc, ◌+◌, ◌<◌, ◌≤◌, ◌≡◌, Bool, true, false, ◌&&◌, ◌||◌, [], length, refl, sym}
-use Rattle.std.proofs.Common.{ap, subst, arith, add-one}
-use Rattle.std.specs.List.{filter, filter_map}
-use Rattle.std.specs.Option.{option_map_or}
-use Rattle.std.proofs.lemmas.Bool.{and_parts}
+use Rattle.fsb_run_laws.proofs.Words
+use Words.{ℕ, zero, suc, ◌+◌, ◌<◌, ◌≤◌, ◌≡◌, Bool, true, false, ◌&&◌, ◌||◌, [], length, refl, sym, ap, subst, arith}
+use Words.{add-one, filter, filter_map, option_map_or, and_parts, all_where, any_where, is_before, any_where-found}
+use Words.{any_where-more, is_at-some, is_before-parts, has_ended, in_flight, is_dropped, is_in_flight, is_cancelled}
+use Words.{is_live, live_number_of, end_of, line_at-agree, live_clock_of-number, begun_at, claim_at, is_snooped_in}
+use Words.{is_unsnooped, moment_at, moments_below, past_of, past_with, Run, run_to, Timely, unsnooped_at, begun-told}
+use Words.{claim_at-agree, moment-at, moment_of, snooped-there, length-cut, run_to-agrees, is_cancelled_below}
+use Words.{is_snooped_below, cancelled-below, cancels, end-below, ended-snooped, is_open_below, open_claims}
 use Rattle.std.proofs.lemmas.List.Folds.{list_any-append}
-use Rattle.fsb_count.specs.Clocks.{all_where, any_where}
-use Rattle.fsb_count.specs.Options.{is_before}
-use Rattle.fsb_count.proofs.Interface.{any_where-found, any_where-more, is_at-some, is_before-parts}
-use Rattle.fsb_trace.specs.Flight.{has_ended, in_flight, is_dropped, is_in_flight}
-use Rattle.fsb_trace.specs.Requests.{is_cancelled, is_live, live_number_of}
-use Rattle.fsb_trace.specs.Response.{end_of}
-use Rattle.fsb_trace.proofs.Interface.{line_at-agree, live_clock_of-number}
-use Rattle.fsb_timely.specs.Grants.{begun_at}
-use Rattle.fsb_timely.specs.Moments.{claim_at, is_snooped_in, is_unsnooped, moment_at}
-use Rattle.fsb_timely.specs.Runs.{moments_below, past_of, past_with, Run, run_to}
-use Rattle.fsb_timely.specs.Timely.{Timely}
-use Rattle.fsb_timely.specs.Wants.{unsnooped_at}
-use Rattle.fsb_timely.proofs.Interface.{begun-told, claim_at-agree, moment-at, moment_of, snooped-there}
-use Rattle.fsb_lawful.proofs.Interface.{length-cut, run_to-agrees}
-use Rattle.fsb_coherent.specs.Relation.{is_cancelled_below, is_snooped_below}
-use Rattle.fsb_tied.proofs.Interface.{cancelled-below, cancels, end-below, ended-snooped}
-use Rattle.fsb_run_laws.specs.RunSteps.{is_open_below, open_claims}
 use Rattle.fsb_run_laws.proofs.Lists.{all-both, given, given-alike}
 
 -- the requests that the moment of e leaves open

@@ -1,18 +1,9 @@
 -- The open requests, one clock further: one is cancelled or snooped, and one begins.
-use Rattle.std.proofs.Common.{ℕ, ◌+◌, ◌<◌, ◌≡◌, Bool, not, ◌&&◌, ◌++◌, Option, Some, sym, ap, ◌∙◌, arith}
-use Rattle.std.specs.List.{filter}
-use Rattle.fsb_count.specs.Options.{is_at, is_some_and}
-use Rattle.fsb_count.proofs.Interface.{any_where-more}
-use Rattle.fsb_timely.specs.Grants.{begun_at, snooped_at}
-use Rattle.fsb_timely.specs.Moments.{is_snoop_of}
-use Rattle.fsb_timely.specs.Past.{Claim, Past}
-use Rattle.fsb_timely.specs.Runs.{past_of, Run}
-use Rattle.fsb_timely.specs.Wants.{unsnooped_at}
-use Rattle.fsb_coherent.specs.Awaits.{cancelled_in}
-use Rattle.fsb_coherent.specs.Relation.{is_cancelled_below, is_snooped_below}
-use Rattle.fsb_tied.proofs.Interface.{clock-facts, uncancelled-below, unsnooped-below}
-use Rattle.fsb_run_laws.specs.Reaches.{Reaches}
-use Rattle.fsb_run_laws.specs.RunSteps.{is_open_below, listed, open_claims, stays_open}
+use Rattle.fsb_run_laws.proofs.Words
+use Words.{ℕ, ◌+◌, ◌<◌, ◌≡◌, Bool, not, ◌&&◌, ◌++◌, Option, Some, sym, ap, ◌∙◌, arith, filter, is_at, is_some_and}
+use Words.{any_where-more, begun_at, snooped_at, is_snoop_of, Claim, Past, past_of, Run, unsnooped_at, cancelled_in}
+use Words.{is_cancelled_below, is_snooped_below, clock-facts, uncancelled-below, unsnooped-below, Reaches}
+use Words.{is_open_below, listed, open_claims, stays_open}
 use Rattle.fsb_run_laws.proofs.Lists.{given, given-more, kept, kept-alike}
 use Rattle.fsb_run_laws.proofs.OpenRequests.{open-told}
 

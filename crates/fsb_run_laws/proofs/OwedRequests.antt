@@ -1,29 +1,12 @@
 -- The outstanding requests of symmetric agents, as the whole trace has them, and one clock further.
-use Rattle.std.proofs.Common.{ℕ, ◌+◌, ◌<◌, ◌≡◌, Bool, true, false, not, ◌&&◌, ◌++◌, Option, Some, length, nat_lt}
-use Rattle.std.proofs.Common.{refl, sym, ap, ◌∙◌, inl, inr, arith}
-use Rattle.std.specs.List.{filter, filter_map}
-use Rattle.std.specs.Option.{option_and_then, option_map}
-use Rattle.std.proofs.lemmas.Bool.{cases_lt, false_from_ne_true, le-ltb, lt-ltb}
-use Rattle.fsb_count.specs.Clocks.{all_where}
-use Rattle.fsb_count.specs.Options.{is_some_and}
-use Rattle.fsb_signal.specs.declared.lines.TheConstants.Lines.{ADS}
-use Rattle.fsb_trace.specs.Agree.{AgreeTo}
-use Rattle.fsb_trace.specs.At.{Trace, request_at}
-use Rattle.fsb_trace.specs.Flight.{is_dropped, is_finished, is_outstanding, outstanding}
-use Rattle.fsb_trace.specs.Requests.{is_cancelled, is_reply}
-use Rattle.fsb_trace.proofs.Interface.{AgreeTo-sym, line_at-agree}
-use Rattle.fsb_laws.proofs.Interface.{request_at-last}
-use Rattle.fsb_timely.specs.Grants.{begun_at}
-use Rattle.fsb_timely.specs.Growth.{is_last_clock}
-use Rattle.fsb_timely.specs.Past.{Claim, Owing, Past}
-use Rattle.fsb_timely.specs.Runs.{past_of, Run, run_to}
-use Rattle.fsb_timely.specs.Wants.{outstanding_at}
-use Rattle.fsb_timely.proofs.Interface.{is_outstanding-more, moment-at, moment_of}
-use Rattle.fsb_lawful.proofs.Interface.{length-cut, orderly-at, outstanding-of, run_to-agrees}
-use Rattle.fsb_tied.proofs.Interface.{begun-shown, begun-want, claim-no-reply, clock-facts, orderly-whole}
-use Rattle.fsb_tied.proofs.Interface.{owing-gives, same-both}
-use Rattle.fsb_run_laws.specs.Reaches.{Reaches}
-use Rattle.fsb_run_laws.specs.RunSteps.{listed, owing_begun}
+use Rattle.fsb_run_laws.proofs.Words
+use Words.{ℕ, ◌+◌, ◌<◌, ◌≡◌, Bool, true, false, not, ◌&&◌, ◌++◌, Option, Some, length, nat_lt, refl, sym, ap, ◌∙◌, inl}
+use Words.{inr, arith, filter, filter_map, option_and_then, option_map, cases_lt, false_from_ne_true, le-ltb, lt-ltb}
+use Words.{all_where, is_some_and, ADS, AgreeTo, Trace, request_at, is_dropped, is_finished, is_outstanding}
+use Words.{outstanding, is_cancelled, is_reply, AgreeTo-sym, line_at-agree, request_at-last, begun_at, is_last_clock}
+use Words.{Claim, Owing, Past, past_of, Run, run_to, outstanding_at, is_outstanding-more, moment-at, moment_of}
+use Words.{length-cut, orderly-at, outstanding-of, run_to-agrees, begun-shown, begun-want, claim-no-reply, clock-facts}
+use Words.{orderly-whole, owing-gives, same-both, Reaches, listed, owing_begun}
 use Rattle.fsb_run_laws.proofs.LastClocks.{finished-carried, finished-late}
 use Rattle.fsb_run_laws.proofs.Lists.{given, given-alike, given-more, kept, kept-alike}
 

@@ -1,23 +1,12 @@
 -- Which requests stay outstanding at a clock, by its moment alone.
-use Rattle.std.proofs.Common.{ℕ, ◌+◌, ◌<◌, ◌≤◌, ◌≡◌, Bool, true, false, not, ◌&&◌, ◌||◌, ◌++◌, Option, Some, None}
-use Rattle.std.proofs.Common.{nat_eq, refl, sym, ap, subst, ◌∙◌, inl, inr, arith}
-use Rattle.std.specs.List.{filter, list_any}
-use Rattle.std.proofs.lemmas.Bool.{and_from, both_ways, eq-eqb, or_cases, or_left, or_right}
-use Rattle.fsb_count.specs.Options.{is_at, is_some_and}
-use Rattle.fsb_count.proofs.Interface.{is_at-from, is_at-some, is_before-from, is_before-parts}
-use Rattle.fsb_trace.specs.At.{Trace}
-use Rattle.fsb_trace.specs.Flight.{is_dropped, is_finished, is_outstanding, outstanding}
-use Rattle.fsb_trace.specs.Outcome.{is_deferral}
-use Rattle.fsb_timely.specs.Grants.{begun_at, ended_requests, is_end_at, set_of}
-use Rattle.fsb_timely.specs.Growth.{is_last_clock}
-use Rattle.fsb_timely.specs.Past.{Claim, Grant, Owing, Past, SnoopEnd}
-use Rattle.fsb_timely.specs.Runs.{past_of, Run}
-use Rattle.fsb_timely.specs.Wants.{is_asked_for, is_same_set, outstanding_at, owed}
-use Rattle.fsb_lawful.proofs.Interface.{IsListed, any-kept, any-listed, map-some, some-and}
-use Rattle.fsb_coherent.specs.Awaits.{cancelled_in, snoop_end_below}
-use Rattle.fsb_tied.proofs.Interface.{any-in, any-of, begun-apart, claimed, clock-facts, same-both}
-use Rattle.fsb_run_laws.specs.Reaches.{Reaches}
-use Rattle.fsb_run_laws.specs.RunSteps.{ends_claim, ends_for, listed, owing_begun, stays_owed}
+use Rattle.fsb_run_laws.proofs.Words
+use Words.{ℕ, ◌+◌, ◌<◌, ◌≤◌, ◌≡◌, Bool, true, false, not, ◌&&◌, ◌||◌, ◌++◌, Option, Some, None, nat_eq, refl, sym, ap}
+use Words.{subst, ◌∙◌, inl, inr, arith, filter, list_any, and_from, both_ways, eq-eqb, or_cases, or_left, or_right}
+use Words.{is_at, is_some_and, is_at-from, is_at-some, is_before-from, is_before-parts, Trace, is_dropped, is_finished}
+use Words.{is_outstanding, outstanding, is_deferral, begun_at, ended_requests, is_end_at, set_of, is_last_clock, Claim}
+use Words.{Grant, Owing, Past, SnoopEnd, past_of, Run, is_asked_for, is_same_set, outstanding_at, owed, IsListed}
+use Words.{any-kept, any-listed, map-some, some-and, cancelled_in, snoop_end_below, any-in, any-of, begun-apart}
+use Words.{claimed, clock-facts, same-both, Reaches, ends_claim, ends_for, listed, owing_begun, stays_owed}
 use Rattle.fsb_run_laws.proofs.LastTold.{cancelled-last, ends-last, ends-with}
 use Rattle.fsb_run_laws.proofs.LeftRequests.{LeftByOwn, LeftByReply, ending-serves, last-says}
 use Rattle.fsb_run_laws.proofs.Lists.{filter-alike}

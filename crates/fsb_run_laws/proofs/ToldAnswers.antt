@@ -1,30 +1,15 @@
 -- What the moments of a timely run have of responses and ends is what its whole trace says.
-use Rattle.std.proofs.Common.{ℕ, ◌+◌, ◌<◌, ◌≡◌, Bool, true, false, List, [], ◌∷◌, Option, Some, None, length, nat_eq}
-use Rattle.std.proofs.Common.{refl, sym, ap, ◌∙◌, arith}
-use Rattle.std.specs.List.{list_any}
-use Rattle.std.specs.Option.{option_and_then}
-use Rattle.std.proofs.lemmas.Bool.{eq-eqb}
-use Rattle.fsb_count.specs.Options.{is_at}
-use Rattle.fsb_count.proofs.Interface.{is_at-from, is_at-some, nth_where-at}
+use Rattle.fsb_run_laws.proofs.Words
+use Words.{ℕ, ◌+◌, ◌<◌, ◌≡◌, Bool, true, false, List, [], ◌∷◌, Option, Some, None, length, nat_eq, refl, sym, ap, ◌∙◌}
+use Words.{arith, list_any, option_and_then, eq-eqb, is_at, is_at-from, is_at-some, nth_where-at, response_code_at}
+use Words.{response_clock_of, response_code_of, live_clock_of, live_count, end_of, live_below_count}
+use Words.{response_code_at-agree, Orderly, ended_requests, is_end_at, moment_at, requests_ending_at, responded_at}
+use Words.{retried_at, Run, past_of, run_to, moment-at, any-listed, run_to-agrees, responded_in, Ends, Responds}
+use Words.{ended-number, number-ended, number-responded, one-at-end, one-ends, one-listed, orderly-whole}
+use Words.{responded-from, responded-number, responded-parts, Reaches, retried_in}
 use Rattle.fsb_trace.specs.declared.outcome.Outcome.TheVariants.{Retried}
-use Rattle.fsb_trace.specs.At.{response_code_at}
-use Rattle.fsb_trace.specs.Outcome.{response_clock_of, response_code_of}
-use Rattle.fsb_trace.specs.Requests.{live_clock_of, live_count}
-use Rattle.fsb_trace.specs.Response.{end_of}
 use Rattle.fsb_trace.specs.Rules.{next_response}
-use Rattle.fsb_trace.proofs.Interface.{live_below_count, response_code_at-agree}
-use Rattle.fsb_laws.specs.Orderly.{Orderly}
-use Rattle.fsb_timely.specs.Grants.{ended_requests, is_end_at}
-use Rattle.fsb_timely.specs.Moments.{moment_at, requests_ending_at, responded_at, retried_at}
-use Rattle.fsb_timely.specs.Runs.{Run, past_of, run_to}
-use Rattle.fsb_timely.proofs.Interface.{moment-at}
-use Rattle.fsb_lawful.proofs.Interface.{any-from, any-listed, run_to-agrees}
-use Rattle.fsb_coherent.specs.Awaits.{responded_in}
-use Rattle.fsb_tied.proofs.Interface.{Ends, Responds, ended-number, number-ended, number-responded, one-at-end}
-use Rattle.fsb_tied.proofs.Interface.{one-ends, one-listed, orderly-whole, responded-from, responded-number}
-use Rattle.fsb_tied.proofs.Interface.{responded-parts}
-use Rattle.fsb_run_laws.specs.Reaches.{Reaches}
-use Rattle.fsb_run_laws.specs.RunSteps.{retried_in}
+use Rattle.fsb_lawful.proofs.Interface.{any-from}
 
 -- two that say the same are the same
 alike : (a b : Option ℕ) → ((q : ℕ) → a ≡ Some q → b ≡ Some q) → ((q : ℕ) → b ≡ Some q → a ≡ Some q) → a ≡ b

@@ -1,14 +1,8 @@
 -- The turns of the snoop ends, with one moment more.
-use Rattle.std.proofs.Common.{◌≡◌, List, [], ◌∷◌, ◌++◌, Some, length, slice_get, sym, ap, ◌∙◌, append-nil, arith}
-use Rattle.std.specs.Option.{option_and_then, option_map}
-use Rattle.fsb_count.proofs.Interface.{slice_get-end}
-use Rattle.fsb_timely.specs.Grants.{snooped_at}
-use Rattle.fsb_timely.specs.Growth.{GrowsTo, moment_at_growth}
-use Rattle.fsb_timely.specs.Moments.{number_of_turn, turns_in}
-use Rattle.fsb_timely.specs.Past.{Moment}
-use Rattle.fsb_timely.specs.Runs.{past_of, Run}
-use Rattle.fsb_timely.proofs.Interface.{length-moments, moments-grow, turns-quiet, turns-snooped}
-use Rattle.fsb_run_laws.specs.RunSteps.{listed}
+use Rattle.fsb_run_laws.proofs.Words
+use Words.{◌≡◌, List, [], ◌∷◌, ◌++◌, Some, length, slice_get, sym, ap, ◌∙◌, append-nil, arith, option_and_then}
+use Words.{option_map, slice_get-end, snooped_at, GrowsTo, moment_at_growth, number_of_turn, turns_in, Moment, past_of}
+use Words.{Run, length-moments, moments-grow, turns-quiet, turns-snooped, listed}
 
 pub turns-more : (moments : List Moment) (moment : Moment)
     → turns_in (moments ++ moment ∷ [])
