@@ -1,29 +1,13 @@
 -- The code of RS# that is driven is the one that is due.
-use Rattle.std.proofs.Common.{ℕ, ◌+◌, ◌<◌, ◌≡◌, Bool, true, false, ◌&&◌, Option, Some, None, List, length, is_none}
-use Rattle.std.proofs.Common.{refl, sym, ap, ◌∙◌, arith, inl, inr, subst}
-use Rattle.std.specs.List.{slice_get}
-use Rattle.std.specs.Option.{option_and_then, option_map, option_map_or}
-use Rattle.std.proofs.lemmas.Bool.{and_from, and_parts, both_ways, cases_Bool}
-use Rattle.fsb_count.proofs.Interface.{first_where-at, first_where-off, is_at-from, is_at-some}
-use Rattle.fsb_trace.specs.At.{Trace}
-use Rattle.fsb_trace.specs.Outcome.{response_clock_of, response_code_of}
-use Rattle.fsb_trace.specs.Requests.{live_count}
-use Rattle.fsb_trace.specs.Response.{answer_from, ready_clock_of, takes}
-use Rattle.fsb_trace.specs.Snoop.{snoop_end_of}
-use Rattle.fsb_trace.specs.Timing.{is_response_from}
-use Rattle.fsb_trace.proofs.Interface.{live_below_count, snoop_end_of-clock, snoop_end_of-stays}
-use Rattle.fsb_queue.specs.declared.entry.Entry.{Entry}
-use Rattle.fsb_phase.specs.Due.{has_response, rank_of}
-use Rattle.fsb_phase.specs.Drive.{drive_of, settled_code}
-use Rattle.fsb_phase.proofs.Interface.{find-cases, find-off, find-place}
-use Rattle.fsb_timely.specs.Grants.{snooped_at}
-use Rattle.fsb_timely.specs.Growth.{GrowsTo}
-use Rattle.fsb_timely.specs.Runs.{Run, past_of}
-use Rattle.fsb_timely.specs.Snoops.{live_choice}
-use Rattle.fsb_timely.specs.Transfers.{code_due, is_response_clock, number_responding, settled_of}
-use Rattle.fsb_timely.proofs.Interface.{run-ends, snoop-tied}
-use Rattle.fsb_lawful.proofs.Interface.{Responding, responding-answer, responding-now, responding-stays}
-use Rattle.fsb_phase_run.specs.Holds.{HoldsRequests}
+use Rattle.fsb_phase_run.proofs.Words
+use Words.{ℕ, ◌+◌, ◌<◌, ◌≡◌, Bool, true, false, ◌&&◌, Option, Some, None, List, length, is_none, refl, sym, ap, ◌∙◌}
+use Words.{arith, inl, inr, subst, slice_get, option_and_then, option_map, option_map_or, and_from, and_parts}
+use Words.{both_ways, cases_Bool, first_where-at, first_where-off, is_at-from, is_at-some, Trace, response_clock_of}
+use Words.{response_code_of, live_count, answer_from, ready_clock_of, takes, snoop_end_of, is_response_from}
+use Words.{live_below_count, snoop_end_of-clock, snoop_end_of-stays, Entry, has_response, rank_of, drive_of}
+use Words.{settled_code, find-cases, find-off, find-place, snooped_at, GrowsTo, Run, past_of, live_choice, code_due}
+use Words.{is_response_clock, number_responding, settled_of, run-ends, snoop-tied, Responding, responding-answer}
+use Words.{responding-now, responding-stays, HoldsRequests}
 use Rattle.fsb_phase_run.proofs.Grown.{agree-back, agree-grown, live-same, longer, snooped-same}
 use Rattle.fsb_phase_run.proofs.HeldEntries.{EntryOf, entry-held, number-held}
 use Rattle.fsb_phase_run.proofs.Unanswered.{one-responds, responds-first}

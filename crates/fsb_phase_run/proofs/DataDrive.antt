@@ -1,21 +1,9 @@
 -- Data are driven, and the bus is kept busy, exactly where a live request has data.
-use Rattle.std.proofs.Common.{ℕ, ◌<◌, ◌≡◌, Bool, true, Option, Some, None, List, length, is_some, refl, sym, ap, ◌∙◌}
-use Rattle.std.proofs.Common.{inl, inr}
-use Rattle.std.specs.List.{find, slice_get}
-use Rattle.std.specs.Option.{option_and_then, option_map}
-use Rattle.std.proofs.lemmas.Bool.{both_ways, cases_Bool}
-use Rattle.fsb_count.specs.Clocks.{any_where}
-use Rattle.fsb_count.proofs.Interface.{any_where-at, any_where-off}
-use Rattle.fsb_trace.specs.Outcome.{response_clock_of}
-use Rattle.fsb_trace.specs.Requests.{live_count}
-use Rattle.fsb_queue.specs.declared.entry.Entry.{Entry}
-use Rattle.fsb_phase.specs.Due.{due_chunk, keeps_busy, rank_of}
-use Rattle.fsb_phase.specs.Drive.{drive_of, numbered_chunk}
-use Rattle.fsb_phase.proofs.Interface.{find-cases, find-off, find-place}
-use Rattle.fsb_timely.specs.Growth.{GrowsTo}
-use Rattle.fsb_timely.specs.Runs.{Run, past_of}
-use Rattle.fsb_timely.specs.Transfers.{has_data_at, is_busy_at}
-use Rattle.fsb_phase_run.specs.Holds.{HoldsRequests}
+use Rattle.fsb_phase_run.proofs.Words
+use Words.{ℕ, ◌<◌, ◌≡◌, Bool, true, Option, Some, None, List, length, is_some, refl, sym, ap, ◌∙◌, inl, inr, find}
+use Words.{slice_get, option_and_then, option_map, both_ways, cases_Bool, any_where, any_where-at, any_where-off}
+use Words.{response_clock_of, live_count, Entry, due_chunk, keeps_busy, rank_of, drive_of, numbered_chunk, find-cases}
+use Words.{find-off, find-place, GrowsTo, Run, past_of, has_data_at, is_busy_at, HoldsRequests}
 use Rattle.fsb_phase_run.proofs.HeldEntries.{EntryOf, number-held}
 use Rattle.fsb_phase_run.proofs.RespondsNow.{CodeShown, shown}
 use Rattle.fsb_phase_run.proofs.MovingEntries.{busy-same, busy-way, chunk-same, chunk-way, way-entry}

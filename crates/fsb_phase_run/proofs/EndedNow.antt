@@ -1,33 +1,15 @@
 -- The end that the phases tell is that of the moment of the new clock.
-use Rattle.std.proofs.Common.{ℕ, ◌≡◌, Bool, true, false, not, nat_eq, Some, None, List, [], length, refl, sym, ap, ◌∙◌}
-use Rattle.std.proofs.Common.{arith, inl, inr, subst}
-use Rattle.std.specs.List.{find, list_any, slice_get}
-use Rattle.std.specs.Option.{option_map, option_map_or}
-use Rattle.std.proofs.lemmas.Bool.{and_from, and_parts, both_ways, cases_Bool, eq-eqb, eqb-true}
-use Rattle.fsb_count.specs.Clocks.{count_where, nth_where}
-use Rattle.fsb_count.specs.Options.{is_at, is_before, is_some_and}
-use Rattle.fsb_count.proofs.Interface.{is_at-from, is_at-some, is_before-parts, nth_where-at, nth_where-found}
-use Rattle.fsb_signal.specs.declared.lines.TheConstants.Lines.{ADS}
-use Rattle.fsb_signal.specs.Samples.{line_at}
-use Rattle.fsb_trace.specs.At.{Trace}
-use Rattle.fsb_trace.specs.Requests.{is_live, live_clock_of, live_count, live_number_of}
-use Rattle.fsb_trace.specs.Response.{end_of}
-use Rattle.fsb_trace.proofs.Interface.{end_of-response, end_of-stays, live_below_count, live_clock_of-number}
-use Rattle.fsb_trace.proofs.Interface.{live_clock_of-stays, snoop_end_of-clock, snoop_end_of-stays}
+use Rattle.fsb_phase_run.proofs.Words
+use Words.{ℕ, ◌≡◌, Bool, true, false, not, nat_eq, Some, None, List, [], length, refl, sym, ap, ◌∙◌, arith, inl, inr}
+use Words.{subst, find, list_any, slice_get, option_map, option_map_or, and_from, and_parts, both_ways, cases_Bool}
+use Words.{eq-eqb, eqb-true, count_where, nth_where, is_at, is_before, is_some_and, is_at-from, is_at-some}
+use Words.{is_before-parts, nth_where-at, nth_where-found, ADS, line_at, Trace, is_live, live_clock_of, live_count}
+use Words.{live_number_of, end_of, end_of-response, end_of-stays, live_below_count, live_clock_of-number}
+use Words.{live_clock_of-stays, snoop_end_of-clock, snoop_end_of-stays, ads_before_end, has_answer, is_live-ads, Entry}
+use Words.{rank_of, has_end_at, phased_at, find-cases, find-off, find-place, ended_requests, is_end_at, GrowsTo}
+use Words.{moment_at, requests_ending_at, Run, past_of, requests_below, moment-at, run-ends, any-from, any-listed}
+use Words.{one-ends, HoldsRequests}
 use Rattle.fsb_laws.specs.Orderly.{Orderly}
-use Rattle.fsb_laws.proofs.Interface.{ads_before_end, has_answer, is_live-ads}
-use Rattle.fsb_queue.specs.declared.entry.Entry.{Entry}
-use Rattle.fsb_phase.specs.Due.{rank_of}
-use Rattle.fsb_phase.specs.Drive.{has_end_at, phased_at}
-use Rattle.fsb_phase.proofs.Interface.{find-cases, find-off, find-place}
-use Rattle.fsb_timely.specs.Grants.{ended_requests, is_end_at}
-use Rattle.fsb_timely.specs.Growth.{GrowsTo}
-use Rattle.fsb_timely.specs.Moments.{moment_at, requests_ending_at}
-use Rattle.fsb_timely.specs.Runs.{Run, past_of, requests_below}
-use Rattle.fsb_timely.proofs.Interface.{moment-at, run-ends}
-use Rattle.fsb_lawful.proofs.Interface.{any-from, any-listed}
-use Rattle.fsb_tied.proofs.Interface.{one-ends}
-use Rattle.fsb_phase_run.specs.Holds.{HoldsRequests}
 use Rattle.fsb_phase_run.proofs.Grown.{agree-back, agree-grown, longer}
 use Rattle.fsb_phase_run.proofs.HeldEntries.{EntryOf, entry-flying}
 use Rattle.fsb_phase_run.proofs.SnoopedNow.{number-grown}

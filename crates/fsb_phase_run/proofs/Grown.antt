@@ -1,25 +1,12 @@
 -- What a run keeps that grows by one clock: its samples, its choices and its snoop ends.
-use Rattle.std.proofs.Common.{ℕ, ◌+◌, ◌-◌, ◌<◌, ◌≡◌, true, Some, slice_get, length, sym, ap, ◌∙◌, arith, subst}
-use Rattle.std.specs.Option.{option_map_or}
-use Rattle.std.proofs.lemmas.List.{length-append}
-use Rattle.fsb_count.specs.Clocks.{count_where}
-use Rattle.fsb_count.proofs.Interface.{count_where-above, count_where-same, nth_where-found}
-use Rattle.fsb_hazard.specs.Choice.{quiet_choice}
-use Rattle.fsb_signal.specs.declared.lines.TheConstants.Lines.{ADS}
-use Rattle.fsb_signal.specs.Samples.{line_at}
+use Rattle.fsb_phase_run.proofs.Words
+use Words.{ℕ, ◌+◌, ◌-◌, ◌<◌, ◌≡◌, true, Some, length, sym, ap, ◌∙◌, arith, subst, option_map_or, length-append}
+use Words.{count_where, count_where-above, count_where-same, nth_where-found, quiet_choice, ADS, line_at, AgreeTo}
+use Words.{is_live, live_clock_of, snoop_end_of, AgreeTo-sym, line_at-agree, live_clock_of-stays, snoop_end_of-clock}
+use Words.{is_live-ads, one_more, snooped_at, GrowsTo, choice_at, Run, past_of, requests_below, run_to, live_choice}
+use Words.{past-before, run_to-agrees, snooped-to}
+use Rattle.std.proofs.Common.{slice_get}
 use Rattle.fsb_signal.proofs.Interface.{slice_get-before}
-use Rattle.fsb_trace.specs.Agree.{AgreeTo}
-use Rattle.fsb_trace.specs.Requests.{is_live, live_clock_of}
-use Rattle.fsb_trace.specs.Snoop.{snoop_end_of}
-use Rattle.fsb_trace.proofs.Interface.{AgreeTo-sym, line_at-agree, live_clock_of-stays, snoop_end_of-clock}
-use Rattle.fsb_laws.proofs.Interface.{is_live-ads, one_more}
-use Rattle.fsb_timely.specs.Grants.{snooped_at}
-use Rattle.fsb_timely.specs.Growth.{GrowsTo}
-use Rattle.fsb_timely.specs.Moments.{choice_at}
-use Rattle.fsb_timely.specs.Runs.{Run, past_of, requests_below, run_to}
-use Rattle.fsb_timely.specs.Snoops.{live_choice}
-use Rattle.fsb_timely.proofs.Interface.{past-before}
-use Rattle.fsb_lawful.proofs.Interface.{run_to-agrees, snooped-to}
 
 pub agree-grown : (r s : Run) → GrowsTo r s → AgreeTo (length r.trace) r.trace s.trace
 agree-grown r s grows =

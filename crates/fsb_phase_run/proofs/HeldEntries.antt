@@ -1,26 +1,11 @@
 -- The entries of a queue that holds the requests in flight of a run, and its live requests.
-use Rattle.std.proofs.Common.{ℕ, ◌≡◌, true, not, Option, Some, None, List, length, refl, sym, ap, ◌∙◌}
-use Rattle.std.specs.List.{slice_get}
-use Rattle.std.specs.Option.{option_map, option_map_or}
-use Rattle.std.proofs.lemmas.Bool.{and_from, and_parts}
-use Rattle.std.proofs.lemmas.Option.{slice_get-map}
-use Rattle.fsb_count.specs.Clocks.{all_where, count_where, nth_where}
-use Rattle.fsb_count.specs.Options.{is_before}
-use Rattle.fsb_count.proofs.Interface.{is_before-none, nth_where-at, nth_where-found}
-use Rattle.fsb_hazard.specs.Choice.{quiet_choice}
-use Rattle.fsb_trace.specs.At.{Trace}
+use Rattle.fsb_phase_run.proofs.Words
+use Words.{ℕ, ◌≡◌, true, not, Option, Some, None, List, length, refl, sym, ap, ◌∙◌, slice_get, option_map}
+use Words.{option_map_or, and_from, and_parts, slice_get-map, all_where, count_where, nth_where, is_before}
+use Words.{is_before-none, nth_where-at, nth_where-found, quiet_choice, Trace, response_clock_of, is_live}
+use Words.{live_clock_of, live_number_of, end_of, end_of-response, live_clock_of-number, is_in_flight-end, Entry}
+use Words.{rank_of, choice_at, Run, live_choice, HoldsRequests}
 use Rattle.fsb_trace.specs.Flight.{in_flight, is_in_flight}
-use Rattle.fsb_trace.specs.Outcome.{response_clock_of}
-use Rattle.fsb_trace.specs.Requests.{is_live, live_clock_of, live_number_of}
-use Rattle.fsb_trace.specs.Response.{end_of}
-use Rattle.fsb_trace.proofs.Interface.{end_of-response, live_clock_of-number}
-use Rattle.fsb_laws.proofs.Interface.{is_in_flight-end}
-use Rattle.fsb_queue.specs.declared.entry.Entry.{Entry}
-use Rattle.fsb_phase.specs.Due.{rank_of}
-use Rattle.fsb_timely.specs.Moments.{choice_at}
-use Rattle.fsb_timely.specs.Runs.{Run}
-use Rattle.fsb_timely.specs.Snoops.{live_choice}
-use Rattle.fsb_phase_run.specs.Holds.{HoldsRequests}
 
 -- the entry at this place is that of live request i
 pub record EntryOf (r : Run) (queue : List Entry) (i : ℕ) : Type 0 where

@@ -1,26 +1,17 @@
 -- The turn of a write-back, and of a request without its snoop end: it is kept.
-use Rattle.std.proofs.Common.{ℕ, zero, suc, ◌+◌, ◌<◌, ◌≤◌, ◌≡◌, true, List, [], ◌∷◌, ◌++◌, Option, Some, None, length}
-use Rattle.std.proofs.Common.{slice_index, refl, sym, ap, subst, ◌∙◌, arith, inl, inr}
-use Rattle.std.proofs.lemmas.Bool.{cases_lt}
-use Rattle.std.proofs.lemmas.List.{get_or_past, length-append}
+use Rattle.fsb_phase_run.proofs.Words
+use Words.{ℕ, zero, suc, ◌+◌, ◌<◌, ◌≤◌, ◌≡◌, true, List, [], ◌∷◌, ◌++◌, Option, Some, None, length, slice_index, refl}
+use Words.{sym, ap, subst, ◌∙◌, arith, inl, inr, cases_lt, get_or_past, length-append, is_never_held_up, Trace}
+use Words.{request_at, is_write_back, is_write_back_kind, live_request_of, snoop_end_of, request_at-agree}
+use Words.{snoop_end_of-clock, snoop_end_of-rises, effective_choice, number_of_turn, snoop_end_with, turns_in, SnoopEnd}
+use Words.{Run, moments_below, past_of, run_to, moment-snooped, moment_of, snoop-tied, snoop_of, snooped-there}
+use Words.{tied-snoop, turns-quiet, turns-snooped, run_to-agrees, some-and, live-request}
 use Rattle.fsb_encode.specs.declared.request.Kind.{Kind}
 use Rattle.fsb_encode.specs.declared.request.Kind.TheVariants.{Reply, Invalidate, Read, WriteBack, Upgrade}
 use Rattle.fsb_encode.specs.declared.request.Request.{Request}
 use Rattle.fsb_hazard.specs.declared.choice.Choice.{Choice}
 use Rattle.fsb_hazard.specs.declared.choice.Turn.TheVariants.{Keep}
-use Rattle.fsb_hazard.specs.Choice.{is_never_held_up}
 use Rattle.fsb_script.specs.declared.plan.Window.{Window}
-use Rattle.fsb_trace.specs.At.{Trace, request_at}
-use Rattle.fsb_trace.specs.Requests.{is_write_back, is_write_back_kind, live_request_of}
-use Rattle.fsb_trace.specs.Snoop.{snoop_end_of}
-use Rattle.fsb_trace.proofs.Interface.{request_at-agree, snoop_end_of-clock, snoop_end_of-rises}
-use Rattle.fsb_timely.specs.Moments.{effective_choice, number_of_turn, snoop_end_with, turns_in}
-use Rattle.fsb_timely.specs.Past.{SnoopEnd}
-use Rattle.fsb_timely.specs.Runs.{Run, moments_below, past_of, run_to}
-use Rattle.fsb_timely.proofs.Interface.{moment-snooped, moment_of, snoop-tied, snoop_of, snooped-there, tied-snoop}
-use Rattle.fsb_timely.proofs.Interface.{turns-quiet, turns-snooped}
-use Rattle.fsb_lawful.proofs.Interface.{run_to-agrees, some-and}
-use Rattle.fsb_tied.proofs.Interface.{live-request}
 
 -- the turns of the moments below n are fewer than the number of a live request that has no snoop end there
 turns-short : (r : Run) (n i : ℕ) → n ≤ length r.trace → ((t : ℕ) → snoop_end_of r.trace i ≡ Some t → n ≤ t)

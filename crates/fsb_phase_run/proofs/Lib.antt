@@ -1,3 +1,4 @@
+pub mod Words
 pub mod Grown
 pub mod Unanswered
 pub mod HeldEntries

@@ -1,23 +1,11 @@
 -- The entry of a request whose data move, and what it has at the new clock.
-use Rattle.std.proofs.Common.{ℕ, ◌+◌, ◌*◌, ◌<◌, ◌≤◌, ◌≡◌, Bool, true, false, not, ◌&&◌, if◌then◌else◌, nat_le, nat_lt}
-use Rattle.std.proofs.Common.{Option, Some, None, List, length, is_some, refl, sym, ap, ◌∙◌, arith, inl, inr, subst}
-use Rattle.std.specs.Option.{option_and_then}
-use Rattle.std.proofs.lemmas.Bool.{and_parts, and_right, cases_Bool, ltb-true}
-use Rattle.fsb_count.specs.Options.{is_before, is_some_and}
-use Rattle.fsb_count.proofs.Interface.{is_before-none, is_before-parts}
-use Rattle.fsb_trace.specs.Outcome.{does_move, response_clock_of}
-use Rattle.fsb_trace.specs.Response.{end_of}
-use Rattle.fsb_trace.specs.Snoop.{snoop_end_of}
-use Rattle.fsb_trace.specs.Timing.{chunk_from, is_busy_from}
-use Rattle.fsb_trace.proofs.Interface.{end_of-response, response_clock_of-stays, snoop_end_of-clock}
-use Rattle.fsb_queue.specs.declared.entry.Entry.{Entry}
-use Rattle.fsb_phase.specs.Due.{due_chunk, is_moving, keeps_busy, response_to_now}
-use Rattle.fsb_timely.specs.Growth.{GrowsTo}
-use Rattle.fsb_timely.specs.Runs.{Run, past_of}
-use Rattle.fsb_timely.specs.Snoops.{live_choice}
-use Rattle.fsb_timely.specs.Transfers.{has_data_at, is_busy_at, settled_of, settles_to_move}
-use Rattle.fsb_lawful.proofs.Interface.{chunk-bounds}
-use Rattle.fsb_phase_run.specs.Holds.{HoldsRequests}
+use Rattle.fsb_phase_run.proofs.Words
+use Words.{ℕ, ◌+◌, ◌*◌, ◌<◌, ◌≤◌, ◌≡◌, Bool, true, false, not, ◌&&◌, if◌then◌else◌, nat_le, nat_lt, Option, Some, None}
+use Words.{List, length, is_some, refl, sym, ap, ◌∙◌, arith, inl, inr, subst, option_and_then, and_parts, and_right}
+use Words.{cases_Bool, ltb-true, is_before, is_some_and, is_before-none, is_before-parts, does_move, response_clock_of}
+use Words.{end_of, snoop_end_of, chunk_from, is_busy_from, end_of-response, response_clock_of-stays, snoop_end_of-clock}
+use Words.{Entry, due_chunk, is_moving, keeps_busy, response_to_now, GrowsTo, Run, past_of, live_choice, has_data_at}
+use Words.{is_busy_at, settled_of, settles_to_move, chunk-bounds, HoldsRequests}
 use Rattle.fsb_phase_run.proofs.CodeDrive.{outcome-held, settled-same}
 use Rattle.fsb_phase_run.proofs.Grown.{agree-grown, live-same}
 use Rattle.fsb_phase_run.proofs.HeldEntries.{EntryOf, entry-flying}

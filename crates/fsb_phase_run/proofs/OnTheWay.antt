@@ -1,31 +1,16 @@
 -- A live request whose data move has not ended before its last chunk is due.
-use Rattle.std.proofs.Common.{ℕ, suc, ◌+◌, ◌*◌, ◌<◌, ◌≤◌, ◌≡◌, Bool, true, false, not, ◌&&◌, ◌||◌, Some, length, take}
-use Rattle.std.proofs.Common.{refl, sym, ap, ◌∙◌, arith, inl, inr}
-use Rattle.std.proofs.lemmas.Bool.{and_from, and_parts, cases_lt, le-leb, lt-ltb, ltb-true}
-use Rattle.fsb_count.specs.Clocks.{count_where, from_clock}
-use Rattle.fsb_count.specs.Options.{is_some_and}
-use Rattle.fsb_count.proofs.Interface.{count_where-passed, nth_where-found}
-use Rattle.fsb_signal.specs.declared.lines.TheConstants.Lines.{DBSY, DRDY}
+use Rattle.fsb_phase_run.proofs.Words
+use Words.{ℕ, suc, ◌+◌, ◌*◌, ◌<◌, ◌≤◌, ◌≡◌, Bool, true, false, not, ◌&&◌, ◌||◌, Some, length, take, refl, sym, ap, ◌∙◌}
+use Words.{arith, inl, inr, and_from, and_parts, cases_lt, le-leb, lt-ltb, ltb-true, count_where, from_clock}
+use Words.{is_some_and, count_where-passed, nth_where-found, DBSY, DRDY, line_at, does_move, moves_data}
+use Words.{response_clock_of, end_of, is_data_wrong, is_transferring, snoop_end_of, is_busy_from, AgreeTo-sym}
+use Words.{breaks-16, end_of-moving, end_of-response, end_of-stays, response_clock_of-stays, snoop_end_of-stays}
+use Words.{clear_parts, has_answer, is_transferring-last, response_counted, response_there, transferring_form}
+use Words.{snooped_at, Run, past_of, run_to, live_choice, Timely, is_busy_at, settled_of, settles_to_move, keeps-16}
+use Words.{last-moves, length-cut, live_choice-same, orderly-at, past-cut, snooped-to}
 use Rattle.fsb_signal.specs.declared.marks.Marks.{Marks}
-use Rattle.fsb_signal.specs.Samples.{line_at}
-use Rattle.fsb_trace.specs.Outcome.{does_move, moves_data, response_clock_of}
-use Rattle.fsb_trace.specs.Response.{end_of}
-use Rattle.fsb_trace.specs.Rules.{is_data_wrong, is_transferring}
-use Rattle.fsb_trace.specs.Snoop.{snoop_end_of}
-use Rattle.fsb_trace.specs.Timing.{is_busy_from}
 use Rattle.fsb_trace.specs.Verdict.{is_broken}
-use Rattle.fsb_trace.proofs.Interface.{AgreeTo-sym, breaks-16, end_of-moving, end_of-response, end_of-stays}
-use Rattle.fsb_trace.proofs.Interface.{response_clock_of-stays, snoop_end_of-stays}
 use Rattle.fsb_laws.specs.Progress.{response_count}
-use Rattle.fsb_laws.proofs.Interface.{clear_parts, has_answer, is_transferring-last, response_counted, response_there}
-use Rattle.fsb_laws.proofs.Interface.{transferring_form}
-use Rattle.fsb_timely.specs.Grants.{snooped_at}
-use Rattle.fsb_timely.specs.Runs.{Run, past_of, run_to}
-use Rattle.fsb_timely.specs.Snoops.{live_choice}
-use Rattle.fsb_timely.specs.Timely.{Timely}
-use Rattle.fsb_timely.specs.Transfers.{is_busy_at, settled_of, settles_to_move}
-use Rattle.fsb_lawful.proofs.Interface.{keeps-16, last-moves, length-cut, live_choice-same, orderly-at, past-cut}
-use Rattle.fsb_lawful.proofs.Interface.{snooped-to}
 use Rattle.fsb_phase_run.proofs.CodeDrive.{settled-from}
 use Rattle.fsb_phase_run.proofs.Grown.{agree-cut}
 

@@ -1,24 +1,13 @@
 -- The entries of a queue have the choices and the numbers of their requests again after a clock.
-use Rattle.std.proofs.Common.{ℕ, ◌≡◌, Bool, true, false, if◌then◌else◌, Some, List, ◌++◌, length, map, refl, sym, ap}
-use Rattle.std.proofs.Common.{◌∙◌, inl, inr, subst}
-use Rattle.std.specs.List.{slice_get}
-use Rattle.std.proofs.lemmas.Option.{slice_get-map}
-use Rattle.fsb_count.proofs.Interface.{nth_where-found}
+use Rattle.fsb_phase_run.proofs.Words
+use Words.{ℕ, ◌≡◌, Bool, true, false, if◌then◌else◌, Some, List, ◌++◌, length, map, refl, sym, ap, ◌∙◌, inl, inr, subst}
+use Words.{slice_get, slice_get-map, nth_where-found, Outcome, Trace, is_live, live_clock_of, is_live-ads, Entry}
+use Words.{rank_of, GrowsTo, choice_at, turns_in, Run, past_of, requests_below, AreRequestsOf, HoldsRequests}
 use Rattle.fsb_signal.specs.declared.sample.Sample.{Sample}
-use Rattle.fsb_trace.specs.declared.outcome.Outcome.{Outcome}
-use Rattle.fsb_trace.specs.At.{Trace}
-use Rattle.fsb_trace.specs.Requests.{is_live, live_clock_of}
-use Rattle.fsb_laws.proofs.Interface.{is_live-ads}
-use Rattle.fsb_queue.specs.declared.entry.Entry.{Entry}
 use Rattle.fsb_queue.specs.Entries.{with_outcome}
-use Rattle.fsb_phase.specs.Due.{rank_of}
 use Rattle.fsb_phase.specs.FitQueue.{HoldsInFlight}
 use Rattle.fsb_flight.specs.GoesOn.{goes_on, settles, stays_in_flight}
 use Rattle.fsb_flight.proofs.Interface.{append_from, filter_from, map_from}
-use Rattle.fsb_timely.specs.Growth.{GrowsTo}
-use Rattle.fsb_timely.specs.Moments.{choice_at, turns_in}
-use Rattle.fsb_timely.specs.Runs.{Run, past_of, requests_below}
-use Rattle.fsb_phase_run.specs.Holds.{AreRequestsOf, HoldsRequests}
 use Rattle.fsb_phase_run.proofs.Grown.{choice-same}
 use Rattle.fsb_phase_run.proofs.HeldEntries.{number-held}
 use Rattle.fsb_phase_run.proofs.SnoopedNow.{number-grown}

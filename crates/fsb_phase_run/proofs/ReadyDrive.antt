@@ -1,28 +1,11 @@
 -- TRDY# is driven exactly where it is due.
-use Rattle.std.proofs.Common.{ℕ, ◌+◌, ◌<◌, ◌≡◌, Bool, true, false, ◌&&◌, Option, Some, None, List, length, is_none}
-use Rattle.std.proofs.Common.{is_some, refl, sym, ap, ◌∙◌, arith, inl, inr, subst}
-use Rattle.std.specs.List.{slice_get}
-use Rattle.std.specs.Option.{option_map}
-use Rattle.std.proofs.lemmas.Bool.{and_from, and_parts, both_ways, cases_Bool}
-use Rattle.fsb_count.specs.Clocks.{any_where}
-use Rattle.fsb_count.specs.Options.{is_at}
-use Rattle.fsb_count.proofs.Interface.{any_where-at, any_where-off, is_at-from, is_at-some}
-use Rattle.fsb_trace.specs.Outcome.{response_clock_of}
-use Rattle.fsb_trace.specs.Requests.{live_count}
-use Rattle.fsb_trace.specs.Response.{answer_from, takes}
-use Rattle.fsb_trace.specs.Timing.{is_ready_from}
-use Rattle.fsb_trace.proofs.Interface.{live_below_count, snoop_end_of-clock, snoop_end_of-stays}
-use Rattle.fsb_queue.specs.declared.entry.Entry.{Entry}
-use Rattle.fsb_phase.specs.Due.{has_ready, rank_of}
-use Rattle.fsb_phase.specs.Drive.{drive_of}
-use Rattle.fsb_phase.proofs.Interface.{find-cases, find-off, find-place}
-use Rattle.fsb_timely.specs.Growth.{GrowsTo}
-use Rattle.fsb_timely.specs.Runs.{Run}
-use Rattle.fsb_timely.specs.Snoops.{live_choice}
-use Rattle.fsb_timely.specs.Transfers.{is_ready_due}
-use Rattle.fsb_timely.proofs.Interface.{run-ends}
-use Rattle.fsb_lawful.proofs.Interface.{IsReadyDue, ready-answer, ready-now, ready-stays}
-use Rattle.fsb_phase_run.specs.Holds.{HoldsRequests}
+use Rattle.fsb_phase_run.proofs.Words
+use Words.{ℕ, ◌+◌, ◌<◌, ◌≡◌, Bool, true, false, ◌&&◌, Option, Some, None, List, length, is_none, is_some, refl, sym, ap}
+use Words.{◌∙◌, arith, inl, inr, subst, slice_get, option_map, and_from, and_parts, both_ways, cases_Bool, any_where}
+use Words.{is_at, any_where-at, any_where-off, is_at-from, is_at-some, response_clock_of, live_count, answer_from}
+use Words.{takes, is_ready_from, live_below_count, snoop_end_of-clock, snoop_end_of-stays, Entry, has_ready, rank_of}
+use Words.{drive_of, find-cases, find-off, find-place, GrowsTo, Run, live_choice, is_ready_due, run-ends, IsReadyDue}
+use Words.{ready-answer, ready-now, ready-stays, HoldsRequests}
 use Rattle.fsb_phase_run.proofs.Grown.{agree-back, agree-grown, live-same, longer}
 use Rattle.fsb_phase_run.proofs.HeldEntries.{EntryOf, entry-held, number-held}
 use Rattle.fsb_phase_run.proofs.Unanswered.{ready-first}

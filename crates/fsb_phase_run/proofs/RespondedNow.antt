@@ -1,23 +1,11 @@
 -- The response and the Retry that the moment of the new clock has are those of the entry that responds.
-use Rattle.std.proofs.Common.{ℕ, ◌≡◌, true, false, not, nat_eq, Some, None, List, length, sym, ap, ◌∙◌, arith, inl, inr}
-use Rattle.std.proofs.Common.{refl}
-use Rattle.std.specs.List.{slice_get}
-use Rattle.std.specs.Option.{option_and_then, option_map, option_map_or}
-use Rattle.fsb_trace.specs.declared.outcome.Outcome.TheVariants.{Retried}
-use Rattle.fsb_trace.specs.At.{responds_at, response_code_at}
-use Rattle.fsb_trace.specs.Outcome.{response_code_of}
-use Rattle.fsb_trace.proofs.Interface.{live_clock_of-stays, snoop_end_of-clock}
-use Rattle.fsb_queue.specs.declared.entry.Entry.{Entry}
-use Rattle.fsb_phase.specs.Due.{has_response, rank_of}
-use Rattle.fsb_phase.specs.Drive.{drive_of, settled_code}
-use Rattle.fsb_phase.proofs.Interface.{find-cases, find-off, find-place}
-use Rattle.fsb_timely.specs.Growth.{GrowsTo}
-use Rattle.fsb_timely.specs.Moments.{moment_at, responded_at, retried_at}
-use Rattle.fsb_timely.specs.Runs.{Run, past_of}
-use Rattle.fsb_timely.proofs.Interface.{moment-at, run-ends}
+use Rattle.fsb_phase_run.proofs.Words
+use Words.{ℕ, ◌≡◌, true, false, not, nat_eq, Some, None, List, length, sym, ap, ◌∙◌, arith, inl, inr, refl, slice_get}
+use Words.{option_and_then, option_map, option_map_or, Retried, responds_at, response_code_at, response_code_of}
+use Words.{live_clock_of-stays, snoop_end_of-clock, Entry, has_response, rank_of, drive_of, settled_code, find-cases}
+use Words.{find-off, find-place, GrowsTo, moment_at, responded_at, retried_at, Run, past_of, moment-at, run-ends}
+use Words.{responded-from, HoldsRequests}
 use Rattle.fsb_coherent.specs.Awaits.{responded_in}
-use Rattle.fsb_tied.proofs.Interface.{responded-from}
-use Rattle.fsb_phase_run.specs.Holds.{HoldsRequests}
 use Rattle.fsb_phase_run.specs.Responding.{responding_of, retried_of}
 use Rattle.fsb_phase_run.proofs.CodeDrive.{code-drive, entry-responds}
 use Rattle.fsb_phase_run.proofs.Grown.{agree-grown, longer}

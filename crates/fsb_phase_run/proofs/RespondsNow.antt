@@ -1,33 +1,15 @@
 -- The response clock of a live request, in a sample that has the code of RS# that is due.
-use Rattle.std.proofs.Common.{ℕ, ◌+◌, ◌<◌, ◌≡◌, Bool, true, false, not, if◌then◌else◌, nat_eq, Option, Some, None, List}
-use Rattle.std.proofs.Common.{length, refl, sym, ap, ◌∙◌, arith, inl, inr, subst}
-use Rattle.std.specs.Option.{option_and_then, option_map_or}
-use Rattle.std.proofs.lemmas.Bool.{both_ways, cases_lt}
-use Rattle.fsb_count.specs.Clocks.{count_where}
-use Rattle.fsb_count.proofs.Interface.{count_where-same, first_where-found, nth_where-at, nth_where-found}
-use Rattle.fsb_signal.specs.Samples.{response_of}
-use Rattle.fsb_trace.specs.declared.outcome.Outcome.{Outcome}
-use Rattle.fsb_trace.specs.declared.outcome.Outcome.TheVariants.{Granted, Handed, Retried, Deferred, Written, Replied}
-use Rattle.fsb_trace.specs.declared.outcome.Outcome.TheVariants.{Failed, Upgraded}
-use Rattle.fsb_trace.specs.At.{Trace, responds_at, response_code_at}
-use Rattle.fsb_trace.specs.Outcome.{response_clock_of, response_code_of}
-use Rattle.fsb_trace.specs.Requests.{live_count}
-use Rattle.fsb_trace.specs.Rules.{next_response}
-use Rattle.fsb_trace.specs.Snoop.{snoop_end_of}
-use Rattle.fsb_trace.proofs.Interface.{live_below_count, responds_at-agree, response_clock_of-stays, snoop_end_of-clock}
-use Rattle.fsb_trace.proofs.Interface.{snoop_end_of-stays}
+use Rattle.fsb_phase_run.proofs.Words
+use Words.{ℕ, ◌+◌, ◌<◌, ◌≡◌, Bool, true, false, not, if◌then◌else◌, nat_eq, Option, Some, None, List, length, refl, sym}
+use Words.{ap, ◌∙◌, arith, inl, inr, subst, option_and_then, option_map_or, both_ways, cases_lt, count_where}
+use Words.{count_where-same, first_where-found, nth_where-at, nth_where-found, response_of, Outcome, Granted, Handed}
+use Words.{Retried, Deferred, Written, Replied, Failed, Upgraded, Trace, responds_at, response_code_at}
+use Words.{response_clock_of, response_code_of, live_count, next_response, snoop_end_of, live_below_count}
+use Words.{responds_at-agree, response_clock_of-stays, snoop_end_of-clock, snoop_end_of-stays, one_more}
+use Words.{response_code_at-new, Entry, has_response, rank_of, response_to_now, drive_of, GrowsTo, Run, past_of}
+use Words.{live_choice, code_due, is_response_clock, number_responding, settled_of, snoop-tied, Responding}
+use Words.{answered-before, responding-answer, response-before, HoldsRequests}
 use Rattle.fsb_laws.specs.OneMore.{OneMore}
-use Rattle.fsb_laws.proofs.Interface.{one_more, response_code_at-new}
-use Rattle.fsb_queue.specs.declared.entry.Entry.{Entry}
-use Rattle.fsb_phase.specs.Due.{has_response, rank_of, response_to_now}
-use Rattle.fsb_phase.specs.Drive.{drive_of}
-use Rattle.fsb_timely.specs.Growth.{GrowsTo}
-use Rattle.fsb_timely.specs.Runs.{Run, past_of}
-use Rattle.fsb_timely.specs.Snoops.{live_choice}
-use Rattle.fsb_timely.specs.Transfers.{code_due, is_response_clock, number_responding, settled_of}
-use Rattle.fsb_timely.proofs.Interface.{snoop-tied}
-use Rattle.fsb_lawful.proofs.Interface.{Responding, answered-before, responding-answer, response-before}
-use Rattle.fsb_phase_run.specs.Holds.{HoldsRequests}
 use Rattle.fsb_phase_run.proofs.CodeDrive.{code-drive, entry-responds, number-is, responds-entry, responds-old}
 use Rattle.fsb_phase_run.proofs.CodeDrive.{settled-same}
 use Rattle.fsb_phase_run.proofs.Grown.{agree-back, agree-grown, longer}

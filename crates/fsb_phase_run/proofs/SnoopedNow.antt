@@ -1,27 +1,11 @@
 -- The snoop end that the phases tell is that of the moment of the new clock.
-use Rattle.std.proofs.Common.{ℕ, ◌<◌, ◌≡◌, true, false, Option, Some, None, List, length, refl, sym, ap, ◌∙◌, arith}
-use Rattle.std.proofs.Common.{inl, inr}
-use Rattle.std.specs.List.{slice_get}
-use Rattle.std.specs.Option.{option_map}
-use Rattle.std.proofs.lemmas.Bool.{and_from, and_parts, both_ways}
-use Rattle.fsb_count.specs.Clocks.{count_where}
-use Rattle.fsb_count.proofs.Interface.{count_where-same, is_at-from, is_at-some, nth_where-found}
-use Rattle.fsb_signal.specs.declared.lines.TheConstants.Lines.{ADS}
-use Rattle.fsb_signal.specs.Samples.{line_at}
-use Rattle.fsb_trace.specs.Requests.{is_live, live_clock_of, live_number_of}
-use Rattle.fsb_trace.specs.Snoop.{snoop_end_of}
-use Rattle.fsb_trace.proofs.Interface.{line_at-agree, live_clock_of-number, live_clock_of-stays, snoop_end_of-clock}
-use Rattle.fsb_trace.proofs.Interface.{snoop_end_of-stays}
-use Rattle.fsb_queue.specs.declared.entry.Entry.{Entry}
-use Rattle.fsb_phase.specs.Due.{rank_of}
-use Rattle.fsb_phase.specs.Drive.{ends_snoop_at, phased_at}
-use Rattle.fsb_phase.proofs.Interface.{find-cases, find-off, find-place}
-use Rattle.fsb_timely.specs.Grants.{snooped_at}
-use Rattle.fsb_timely.specs.Growth.{GrowsTo}
-use Rattle.fsb_timely.specs.Past.{SnoopEnd}
-use Rattle.fsb_timely.specs.Runs.{Run, past_of, requests_below}
-use Rattle.fsb_timely.proofs.Interface.{snoop-tied, tied-snoop}
-use Rattle.fsb_phase_run.specs.Holds.{HoldsRequests}
+use Rattle.fsb_phase_run.proofs.Words
+use Words.{ℕ, ◌<◌, ◌≡◌, true, false, Option, Some, None, List, length, refl, sym, ap, ◌∙◌, arith, inl, inr, slice_get}
+use Words.{option_map, and_from, and_parts, both_ways, count_where, count_where-same, is_at-from, is_at-some}
+use Words.{nth_where-found, ADS, line_at, is_live, live_clock_of, live_number_of, snoop_end_of, line_at-agree}
+use Words.{live_clock_of-number, live_clock_of-stays, snoop_end_of-clock, snoop_end_of-stays, Entry, rank_of}
+use Words.{ends_snoop_at, phased_at, find-cases, find-off, find-place, snooped_at, GrowsTo, SnoopEnd, Run, past_of}
+use Words.{requests_below, snoop-tied, tied-snoop, HoldsRequests}
 use Rattle.fsb_phase_run.proofs.Grown.{agree-back, agree-grown, longer}
 use Rattle.fsb_phase_run.proofs.HeldEntries.{EntryOf, entry-held, number-held}
 use Rattle.fsb_phase_run.proofs.Unanswered.{snoops-first}

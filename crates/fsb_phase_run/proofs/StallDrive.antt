@@ -1,34 +1,15 @@
 -- A snoop is stalled exactly where a live request stalls.
-use Rattle.std.proofs.Common.{ℕ, zero, suc, ◌+◌, ◌*◌, ◌-◌, ◌/◌, ◌%◌, ◌<◌, ◌≤◌, ◌≡◌, Bool, true, false, not, ◌&&◌}
-use Rattle.std.proofs.Common.{nat_eq, nat_le, Option, Some, None, List, length, is_none, is_some, refl, sym, ap, ◌∙◌}
-use Rattle.std.proofs.Common.{arith, inl, inr, subst}
-use Rattle.std.specs.List.{slice_get}
-use Rattle.std.specs.Option.{option_map}
-use Rattle.std.proofs.lemmas.Bool.{and_from, and_parts, both_ways, cases_Bool, eq-eqb, eqb-true, le-leb, leb-true}
-use Rattle.fsb_count.specs.Clocks.{any_where}
-use Rattle.fsb_count.specs.Options.{greater_of, is_some_and}
-use Rattle.fsb_count.proofs.Interface.{any_where-at, any_where-found, any_where-off, first_where-found}
-use Rattle.fsb_trace.specs.At.{Trace, stalls_at}
-use Rattle.fsb_trace.specs.Agree.{AgreeTo}
-use Rattle.fsb_trace.specs.Requests.{live_count}
-use Rattle.fsb_trace.specs.Snoop.{ends_snoop, is_every_second_from, snoop_end_from, snoop_end_if, snoop_end_of}
-use Rattle.fsb_trace.specs.Snoop.{snoop_start_of, start_after_clock, start_after_end}
-use Rattle.fsb_trace.specs.Timing.{is_stall_from}
-use Rattle.fsb_trace.proofs.Interface.{AgreeTo-sym, live_below_count, live_clock_of-stays, snoop_end_of-clock}
-use Rattle.fsb_trace.proofs.Interface.{snoop_end_of-stays, snoop_start_of-after, stalls_at-agree}
-use Rattle.fsb_laws.proofs.Interface.{start_clock}
-use Rattle.fsb_queue.specs.declared.entry.Entry.{Entry}
-use Rattle.fsb_phase.specs.Due.{has_snoop, is_stalled, rank_of}
-use Rattle.fsb_phase.specs.Drive.{drive_of}
-use Rattle.fsb_phase.proofs.Interface.{find-cases, find-off, find-place}
-use Rattle.fsb_timely.specs.Growth.{GrowsTo}
-use Rattle.fsb_timely.specs.Past.{Past}
-use Rattle.fsb_timely.specs.Runs.{Run, run_to}
-use Rattle.fsb_timely.specs.Snoops.{drives_aerr, drives_bnr, drives_defer, drives_hazards, drives_stalls}
-use Rattle.fsb_timely.specs.Snoops.{is_stall_chosen, keeps_snoop_lines, live_choice}
-use Rattle.fsb_timely.specs.Timely.{Timely, holds_at, holds_in}
-use Rattle.fsb_lawful.proofs.Interface.{and5, live_choice-same, same-beq}
-use Rattle.fsb_phase_run.specs.Holds.{HoldsRequests}
+use Rattle.fsb_phase_run.proofs.Words
+use Words.{ℕ, zero, suc, ◌+◌, ◌*◌, ◌-◌, ◌/◌, ◌%◌, ◌<◌, ◌≤◌, ◌≡◌, Bool, true, false, not, ◌&&◌, nat_eq, nat_le, Option}
+use Words.{Some, None, List, length, is_none, is_some, refl, sym, ap, ◌∙◌, arith, inl, inr, subst, slice_get}
+use Words.{option_map, and_from, and_parts, both_ways, cases_Bool, eq-eqb, eqb-true, le-leb, leb-true, any_where}
+use Words.{greater_of, is_some_and, any_where-at, any_where-found, any_where-off, first_where-found, Trace, stalls_at}
+use Words.{AgreeTo, live_count, ends_snoop, is_every_second_from, snoop_end_from, snoop_end_if, snoop_end_of}
+use Words.{snoop_start_of, start_after_clock, start_after_end, is_stall_from, AgreeTo-sym, live_below_count}
+use Words.{live_clock_of-stays, snoop_end_of-clock, snoop_end_of-stays, snoop_start_of-after, stalls_at-agree}
+use Words.{start_clock, Entry, has_snoop, is_stalled, rank_of, drive_of, find-cases, find-off, find-place, GrowsTo}
+use Words.{Past, Run, run_to, drives_aerr, drives_bnr, drives_defer, drives_hazards, drives_stalls, is_stall_chosen}
+use Words.{keeps_snoop_lines, live_choice, Timely, holds_at, holds_in, and5, live_choice-same, same-beq, HoldsRequests}
 use Rattle.fsb_phase_run.proofs.Grown.{agree-back, agree-cut, agree-grown, choice-grown}
 use Rattle.fsb_phase_run.proofs.HeldEntries.{EntryOf, entry-held, number-held}
 use Rattle.fsb_phase_run.proofs.Unanswered.{snoops-first}

@@ -1,17 +1,10 @@
 -- The turns of a run that grows are taken as the queue's step asks for it.
-use Rattle.std.proofs.Common.{ℕ, ◌<◌, ◌≡◌, Some, length, slice_index, sym, ap, ◌∙◌}
-use Rattle.std.specs.Option.{option_map}
-use Rattle.fsb_trace.specs.Outcome.{settled_by, settled_outcome_of}
-use Rattle.fsb_trace.specs.Snoop.{snoop_end_of}
-use Rattle.fsb_trace.proofs.Interface.{snoop_end_of-stays}
+use Rattle.fsb_phase_run.proofs.Words
+use Words.{ℕ, ◌<◌, ◌≡◌, Some, length, slice_index, sym, ap, ◌∙◌, option_map, settled_by, settled_outcome_of}
+use Words.{snoop_end_of, snoop_end_of-stays, snooped_at, GrowsTo, number_of_turn, turns_in, SnoopEnd, Run, past_of}
+use Words.{snoop-tied}
 use Rattle.fsb_heads.specs.Heads.{snooped_count}
 use Rattle.fsb_heads.proofs.Interface.{snoops_to}
-use Rattle.fsb_timely.specs.Grants.{snooped_at}
-use Rattle.fsb_timely.specs.Growth.{GrowsTo}
-use Rattle.fsb_timely.specs.Moments.{number_of_turn, turns_in}
-use Rattle.fsb_timely.specs.Past.{SnoopEnd}
-use Rattle.fsb_timely.specs.Runs.{Run, past_of}
-use Rattle.fsb_timely.proofs.Interface.{snoop-tied}
 use Rattle.fsb_phase_run.proofs.Grown.{agree-grown, snooped-same}
 
 pub turn-same : (r s : Run) (i : ℕ) → GrowsTo r s → i < snooped_count r.trace

@@ -1,18 +1,10 @@
 -- A request that is due at the clock after a timely run, for its TRDY# or its response, has not responded yet.
-use Rattle.std.proofs.Common.{ℕ, ◌+◌, ◌<◌, ◌≤◌, ◌≡◌, true, false, Option, Some, None, length, refl, sym, ◌∙◌, arith}
-use Rattle.std.proofs.Common.{inl, inr, subst}
-use Rattle.fsb_count.proofs.Interface.{count_where-mono, count_where-same, nth_where-found}
-use Rattle.fsb_trace.specs.At.{responds_at}
-use Rattle.fsb_trace.specs.Outcome.{response_clock_of}
-use Rattle.fsb_trace.specs.Rules.{next_response}
-use Rattle.fsb_trace.specs.Snoop.{snoop_end_of}
-use Rattle.fsb_trace.proofs.Interface.{responds_at-agree, snoop_end_of-stays}
-use Rattle.fsb_timely.specs.Runs.{Run, run_to}
-use Rattle.fsb_timely.specs.Snoops.{live_choice}
-use Rattle.fsb_timely.specs.Timely.{Timely}
-use Rattle.fsb_lawful.proofs.Interface.{IsReadyDue, Responding, answered-before, answered-next, one-ready, one-response}
-use Rattle.fsb_lawful.proofs.Interface.{one_answer, ready-stays, ready-then, responding-answer, responding-stays}
-use Rattle.fsb_lawful.proofs.Interface.{response-before, takes-stays}
+use Rattle.fsb_phase_run.proofs.Words
+use Words.{ℕ, ◌+◌, ◌<◌, ◌≤◌, ◌≡◌, true, false, Option, Some, None, length, refl, sym, ◌∙◌, arith, inl, inr, subst}
+use Words.{count_where-mono, count_where-same, nth_where-found, responds_at, response_clock_of, next_response}
+use Words.{snoop_end_of, responds_at-agree, snoop_end_of-stays, Run, run_to, live_choice, Timely, IsReadyDue}
+use Words.{Responding, answered-before, answered-next, one-ready, one-response, one_answer, ready-stays, ready-then}
+use Words.{responding-answer, responding-stays, response-before, takes-stays}
 use Rattle.fsb_phase_run.proofs.Grown.{agree-cut}
 
 -- live request i responded at t, as the run up to t shows it
