@@ -1,30 +1,14 @@
 -- Traces that agree below a clock have the same deferrals there.
-use Rattle.std.proofs.Common.{ℕ, ◌+◌, ◌<◌, ◌≤◌, ◌≡◌, Bool, true, cond, List, Option, Some, None, slice_index, sym, ap}
-use Rattle.std.proofs.Common.{subst, ◌∙◌, arith}
-use Rattle.std.specs.Option.{option_and_then, option_map}
-use Rattle.std.proofs.lemmas.Bool.{both_ways, false_from_ne_true}
-use Rattle.fsb_count.specs.Clocks.{count_where}
-use Rattle.fsb_count.specs.Options.{is_before, is_some_and}
-use Rattle.fsb_count.proofs.Interface.{count_where-same, is_before-from, is_before-parts}
-use Rattle.fsb_signal.specs.declared.lines.TheConstants.Lines.{ADS, HIT}
-use Rattle.fsb_signal.specs.Samples.{line_at}
-use Rattle.fsb_trace.specs.Agree.{AgreeTo}
-use Rattle.fsb_trace.specs.At.{Trace}
-use Rattle.fsb_trace.specs.Deferral.{is_answered, later_of}
-use Rattle.fsb_trace.specs.Flight.{reply_number_of}
-use Rattle.fsb_trace.specs.Outcome.{is_deferral, is_settled_deferred, response_clock_of, settled_by}
-use Rattle.fsb_trace.specs.Requests.{line_of, live_clock_of, live_count}
-use Rattle.fsb_trace.specs.Snoop.{snoop_end_of}
-use Rattle.fsb_trace.proofs.Interface.{AgreeTo-sym, line_at-agree, line_at_snoop_end-stays, live_clock_of-stays}
-use Rattle.fsb_trace.proofs.Interface.{live_request_of-stays, response_clock_of-stays, settled_outcome_of-ended}
-use Rattle.fsb_trace.proofs.Interface.{snoop_end_of-clock, snoop_end_of-stays}
-use Rattle.fsb_timely.proofs.Interface.{line_of-agree, settled_by-agree}
-use Rattle.fsb_lawful.proofs.Interface.{and-then}
-use Rattle.fsb_tied.proofs.Interface.{reply-stays, same-both}
-use Rattle.fsb_bridge.specs.declared.deferral.Waiting.{Waiting}
-use Rattle.fsb_bridge.specs.DeferralList.{StandsFor, live_line_of, request_number_of, response_before, waiting_at}
-use Rattle.fsb_bridge.specs.DeferralList.{waits}
-use Rattle.fsb_bridge.proofs.Interface.{AreEntriesOf-IsEntryOf, IsEntryOf, IsEntryOf-StandsFor, Matched}
+use Rattle.fsb_bridge_run.proofs.Words
+use Words.{ℕ, ◌+◌, ◌<◌, ◌≤◌, ◌≡◌, Bool, true, cond, List, Option, Some, None, slice_index, sym, ap, subst, ◌∙◌, arith}
+use Words.{option_and_then, option_map, both_ways, false_from_ne_true, count_where, is_before, is_some_and}
+use Words.{count_where-same, is_before-from, is_before-parts, ADS, HIT, line_at, AgreeTo, Trace, is_answered, later_of}
+use Words.{reply_number_of, is_deferral, is_settled_deferred, response_clock_of, settled_by, line_of, live_clock_of}
+use Words.{live_count, snoop_end_of, AgreeTo-sym, line_at-agree, line_at_snoop_end-stays, live_clock_of-stays}
+use Words.{live_request_of-stays, response_clock_of-stays, settled_outcome_of-ended, snoop_end_of-clock}
+use Words.{snoop_end_of-stays, line_of-agree, settled_by-agree, and-then, reply-stays, same-both, Waiting, StandsFor}
+use Words.{live_line_of, request_number_of, response_before, waiting_at, waits, AreEntriesOf-IsEntryOf, IsEntryOf}
+use Words.{IsEntryOf-StandsFor, Matched}
 use Rattle.fsb_bridge_run.proofs.Listed.{Matched-into, all_where-below, all_where-bounds, all_where-pass}
 use Rattle.fsb_bridge_run.proofs.Waiting.{waits-from, waits-live, waits-parts}
 

@@ -1,21 +1,9 @@
 -- The request to which the reply that begins at a clock is.
-use Rattle.std.proofs.Common.{ℕ, ◌+◌, ◌<◌, ◌≤◌, ◌≡◌, true, false, Some, length, arith, inl}
-use Rattle.std.specs.Option.{option_and_then}
-use Rattle.std.proofs.lemmas.Bool.{both_ways, false_from_ne_true}
-use Rattle.fsb_count.proofs.Interface.{is_before-parts}
-use Rattle.fsb_encode.specs.declared.request.Request.{Request}
-use Rattle.fsb_trace.specs.Deferral.{is_answered}
-use Rattle.fsb_trace.specs.Flight.{reply_number_of}
-use Rattle.fsb_trace.specs.Requests.{live_request_of}
-use Rattle.fsb_trace.specs.Snoop.{snoop_end_of}
-use Rattle.fsb_trace.proofs.Interface.{snoop_end_of-clock}
-use Rattle.fsb_timely.specs.Runs.{Run, past_of, past_to, run_to}
-use Rattle.fsb_timely.specs.Starts.{due_number, reply_to, would_begin}
-use Rattle.fsb_lawful.proofs.Interface.{and-then, map-some, run_to-agrees}
-use Rattle.fsb_run_laws.specs.Reaches.{Reaches}
-use Rattle.fsb_bridge.specs.DeferralList.{waits}
-use Rattle.fsb_bridge_run.specs.DeferralSteps.{reply_begun}
-use Rattle.fsb_bridge_run.specs.RunDeferrals.{turns_of}
+use Rattle.fsb_bridge_run.proofs.Words
+use Words.{ℕ, ◌+◌, ◌<◌, ◌≤◌, ◌≡◌, true, false, Some, length, arith, inl, option_and_then, both_ways, false_from_ne_true}
+use Words.{is_before-parts, Request, is_answered, reply_number_of, live_request_of, snoop_end_of, snoop_end_of-clock}
+use Words.{Run, past_of, past_to, run_to, due_number, reply_to, would_begin, and-then, map-some, run_to-agrees, Reaches}
+use Words.{waits, reply_begun, turns_of}
 use Rattle.fsb_bridge_run.proofs.DueReplies.{IsDueAt, due-at, is-replied}
 use Rattle.fsb_bridge_run.proofs.PriorityReplies.{begun-parts}
 use Rattle.fsb_bridge_run.proofs.UnderWay.{answered-same}

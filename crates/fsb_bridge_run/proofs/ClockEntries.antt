@@ -1,33 +1,15 @@
 -- The entries of the list after the cancellation and the response of a clock.
-use Rattle.std.proofs.Common.{ℕ, ◌+◌, ◌<◌, ◌≡◌, Bool, true, false, cond, List, map, Option, Some, None, length}
-use Rattle.std.proofs.Common.{nat_eq, slice_index, refl, sym, ap, subst, ◌∙◌, arith, inl, inr}
-use Rattle.std.proofs.lemmas.Bool.{both_ways, cases_Bool, eq-eqb, eqb-true}
-use Rattle.fsb_count.specs.Options.{is_before, is_some_and}
-use Rattle.fsb_count.proofs.Interface.{count_where-above, is_before-from, is_before-parts, nth_where-one}
-use Rattle.fsb_encode.specs.declared.request.Request.{Request}
-use Rattle.fsb_signal.specs.declared.lines.TheConstants.Lines.{ADS, AERR}
-use Rattle.fsb_signal.specs.Samples.{line_at}
-use Rattle.fsb_trace.specs.At.{Trace, request_at, responds_at}
-use Rattle.fsb_trace.specs.Deferral.{is_answered, later_of}
-use Rattle.fsb_trace.specs.Flight.{is_reply_to}
-use Rattle.fsb_trace.specs.Outcome.{response_clock_of}
-use Rattle.fsb_trace.specs.Requests.{have_same_id, is_cancelled, is_live, live_clock_of, live_count, live_request_of}
-use Rattle.fsb_timely.specs.Runs.{Run, past_of, requests_below, run_to}
-use Rattle.fsb_timely.specs.Starts.{reply_to}
-use Rattle.fsb_coherent.specs.Awaits.{cancelled_in, responded_in}
-use Rattle.fsb_lawful.proofs.Interface.{live-ads, wants-lawfully}
-use Rattle.fsb_tied.proofs.Interface.{Responds, cancelled-at, cancels, number-responded, orderly-whole}
-use Rattle.fsb_tied.proofs.Interface.{responded-number}
-use Rattle.fsb_run_laws.specs.Reaches.{Reaches}
+use Rattle.fsb_bridge_run.proofs.Words
+use Words.{ℕ, ◌+◌, ◌<◌, ◌≡◌, Bool, true, false, cond, List, map, Option, Some, None, length, nat_eq, slice_index, refl}
+use Words.{sym, ap, subst, ◌∙◌, arith, inl, inr, both_ways, cases_Bool, eq-eqb, eqb-true, is_before, is_some_and}
+use Words.{count_where-above, is_before-from, is_before-parts, nth_where-one, Request, ADS, AERR, line_at, Trace}
+use Words.{request_at, responds_at, is_answered, later_of, is_reply_to, response_clock_of, have_same_id, is_cancelled}
+use Words.{is_live, live_clock_of, live_count, live_request_of, Run, past_of, requests_below, run_to, reply_to}
+use Words.{cancelled_in, responded_in, live-ads, wants-lawfully, Responds, cancelled-at, cancels, number-responded}
+use Words.{orderly-whole, responded-number, Reaches, Waiting, with_answer, with_reply, IsDeferralOf, live_line_of}
+use Words.{request_number_of, response_before, waiting_at, waits, IsEntryOf, Matched, after_cancellation, after_reply}
+use Words.{after_response, reply_at, was_deferred, turns_of}
 use Rattle.fsb_run_laws.proofs.Interface.{snoop-below}
-use Rattle.fsb_bridge.specs.declared.deferral.Waiting.{Waiting}
-use Rattle.fsb_bridge.specs.Deferrals.{with_answer, with_reply}
-use Rattle.fsb_bridge.specs.DeferralList.{IsDeferralOf, live_line_of, request_number_of, response_before, waiting_at}
-use Rattle.fsb_bridge.specs.DeferralList.{waits}
-use Rattle.fsb_bridge.proofs.Interface.{IsEntryOf, Matched}
-use Rattle.fsb_bridge_run.specs.DeferralSteps.{after_cancellation, after_reply, after_response, reply_at}
-use Rattle.fsb_bridge_run.specs.DeferralSteps.{was_deferred}
-use Rattle.fsb_bridge_run.specs.RunDeferrals.{turns_of}
 use Rattle.fsb_bridge_run.proofs.DueReplies.{answers-due}
 use Rattle.fsb_bridge_run.proofs.Listed.{AllPass, Matched-into, Matched-map, all_where-pass}
 use Rattle.fsb_bridge_run.proofs.OwnIds.{deferred-at, ids-of}

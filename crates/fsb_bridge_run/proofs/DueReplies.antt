@@ -1,36 +1,15 @@
 -- A reply that begins in a timely run answers a request that is due.
-use Rattle.std.proofs.Common.{ℕ, suc, ◌+◌, ◌<◌, ◌≤◌, ◌≡◌, true, false, not, ◌&&◌, Option, Some, length, nat_le}
-use Rattle.std.proofs.Common.{slice_index, refl, sym, ap, ◌∙◌, arith, inl, inr}
-use Rattle.std.specs.Option.{option_and_then}
-use Rattle.std.proofs.lemmas.Bool.{and_from, and_parts, cases_lt, eq-eqb, false_from_ne_true, leb-true, not-true}
-use Rattle.fsb_count.specs.Options.{is_before, is_some_and}
-use Rattle.fsb_count.proofs.Interface.{first_where-found, is_before-parts}
-use Rattle.fsb_encode.specs.declared.request.Request.{Request}
-use Rattle.fsb_signal.specs.declared.lines.TheConstants.Lines.{ADS}
-use Rattle.fsb_signal.specs.Samples.{line_at}
-use Rattle.fsb_trace.specs.At.{Trace, request_at}
-use Rattle.fsb_trace.specs.Deferral.{due_at, is_answered, is_due, later_of}
-use Rattle.fsb_trace.specs.Flight.{is_reply_to, reply_number_of}
-use Rattle.fsb_trace.specs.Outcome.{is_settled_deferred, response_clock_of}
-use Rattle.fsb_trace.specs.Requests.{have_same_id, is_cancelled, is_live, is_reply, live_clock_of, live_count}
-use Rattle.fsb_trace.specs.Requests.{live_request_of}
-use Rattle.fsb_trace.specs.Snoop.{snoop_end_of}
-use Rattle.fsb_trace.specs.Winner.{winner_at}
-use Rattle.fsb_trace.specs.declared.who.Who.{Who}
-use Rattle.fsb_trace.proofs.Interface.{AgreeTo-sym, is_live-agree, is_reply-some, line_at-agree}
-use Rattle.fsb_trace.proofs.Interface.{live_request_of-stays, request_at-agree, response_clock_of-stays}
-use Rattle.fsb_trace.proofs.Interface.{snoop_end_of-clock, snoop_end_of-stays}
-use Rattle.fsb_timely.specs.Moments.{number_of_turn, turns_in}
-use Rattle.fsb_timely.specs.Runs.{Run, past_of, past_to, run_to}
-use Rattle.fsb_timely.specs.Starts.{due_number, reply_to, request_begun, would_begin}
-use Rattle.fsb_timely.specs.Timely.{Timely}
-use Rattle.fsb_timely.proofs.Interface.{snoop-tied}
-use Rattle.fsb_lawful.specs.Beginning.{WantsLawfully}
-use Rattle.fsb_lawful.proofs.Interface.{and-then, begun-decoded, begun-winner, orderly-at, past-cut, run_to-agrees}
-use Rattle.fsb_lawful.proofs.Interface.{some-and, turned-at, want-own}
-use Rattle.fsb_tied.proofs.Interface.{answered, has-reply, live-at}
-use Rattle.fsb_bridge.specs.DeferralList.{waits}
-use Rattle.fsb_bridge_run.specs.RunDeferrals.{turns_of}
+use Rattle.fsb_bridge_run.proofs.Words
+use Words.{ℕ, suc, ◌+◌, ◌<◌, ◌≤◌, ◌≡◌, true, false, not, ◌&&◌, Option, Some, length, nat_le, slice_index, refl, sym, ap}
+use Words.{◌∙◌, arith, inl, inr, option_and_then, and_from, and_parts, cases_lt, eq-eqb, false_from_ne_true, leb-true}
+use Words.{not-true, is_before, is_some_and, first_where-found, is_before-parts, Request, ADS, line_at, Trace}
+use Words.{request_at, due_at, is_answered, is_due, later_of, is_reply_to, reply_number_of, is_settled_deferred}
+use Words.{response_clock_of, have_same_id, is_cancelled, is_live, is_reply, live_clock_of, live_count, live_request_of}
+use Words.{snoop_end_of, winner_at, Who, AgreeTo-sym, is_live-agree, is_reply-some, line_at-agree}
+use Words.{live_request_of-stays, request_at-agree, response_clock_of-stays, snoop_end_of-clock, snoop_end_of-stays}
+use Words.{number_of_turn, turns_in, Run, past_of, past_to, run_to, due_number, reply_to, request_begun, would_begin}
+use Words.{Timely, snoop-tied, WantsLawfully, and-then, begun-decoded, begun-winner, orderly-at, past-cut}
+use Words.{run_to-agrees, some-and, turned-at, want-own, answered, has-reply, live-at, waits, turns_of}
 use Rattle.fsb_bridge_run.proofs.Alike.{SameDeferrals, deferred-same}
 use Rattle.fsb_bridge_run.proofs.UnderWay.{reply-to-kept}
 use Rattle.fsb_bridge_run.proofs.Waiting.{answered-from, reply-from, reply-parts, waits-from}

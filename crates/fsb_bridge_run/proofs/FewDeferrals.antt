@@ -1,40 +1,20 @@
 -- There are sixteen deferrals at most: each has an ID of its own, one of four of each of the four agents.
-use Rattle.std.proofs.Common.{ℕ, zero, suc, ◌+◌, ◌*◌, ◌/◌, ◌%◌, ◌<◌, ◌≤◌, ◌≡◌, Bool, true, false, not, ◌&&◌, ◌||◌}
-use Rattle.std.proofs.Common.{List, [], ◌∷◌, Option, Some, length, nat_eq, if◌then◌else◌, refl, sym, ap, subst, ◌∙◌}
-use Rattle.std.proofs.Common.{arith, inl, inr}
-use Rattle.std.specs.Option.{option_and_then, option_map_or}
-use Rattle.std.proofs.lemmas.Bool.{and_from, and_parts, cases_order, eq-eqb, eqb-false, eqb-true, false_from_ne_true}
-use Rattle.std.proofs.lemmas.Bool.{ne_eqb, not-true}
-use Rattle.fsb_count.specs.Clocks.{all_where, count_where}
-use Rattle.fsb_count.proofs.Interface.{count_where-same, first_where-found, length-all_where}
-use Rattle.fsb_encode.specs.declared.request.Request.{Request}
-use Rattle.fsb_laws.proofs.Interface.{count_where-none}
-use Rattle.fsb_trace.specs.Requests.{is_reply, is_reply_kind, live_clock_of, live_count, live_request_of}
-use Rattle.fsb_trace.specs.Winner.{winner_at}
-use Rattle.fsb_count.specs.Options.{is_some_and}
-use Rattle.fsb_timely.specs.Runs.{Run, past_of, past_to, run_to}
-use Rattle.fsb_timely.specs.Starts.{request_begun, would_begin}
+use Rattle.fsb_bridge_run.proofs.Words
+use Words.{ℕ, zero, suc, ◌+◌, ◌*◌, ◌/◌, ◌%◌, ◌<◌, ◌≤◌, ◌≡◌, Bool, true, false, not, ◌&&◌, ◌||◌, List, [], ◌∷◌, Option}
+use Words.{Some, length, nat_eq, if◌then◌else◌, refl, sym, ap, subst, ◌∙◌, arith, inl, inr, option_and_then}
+use Words.{option_map_or, and_from, and_parts, cases_order, eq-eqb, eqb-false, eqb-true, false_from_ne_true, ne_eqb}
+use Words.{not-true, all_where, count_where, count_where-same, first_where-found, length-all_where, Request}
+use Words.{count_where-none, is_reply, is_reply_kind, live_clock_of, live_count, live_request_of, winner_at}
+use Words.{is_some_and, Run, past_of, past_to, run_to, request_begun, would_begin, begun-decoded, begun-winner}
+use Words.{begun_of, live-ads, run_to-agrees, want-few, want-own, wanted-by, wants-lawfully, winner-four, Reaches}
+use Words.{waiting_at, waits, turns_of, AgreeTo, Trace, request_at, reply_number_of, snoop_end_of, AgreeTo-sym}
+use Words.{line_at-agree, live_below_count, live_clock_of-rises, live_clock_of-stays, live_request_of-at}
+use Words.{request_at-agree, snoop_end_of-clock, snoop_end_of-rises, snoop_end_of-stays, ADS, line_at, length-append}
 use Rattle.fsb_timely.specs.Wants.{free_id, id_of}
-use Rattle.fsb_lawful.proofs.Interface.{begun-decoded, begun-winner, begun_of, live-ads, run_to-agrees, want-few}
-use Rattle.fsb_lawful.proofs.Interface.{want-own, wanted-by, wants-lawfully}
-use Rattle.fsb_tied.proofs.Interface.{winner-four}
-use Rattle.fsb_run_laws.specs.Reaches.{Reaches}
-use Rattle.fsb_bridge.specs.DeferralList.{waiting_at, waits}
-use Rattle.fsb_bridge_run.specs.RunDeferrals.{turns_of}
 use Rattle.fsb_bridge_run.proofs.OwnIds.{deferred-at, not-again, one-id, request-waiting}
 use Rattle.fsb_bridge_run.proofs.Waiting.{earlier, either, either-from, waits-parts}
 use Rattle.fsb_bridge_run.proofs.Alike.{SameDeferrals}
 use Rattle.fsb_bridge_run.proofs.Listed.{all_where-added}
-use Rattle.fsb_trace.specs.Agree.{AgreeTo}
-use Rattle.fsb_trace.specs.At.{Trace, request_at}
-use Rattle.fsb_trace.specs.Flight.{reply_number_of}
-use Rattle.fsb_trace.specs.Snoop.{snoop_end_of}
-use Rattle.fsb_trace.proofs.Interface.{AgreeTo-sym, line_at-agree, live_below_count, live_clock_of-rises}
-use Rattle.fsb_trace.proofs.Interface.{live_clock_of-stays, live_request_of-at, request_at-agree, snoop_end_of-clock}
-use Rattle.fsb_trace.proofs.Interface.{snoop_end_of-rises, snoop_end_of-stays}
-use Rattle.fsb_signal.specs.declared.lines.TheConstants.Lines.{ADS}
-use Rattle.fsb_signal.specs.Samples.{line_at}
-use Rattle.std.proofs.lemmas.List.{length-append}
 
 -- how many pass, without those that pass a second test, which one passes at most
 count-but : (p t : ℕ → Bool) (n : ℕ)

@@ -1,28 +1,12 @@
 -- A list that has the deferrals of a run has those of the run that grows from it; and lists are short.
-use Rattle.std.proofs.Common.{ℕ, ◌+◌, ◌-◌, ◌<◌, ◌≤◌, ◌≡◌, true, List, [], ◌∷◌, Some, length, take, slice_index, refl}
-use Rattle.std.proofs.Common.{sym, ap, subst, ◌∙◌, arith}
-use Rattle.std.proofs.lemmas.List.{length-append, length-map, take_all, take-append-le}
-use Rattle.fsb_timely.specs.Starts.{due_number, would_begin}
-use Rattle.fsb_trace.specs.Agree.{AgreeTo}
-use Rattle.fsb_count.specs.Clocks.{all_where, count_where}
-use Rattle.fsb_trace.specs.Outcome.{is_deferral}
-use Rattle.fsb_trace.specs.Requests.{live_count}
-use Rattle.fsb_trace.specs.Snoop.{snoop_end_of}
-use Rattle.fsb_trace.proofs.Interface.{AgreeTo-sym, snoop_end_of-stays}
-use Rattle.fsb_laws.proofs.Interface.{one_more}
-use Rattle.fsb_timely.specs.Grants.{snooped_at}
-use Rattle.fsb_timely.specs.Growth.{GrowsTo}
-use Rattle.fsb_timely.specs.Past.{SnoopEnd}
-use Rattle.fsb_timely.specs.Runs.{Run, past_of, past_to, run_to}
-use Rattle.fsb_timely.proofs.Interface.{length-moments, moments-grow, past-before, snoop-tied, tied-snoop}
-use Rattle.fsb_lawful.proofs.Interface.{snooped-to, wants-lawfully}
-use Rattle.fsb_tied.proofs.Interface.{asked-at, deferred-held, held-plain, snooped-by}
-use Rattle.fsb_run_laws.specs.Reaches.{Reaches}
-use Rattle.fsb_bridge.specs.declared.deferral.Waiting.{Waiting}
-use Rattle.fsb_bridge.specs.DeferralList.{StandsFor, waiting_at}
-use Rattle.fsb_bridge.proofs.Interface.{IsEntryOf, IsEntryOf-StandsFor}
-use Rattle.fsb_bridge_run.specs.DeferralSteps.{after_beginning, after_reply, reply_begun}
-use Rattle.fsb_bridge_run.specs.RunDeferrals.{FindsDeferrals, HasDeferrals, ShowsDeferrals, turns_of}
+use Rattle.fsb_bridge_run.proofs.Words
+use Words.{ℕ, ◌+◌, ◌-◌, ◌<◌, ◌≤◌, ◌≡◌, true, List, [], ◌∷◌, Some, length, take, slice_index, refl, sym, ap, subst, ◌∙◌}
+use Words.{arith, length-append, length-map, take_all, take-append-le, due_number, would_begin, AgreeTo, all_where}
+use Words.{count_where, is_deferral, live_count, snoop_end_of, AgreeTo-sym, snoop_end_of-stays, one_more, snooped_at}
+use Words.{GrowsTo, SnoopEnd, Run, past_of, past_to, run_to, length-moments, moments-grow, past-before, snoop-tied}
+use Words.{tied-snoop, snooped-to, wants-lawfully, asked-at, deferred-held, held-plain, snooped-by, Reaches, Waiting}
+use Words.{StandsFor, waiting_at, IsEntryOf, IsEntryOf-StandsFor, after_beginning, after_reply, reply_begun}
+use Words.{FindsDeferrals, HasDeferrals, ShowsDeferrals, turns_of}
 use Rattle.fsb_bridge_run.proofs.Alike.{stands-kept, waiting_at-same}
 use Rattle.fsb_bridge_run.proofs.FewDeferrals.{few-waiting}
 use Rattle.fsb_bridge_run.proofs.Listed.{Matched-length}

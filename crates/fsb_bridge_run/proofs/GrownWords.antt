@@ -1,31 +1,11 @@
 -- The words of a run's next clock, by a list that has the run's deferrals: before it is known that the clock is timely.
-use Rattle.std.proofs.Common.{ℕ, ◌<◌, ◌≡◌, true, false, List, Some, is_some, length, refl, sym, subst, arith}
-use Rattle.std.specs.Option.{option_map, option_map_or}
-use Rattle.fsb_count.specs.Options.{is_some_and}
-use Rattle.fsb_encode.specs.declared.request.Request.{Request}
-use Rattle.fsb_hazard.specs.Choice.{effective}
-use Rattle.fsb_trace.specs.At.{request_at}
-use Rattle.fsb_trace.specs.Deferral.{is_pending}
-use Rattle.fsb_trace.specs.Requests.{is_reply, is_reply_kind}
-use Rattle.fsb_trace.specs.Winner.{begins_at, is_agent, is_same_agent}
-use Rattle.fsb_trace.specs.declared.who.Who.TheVariants.{Priority}
-use Rattle.fsb_trace.proofs.Interface.{line_at-agree}
-use Rattle.fsb_timely.specs.Grants.{snooped_at}
-use Rattle.fsb_timely.specs.Growth.{GrowsTo}
-use Rattle.fsb_timely.specs.Moments.{choice_at, effective_choice}
-use Rattle.fsb_timely.specs.Past.{SnoopEnd}
-use Rattle.fsb_timely.specs.Runs.{Run, past_of, past_to}
-use Rattle.fsb_timely.specs.Snoops.{number_served_at, was_hit_before}
-use Rattle.fsb_timely.specs.Starts.{due_number, reply_to, request_begun, would_begin}
-use Rattle.fsb_timely.proofs.Interface.{tied-snoop}
-use Rattle.fsb_lawful.specs.Beginning.{KeepsBounds}
-use Rattle.fsb_lawful.proofs.Interface.{run_to-agrees, want-own}
-use Rattle.fsb_run_laws.specs.Reaches.{Reaches}
-use Rattle.fsb_bridge.specs.declared.deferral.Waiting.{Waiting}
-use Rattle.fsb_bridge.specs.Deferrals.{deferral_of_id, due_deferral, is_covered, is_waited_for}
-use Rattle.fsb_bridge.specs.DeferralList.{IsThatOf, StandsFor}
-use Rattle.fsb_bridge.proofs.Interface.{is_waited_for-StandsFor}
-use Rattle.fsb_bridge_run.specs.RunDeferrals.{HasDeferrals, ShowsBegun, turns_of}
+use Rattle.fsb_bridge_run.proofs.Words
+use Words.{ℕ, ◌<◌, ◌≡◌, true, false, List, Some, is_some, length, refl, sym, subst, arith, option_map, option_map_or}
+use Words.{is_some_and, Request, effective, request_at, is_pending, is_reply, is_reply_kind, begins_at, is_agent}
+use Words.{is_same_agent, Priority, line_at-agree, snooped_at, GrowsTo, choice_at, effective_choice, SnoopEnd, Run}
+use Words.{past_of, past_to, number_served_at, was_hit_before, due_number, reply_to, request_begun, would_begin}
+use Words.{tied-snoop, KeepsBounds, run_to-agrees, want-own, Reaches, Waiting, deferral_of_id, due_deferral, is_covered}
+use Words.{is_waited_for, IsThatOf, StandsFor, is_waited_for-StandsFor, HasDeferrals, ShowsBegun, turns_of}
 use Rattle.fsb_bridge_run.proofs.Alike.{SameDeferrals}
 use Rattle.fsb_bridge_run.proofs.FewDeferrals.{room-for}
 use Rattle.fsb_bridge_run.proofs.GrownLists.{agree-grown, list-length, turns-grown}

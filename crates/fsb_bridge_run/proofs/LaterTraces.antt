@@ -1,25 +1,12 @@
 -- A trace that goes on from the samples of a run: what it finds of a list that has the run's deferrals.
-use Rattle.std.proofs.Common.{ℕ, zero, suc, ◌+◌, ◌≡◌, Bool, true, false, List, map, Option, Some, None, length, nat_eq}
-use Rattle.std.proofs.Common.{take, refl, sym, subst, ◌∙◌, arith}
-use Rattle.std.proofs.lemmas.Bool.{both_ways, eq-eqb, eqb-true, false_from_ne_true}
-use Rattle.std.proofs.lemmas.List.{length-take-le}
-use Rattle.fsb_encode.specs.declared.request.Request.{Request}
-use Rattle.fsb_trace.specs.At.{Trace, request_at}
-use Rattle.fsb_trace.specs.Deferral.{is_answered}
-use Rattle.fsb_trace.specs.Flight.{is_reply_to}
-use Rattle.fsb_trace.specs.Outcome.{response_clock_of}
-use Rattle.fsb_trace.specs.Requests.{have_same_id, live_count, live_request_of}
-use Rattle.fsb_trace.proofs.Interface.{AgreeTo-sym, live_request_of-stays, response_clock_of-stays, snoop_end_of-stays}
-use Rattle.fsb_timely.specs.Runs.{Run, run_to}
-use Rattle.fsb_lawful.proofs.Interface.{run_to-agrees}
-use Rattle.fsb_tied.proofs.Interface.{answered, orderly-whole}
-use Rattle.fsb_run_laws.specs.Reaches.{Reaches}
-use Rattle.fsb_bridge.specs.declared.deferral.Waiting.{Waiting}
-use Rattle.fsb_bridge.specs.Deferrals.{with_reply}
-use Rattle.fsb_bridge.specs.DeferralList.{HaveOwnIds, RespondsInOrder, StandsFor, waiting_at, waits}
-use Rattle.fsb_bridge.proofs.Interface.{AreEntriesOf-IsEntryOf, IsEntryOf, IsEntryOf-StandsFor, Matched}
-use Rattle.fsb_bridge_run.specs.DeferralSteps.{after_beginning, after_reply, reply_at, reply_begun}
-use Rattle.fsb_bridge_run.specs.RunDeferrals.{FindsDeferrals, ShowsDeferrals, turns_of}
+use Rattle.fsb_bridge_run.proofs.Words
+use Words.{ℕ, zero, suc, ◌+◌, ◌≡◌, Bool, true, false, List, map, Option, Some, None, length, nat_eq, take, refl, sym}
+use Words.{subst, ◌∙◌, arith, both_ways, eq-eqb, eqb-true, false_from_ne_true, length-take-le, Request, Trace}
+use Words.{request_at, is_answered, is_reply_to, response_clock_of, have_same_id, live_count, live_request_of}
+use Words.{AgreeTo-sym, live_request_of-stays, response_clock_of-stays, snoop_end_of-stays, Run, run_to, run_to-agrees}
+use Words.{answered, orderly-whole, Reaches, Waiting, with_reply, HaveOwnIds, RespondsInOrder, StandsFor, waiting_at}
+use Words.{waits, AreEntriesOf-IsEntryOf, IsEntryOf, IsEntryOf-StandsFor, Matched, after_beginning, after_reply}
+use Words.{reply_at, reply_begun, FindsDeferrals, ShowsDeferrals, turns_of}
 use Rattle.fsb_bridge_run.proofs.Alike.{SameDeferrals, entry-kept, waiting_at-same, waits-same}
 use Rattle.fsb_bridge_run.proofs.BegunReplies.{begun-for, begun-waits}
 use Rattle.fsb_bridge_run.proofs.Listed.{AllPass, Matched-into, Matched-map, all_where-pass}

@@ -1,34 +1,15 @@
 -- What a timely run says of its deferrals at a clock is what the list says.
-use Rattle.std.proofs.Common.{ℕ, ◌+◌, ◌<◌, ◌≤◌, ◌≡◌, true, List, Option, Some, None, is_some, length, take}
-use Rattle.std.proofs.Common.{if◌then◌else◌, refl, sym, ◌∙◌, arith}
-use Rattle.std.specs.Option.{option_and_then, option_map}
-use Rattle.std.proofs.lemmas.List.{length-take-le}
-use Rattle.fsb_count.proofs.Interface.{nth_where-found}
-use Rattle.fsb_encode.specs.declared.request.Request.{Request}
-use Rattle.fsb_hazard.specs.Choice.{effective}
+use Rattle.fsb_bridge_run.proofs.Words
+use Words.{ℕ, ◌+◌, ◌<◌, ◌≤◌, ◌≡◌, true, List, Option, Some, None, is_some, length, take, if◌then◌else◌, refl, sym, ◌∙◌}
+use Words.{arith, option_and_then, option_map, length-take-le, nth_where-found, Request, effective, Trace, request_at}
+use Words.{responds_at, due_at, is_pending, response_clock_of, have_same_id, live_request_of, begins_at, Priority}
+use Words.{AgreeTo-sym, live_request_of-stays, response_clock_of-stays, snoop_end_of-clock, snoop_end_of-stays}
+use Words.{choice_at, effective_choice, is_in_window, turns_in, Run, moments_below, past_of, past_to, run_to}
+use Words.{due_number, reply_to, would_begin, snoop-tied, run_to-agrees, answered, orderly-whole, snooped-by}
+use Words.{turn-so-far, Reaches, Deferral, Waiting, due_deferral, is_covered, is_waited_for, HaveOwnIds, IsThatOf}
+use Words.{RespondsInOrder, StandsFor, waits, due_deferral-StandsFor, is_waited_for-StandsFor, reply_begun}
+use Words.{FindsDeferrals, turns_of}
 use Rattle.fsb_script.specs.declared.plan.Window.{Window}
-use Rattle.fsb_trace.specs.At.{Trace, request_at, responds_at}
-use Rattle.fsb_trace.specs.Deferral.{due_at, is_pending}
-use Rattle.fsb_trace.specs.Outcome.{response_clock_of}
-use Rattle.fsb_trace.specs.Requests.{have_same_id, live_request_of}
-use Rattle.fsb_trace.specs.Winner.{begins_at}
-use Rattle.fsb_trace.specs.declared.who.Who.TheVariants.{Priority}
-use Rattle.fsb_trace.proofs.Interface.{AgreeTo-sym, live_request_of-stays, response_clock_of-stays}
-use Rattle.fsb_trace.proofs.Interface.{snoop_end_of-clock, snoop_end_of-stays}
-use Rattle.fsb_timely.specs.Moments.{choice_at, effective_choice, is_in_window, turns_in}
-use Rattle.fsb_timely.specs.Runs.{Run, moments_below, past_of, past_to, run_to}
-use Rattle.fsb_timely.specs.Starts.{due_number, reply_to, would_begin}
-use Rattle.fsb_timely.proofs.Interface.{snoop-tied}
-use Rattle.fsb_lawful.proofs.Interface.{run_to-agrees}
-use Rattle.fsb_tied.proofs.Interface.{answered, orderly-whole, snooped-by, turn-so-far}
-use Rattle.fsb_run_laws.specs.Reaches.{Reaches}
-use Rattle.fsb_bridge.specs.declared.deferral.Deferral.{Deferral}
-use Rattle.fsb_bridge.specs.declared.deferral.Waiting.{Waiting}
-use Rattle.fsb_bridge.specs.Deferrals.{due_deferral, is_covered, is_waited_for}
-use Rattle.fsb_bridge.specs.DeferralList.{HaveOwnIds, IsThatOf, RespondsInOrder, StandsFor, waits}
-use Rattle.fsb_bridge.proofs.Interface.{due_deferral-StandsFor, is_waited_for-StandsFor}
-use Rattle.fsb_bridge_run.specs.DeferralSteps.{reply_begun}
-use Rattle.fsb_bridge_run.specs.RunDeferrals.{FindsDeferrals, turns_of}
 use Rattle.fsb_bridge_run.proofs.Alike.{SameDeferrals, stands-kept, waits-same}
 use Rattle.fsb_bridge_run.proofs.DueReplies.{cut-same}
 use Rattle.fsb_bridge_run.proofs.OwnIds.{own-ids}

@@ -1,10 +1,8 @@
 -- Lists of the clocks that pass a test, and lists that are matched with them.
-use Rattle.std.proofs.Common.{ℕ, zero, suc, ◌+◌, ◌<◌, ◌≡◌, ◌≢◌, Bool, true, List, [], ◌∷◌, ◌++◌, length, map, refl}
-use Rattle.std.proofs.Common.{sym, ap, ◌∙◌, arith, add-zero}
+use Rattle.fsb_bridge_run.proofs.Words
+use Words.{ℕ, zero, suc, ◌+◌, ◌<◌, ◌≡◌, ◌≢◌, Bool, true, List, [], ◌∷◌, ◌++◌, length, map, refl, sym, ap, ◌∙◌, arith}
+use Words.{add-zero, all_where, all_where-failed, all_where-passed, Matched}
 use Rattle.std.specs.Prelude.{⊤}
-use Rattle.fsb_count.specs.Clocks.{all_where}
-use Rattle.fsb_count.proofs.Interface.{all_where-failed, all_where-passed}
-use Rattle.fsb_bridge.proofs.Interface.{Matched}
 
 -- tests that agree below n have the same clocks there
 pub all_where-below : (p q : ℕ → Bool) (n : ℕ) → ((k : ℕ) → k < n → p k ≡ q k) → all_where p n ≡ all_where q n

@@ -1,38 +1,18 @@
 -- In a timely run the requests that wait for their replies have IDs of their own.
-use Rattle.std.proofs.Common.{ℕ, zero, suc, ◌+◌, ◌<◌, ◌≤◌, ◌≡◌, true, false, Option, Some, length, sym, ap, ◌∙◌}
-use Rattle.std.proofs.Common.{arith, inl, inr}
-use Rattle.std.specs.Option.{option_and_then}
-use Rattle.std.proofs.lemmas.Bool.{and_from, both_ways, cases_Bool, cases_order, eq-eqb, eqb-true, false_from_ne_true}
-use Rattle.fsb_count.specs.Options.{is_before, is_some_and}
-use Rattle.fsb_count.proofs.Interface.{is_before-from, is_before-parts}
-use Rattle.fsb_encode.specs.declared.request.Request.{Request}
-use Rattle.fsb_signal.specs.declared.lines.TheConstants.Lines.{ADS}
-use Rattle.fsb_signal.specs.Samples.{line_at}
-use Rattle.fsb_trace.specs.Winner.{winner_at}
-use Rattle.fsb_trace.specs.At.{request_at}
-use Rattle.fsb_trace.specs.Flight.{is_dropped, is_finished, is_outstanding, last_clock_of, reply_end_of}
-use Rattle.fsb_trace.specs.Flight.{reply_number_of}
-use Rattle.fsb_trace.specs.Outcome.{is_deferral, is_deferred, is_settled_deferred}
-use Rattle.fsb_trace.specs.Requests.{have_same_id, is_cancelled, is_live, is_reply, is_reply_kind, live_request_of}
+use Rattle.fsb_bridge_run.proofs.Words
+use Words.{ℕ, zero, suc, ◌+◌, ◌<◌, ◌≤◌, ◌≡◌, true, false, Option, Some, length, sym, ap, ◌∙◌, arith, inl, inr}
+use Words.{option_and_then, and_from, both_ways, cases_Bool, cases_order, eq-eqb, eqb-true, false_from_ne_true}
+use Words.{is_before, is_some_and, is_before-from, is_before-parts, Request, ADS, line_at, winner_at, request_at}
+use Words.{is_dropped, is_finished, is_outstanding, last_clock_of, reply_end_of, reply_number_of, is_deferral}
+use Words.{is_deferred, is_settled_deferred, have_same_id, is_cancelled, is_live, is_reply, is_reply_kind}
+use Words.{live_request_of, snoop_end_of, AgreeTo-sym, end_of-response, line_at-agree, live_clock_of-rises}
+use Words.{live_clock_of-stays, live_request_of-at, request_at-agree, winner_at-agree, last_clock_of-deferred}
+use Words.{last_clock_of-plain, SnoopEnd, Run, past_of, past_to, run_to, request_begun, would_begin, Timely, snoop-tied}
+use Words.{WantsLawfully, IsWanted, and-then, begun-winner, begun_of, cuts-agree, id-free, orderly-at, run_to-agrees}
+use Words.{wanted-by, wants-lawfully, IsSnooped, answered, asked-at, deferred-held, held-plain, live-at, snooped-by}
+use Words.{told-deferred, Reaches, HaveOwnIds, waits, turns_of}
 use Rattle.fsb_trace.specs.Response.{end_of}
 use Rattle.fsb_trace.specs.Rules.{is_id_taken_by}
-use Rattle.fsb_trace.specs.Snoop.{snoop_end_of}
-use Rattle.fsb_trace.proofs.Interface.{AgreeTo-sym, end_of-response, line_at-agree, live_clock_of-rises}
-use Rattle.fsb_trace.proofs.Interface.{live_clock_of-stays, live_request_of-at, request_at-agree, winner_at-agree}
-use Rattle.fsb_laws.proofs.Interface.{last_clock_of-deferred, last_clock_of-plain}
-use Rattle.fsb_timely.specs.Past.{SnoopEnd}
-use Rattle.fsb_timely.specs.Runs.{Run, past_of, past_to, run_to}
-use Rattle.fsb_timely.specs.Starts.{request_begun, would_begin}
-use Rattle.fsb_timely.specs.Timely.{Timely}
-use Rattle.fsb_timely.proofs.Interface.{snoop-tied}
-use Rattle.fsb_lawful.specs.Beginning.{WantsLawfully}
-use Rattle.fsb_lawful.proofs.Interface.{IsWanted, and-then, begun-winner, begun_of, cuts-agree, id-free, orderly-at}
-use Rattle.fsb_lawful.proofs.Interface.{run_to-agrees, wanted-by, wants-lawfully}
-use Rattle.fsb_tied.proofs.Interface.{IsSnooped, answered, asked-at, deferred-held, held-plain, live-at, snooped-by}
-use Rattle.fsb_tied.proofs.Interface.{told-deferred}
-use Rattle.fsb_run_laws.specs.Reaches.{Reaches}
-use Rattle.fsb_bridge.specs.DeferralList.{HaveOwnIds, waits}
-use Rattle.fsb_bridge_run.specs.RunDeferrals.{turns_of}
 use Rattle.fsb_bridge_run.proofs.Alike.{reply-kept}
 use Rattle.fsb_bridge_run.proofs.Waiting.{earlier, is_replied, waits-parts}
 

@@ -1,23 +1,10 @@
 -- The replies of a timely run are what the priority agent begins.
-use Rattle.std.proofs.Common.{ℕ, suc, ◌+◌, ◌≡◌, true, false, ◌&&◌, Option, Some, None, if◌then◌else◌, refl, sym, ap}
-use Rattle.std.proofs.Common.{subst, ◌∙◌, arith}
-use Rattle.std.proofs.lemmas.Bool.{and_parts}
-use Rattle.fsb_count.specs.Options.{is_some_and}
-use Rattle.fsb_encode.specs.declared.request.Request.{Request}
-use Rattle.fsb_signal.specs.declared.lines.TheConstants.Lines.{ADS}
-use Rattle.fsb_signal.specs.Samples.{line_at}
-use Rattle.fsb_trace.specs.At.{request_at}
-use Rattle.fsb_trace.specs.Requests.{is_reply}
-use Rattle.fsb_trace.specs.Winner.{begins_at, is_agent, is_same_agent, winner_at}
-use Rattle.fsb_trace.specs.declared.who.Who.{Who}
-use Rattle.fsb_trace.specs.declared.who.Who.TheVariants.{Priority}
-use Rattle.fsb_trace.proofs.Interface.{line_at-agree, request_at-agree, winner_at-agree}
-use Rattle.fsb_timely.specs.Runs.{Run, past_of, past_to, run_to}
-use Rattle.fsb_timely.specs.Starts.{request_begun, would_begin}
-use Rattle.fsb_lawful.proofs.Interface.{begun-decoded, begun-winner, reply-before, reply-is, run_to-agrees}
-use Rattle.fsb_lawful.proofs.Interface.{wants-lawfully}
-use Rattle.fsb_run_laws.specs.Reaches.{Reaches}
-use Rattle.fsb_bridge_run.specs.DeferralSteps.{reply_at, reply_begun}
+use Rattle.fsb_bridge_run.proofs.Words
+use Words.{ℕ, suc, ◌+◌, ◌≡◌, true, false, ◌&&◌, Option, Some, None, if◌then◌else◌, refl, sym, ap, subst, ◌∙◌, arith}
+use Words.{and_parts, is_some_and, Request, ADS, line_at, request_at, is_reply, begins_at, is_agent, is_same_agent}
+use Words.{winner_at, Who, Priority, line_at-agree, request_at-agree, winner_at-agree, Run, past_of, past_to, run_to}
+use Words.{request_begun, would_begin, begun-decoded, begun-winner, reply-before, reply-is, run_to-agrees}
+use Words.{wants-lawfully, Reaches, reply_at, reply_begun}
 use Rattle.fsb_bridge_run.proofs.RepliesAt.{reply_at-from, reply_at-off}
 
 agent-is : (who : Who) → is_agent (Some who) Priority ≡ true → who ≡ Priority

@@ -1,14 +1,7 @@
 -- The reply that begins at a clock.
-use Rattle.std.proofs.Common.{ℕ, ◌+◌, ◌<◌, arith, ◌≡◌, true, false, ◌&&◌, Some, None, refl}
-use Rattle.fsb_count.specs.Options.{is_some_and}
-use Rattle.fsb_encode.specs.declared.request.Request.{Request}
-use Rattle.fsb_signal.specs.declared.lines.TheConstants.Lines.{ADS}
-use Rattle.fsb_signal.specs.Samples.{line_at}
-use Rattle.fsb_trace.specs.Agree.{AgreeTo}
-use Rattle.fsb_trace.specs.At.{Trace, request_at}
-use Rattle.fsb_trace.proofs.Interface.{line_at-agree, request_at-agree}
-use Rattle.fsb_trace.specs.Requests.{is_reply}
-use Rattle.fsb_bridge_run.specs.DeferralSteps.{reply_at}
+use Rattle.fsb_bridge_run.proofs.Words
+use Words.{ℕ, ◌+◌, ◌<◌, arith, ◌≡◌, true, false, ◌&&◌, Some, None, refl, is_some_and, Request, ADS, line_at, AgreeTo}
+use Words.{Trace, request_at, line_at-agree, request_at-agree, is_reply, reply_at}
 
 pub reply_at-parts : (w : Trace) (q : ℕ) (x : Request) → reply_at w q ≡ Some x
     → (line_at ADS w q ≡ true) × (is_reply (request_at w q) ≡ true) × (request_at w q ≡ Some x)

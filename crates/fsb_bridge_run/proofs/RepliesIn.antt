@@ -1,25 +1,11 @@
 -- The snoop end of a reply, in a trace that has the deferrals of a run so far: which request it answers.
-use Rattle.std.proofs.Common.{ℕ, ◌+◌, ◌<◌, ◌≤◌, ◌≡◌, true, false, List, Some, length, sym, ap, ◌∙◌, arith}
-use Rattle.std.specs.Option.{option_and_then, option_map}
-use Rattle.std.proofs.lemmas.Bool.{and_from, and_parts, false_from_ne_true}
-use Rattle.fsb_count.specs.Options.{is_before}
-use Rattle.fsb_count.proofs.Interface.{first_where-at, is_before-parts}
-use Rattle.fsb_encode.specs.declared.request.Request.{Request}
-use Rattle.fsb_signal.specs.declared.lines.TheConstants.Lines.{ADS}
-use Rattle.fsb_signal.specs.Samples.{line_at}
-use Rattle.fsb_trace.specs.Agree.{AgreeTo}
-use Rattle.fsb_trace.specs.At.{Trace, request_at}
-use Rattle.fsb_trace.specs.Flight.{is_live_reply_to, is_reply_to, reply_clock_of, reply_number_of}
-use Rattle.fsb_trace.specs.Requests.{is_live, is_reply, is_reply_kind, live_clock_of, live_number_of, live_request_of}
-use Rattle.fsb_trace.specs.Snoop.{snoop_end_of}
-use Rattle.fsb_trace.proofs.Interface.{AgreeTo-sym, is_live-agree, is_reply-some, line_at-agree, live_clock_of-rises}
-use Rattle.fsb_trace.proofs.Interface.{live_request_of-at, request_at-agree, snoop_end_of-clock, snoop_end_of-stays}
-use Rattle.fsb_timely.specs.Runs.{Run}
-use Rattle.fsb_lawful.proofs.Interface.{wants-lawfully}
-use Rattle.fsb_tied.proofs.Interface.{live-at}
-use Rattle.fsb_run_laws.specs.Reaches.{Reaches}
-use Rattle.fsb_bridge.specs.DeferralList.{waits}
-use Rattle.fsb_bridge_run.specs.RunDeferrals.{turns_of}
+use Rattle.fsb_bridge_run.proofs.Words
+use Words.{ℕ, ◌+◌, ◌<◌, ◌≤◌, ◌≡◌, true, false, List, Some, length, sym, ap, ◌∙◌, arith, option_and_then, option_map}
+use Words.{and_from, and_parts, false_from_ne_true, is_before, first_where-at, is_before-parts, Request, ADS, line_at}
+use Words.{AgreeTo, Trace, request_at, is_live_reply_to, is_reply_to, reply_clock_of, reply_number_of, is_live}
+use Words.{is_reply, is_reply_kind, live_clock_of, live_number_of, live_request_of, snoop_end_of, AgreeTo-sym}
+use Words.{is_live-agree, is_reply-some, line_at-agree, live_clock_of-rises, live_request_of-at, request_at-agree}
+use Words.{snoop_end_of-clock, snoop_end_of-stays, Run, wants-lawfully, live-at, Reaches, waits, turns_of}
 use Rattle.fsb_bridge_run.proofs.Alike.{SameDeferrals, deferred-same}
 use Rattle.fsb_bridge_run.proofs.DueReplies.{AnswersDue, answers-due, live-of}
 use Rattle.fsb_bridge_run.proofs.UnderWay.{reply-to-kept}

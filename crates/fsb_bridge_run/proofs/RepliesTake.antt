@@ -1,34 +1,14 @@
 -- The snoop end of a reply is for the deferral that its ID has in the list.
-use Rattle.std.proofs.Common.{ℕ, ◌+◌, ◌<◌, ◌≡◌, true, false, List, Option, Some, is_some, sym, ap, subst, ◌∙◌, arith}
-use Rattle.std.specs.Option.{option_and_then, option_map_or}
-use Rattle.std.proofs.lemmas.Bool.{and_from, and_parts, false_from_ne_true}
-use Rattle.fsb_count.specs.Options.{is_at, is_before, is_some_and}
-use Rattle.fsb_count.proofs.Interface.{first_where-at, is_at-from, is_at-some}
-use Rattle.fsb_encode.specs.declared.request.Request.{Request}
-use Rattle.fsb_signal.specs.declared.lines.TheConstants.Lines.{HIT}
-use Rattle.fsb_trace.specs.At.{Trace, request_at}
-use Rattle.fsb_trace.specs.Flight.{reply_number_of}
-use Rattle.fsb_trace.specs.Outcome.{is_settled_deferred}
-use Rattle.fsb_trace.specs.Requests.{have_same_id, is_reply, is_reply_kind, live_count, live_request_of}
-use Rattle.fsb_trace.specs.Snoop.{line_at_snoop_end, snoop_end_of}
-use Rattle.fsb_trace.proofs.Interface.{AgreeTo-sym, is_reply-some, live_below_count, live_clock_of-stays}
-use Rattle.fsb_trace.proofs.Interface.{request_at-agree, response_clock_of-stays, snoop_end_of-clock}
-use Rattle.fsb_trace.proofs.Interface.{snoop_end_of-stays}
-use Rattle.fsb_timely.specs.Grants.{snooped_at}
-use Rattle.fsb_timely.specs.Moments.{is_answered_by, number_snooped_at, served_number, turns_in}
-use Rattle.fsb_timely.specs.Past.{SnoopEnd}
-use Rattle.fsb_timely.specs.Runs.{Run, past_of, past_to, run_to}
-use Rattle.fsb_timely.specs.Snoops.{number_served_at, was_hit_before}
-use Rattle.fsb_timely.proofs.Interface.{one_end, tied-snoop}
-use Rattle.fsb_lawful.proofs.Interface.{run_to-agrees}
-use Rattle.fsb_tied.proofs.Interface.{answered, orderly-whole, snooped-by}
-use Rattle.fsb_run_laws.specs.Reaches.{Reaches}
-use Rattle.fsb_bridge.specs.declared.deferral.Deferral.{Deferral}
-use Rattle.fsb_bridge.specs.declared.deferral.Waiting.{Waiting}
-use Rattle.fsb_bridge.specs.Deferrals.{deferral_of_id}
-use Rattle.fsb_bridge.specs.DeferralList.{IsThatOf, StandsFor}
-use Rattle.fsb_bridge.proofs.Interface.{deferral_of_id-reply}
-use Rattle.fsb_bridge_run.specs.RunDeferrals.{FindsDeferrals, turns_of}
+use Rattle.fsb_bridge_run.proofs.Words
+use Words.{ℕ, ◌+◌, ◌<◌, ◌≡◌, true, false, List, Option, Some, is_some, sym, ap, subst, ◌∙◌, arith, option_and_then}
+use Words.{option_map_or, and_from, and_parts, false_from_ne_true, is_at, is_before, is_some_and, first_where-at}
+use Words.{is_at-from, is_at-some, Request, HIT, Trace, request_at, reply_number_of, is_settled_deferred, have_same_id}
+use Words.{is_reply, is_reply_kind, live_count, live_request_of, line_at_snoop_end, snoop_end_of, AgreeTo-sym}
+use Words.{is_reply-some, live_below_count, live_clock_of-stays, request_at-agree, response_clock_of-stays}
+use Words.{snoop_end_of-clock, snoop_end_of-stays, snooped_at, is_answered_by, number_snooped_at, served_number}
+use Words.{turns_in, SnoopEnd, Run, past_of, past_to, run_to, number_served_at, was_hit_before, one_end, tied-snoop}
+use Words.{run_to-agrees, answered, orderly-whole, snooped-by, Reaches, Deferral, Waiting, deferral_of_id, IsThatOf}
+use Words.{StandsFor, deferral_of_id-reply, FindsDeferrals, turns_of}
 use Rattle.fsb_bridge_run.proofs.Alike.{SameDeferrals}
 use Rattle.fsb_bridge_run.proofs.DueReplies.{cut-same, is-replied}
 use Rattle.fsb_bridge_run.proofs.LaterTraces.{cut-goes-on, trace-ids}

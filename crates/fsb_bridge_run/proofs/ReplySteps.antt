@@ -1,25 +1,10 @@
 -- Whether a reply is under way, one clock on.
-use Rattle.std.proofs.Common.{ℕ, suc, ◌+◌, ◌<◌, ◌≤◌, ◌≡◌, true, false, not, Some, length, sym, ap, subst, ◌∙◌, arith}
-use Rattle.std.proofs.Common.{inl, inr}
-use Rattle.std.proofs.lemmas.Bool.{and_from, both_ways, cases_lt, cases_order, false_from_ne_true}
-use Rattle.fsb_count.specs.Options.{is_some_and}
-use Rattle.fsb_encode.specs.declared.request.Request.{Request}
-use Rattle.fsb_signal.specs.declared.lines.TheConstants.Lines.{ADS}
-use Rattle.fsb_signal.specs.Samples.{line_at}
-use Rattle.fsb_trace.specs.Agree.{AgreeTo}
-use Rattle.fsb_trace.specs.At.{Trace, request_at}
-use Rattle.fsb_trace.specs.Deferral.{is_answered}
-use Rattle.fsb_trace.specs.Flight.{is_reply_to}
-use Rattle.fsb_trace.specs.Requests.{is_cancelled, is_live, is_reply, live_request_of}
-use Rattle.fsb_trace.specs.Snoop.{snoop_end_of}
-use Rattle.fsb_trace.proofs.Interface.{AgreeTo-sym, is_cancelled-agree, is_live-agree, snoop_end_of-stays}
-use Rattle.fsb_laws.proofs.Interface.{request_at-last}
-use Rattle.fsb_timely.specs.Runs.{Run, run_to}
-use Rattle.fsb_lawful.proofs.Interface.{length-cut, run_to-agrees}
-use Rattle.fsb_tied.proofs.Interface.{orderly-whole, same-both}
-use Rattle.fsb_run_laws.specs.Reaches.{Reaches}
-use Rattle.fsb_bridge.specs.DeferralList.{waits}
-use Rattle.fsb_bridge_run.specs.RunDeferrals.{turns_of}
+use Rattle.fsb_bridge_run.proofs.Words
+use Words.{ℕ, suc, ◌+◌, ◌<◌, ◌≤◌, ◌≡◌, true, false, not, Some, length, sym, ap, subst, ◌∙◌, arith, inl, inr, and_from}
+use Words.{both_ways, cases_lt, cases_order, false_from_ne_true, is_some_and, Request, ADS, line_at, AgreeTo, Trace}
+use Words.{request_at, is_answered, is_reply_to, is_cancelled, is_live, is_reply, live_request_of, snoop_end_of}
+use Words.{AgreeTo-sym, is_cancelled-agree, is_live-agree, snoop_end_of-stays, request_at-last, Run, run_to, length-cut}
+use Words.{run_to-agrees, orderly-whole, same-both, Reaches, waits, turns_of}
 use Rattle.fsb_bridge_run.proofs.DueReplies.{AnswersDue, due-waits}
 use Rattle.fsb_bridge_run.proofs.OwnIds.{one-id}
 use Rattle.fsb_bridge_run.proofs.UnderWay.{reply-to-kept, under-kept}

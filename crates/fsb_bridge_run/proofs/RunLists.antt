@@ -1,19 +1,9 @@
 -- A list that has the deferrals of a run, as a clock finds it and as it leaves it.
-use Rattle.std.proofs.Common.{ℕ, ◌+◌, ◌≤◌, ◌≡◌, true, List, length, take, refl, subst, arith}
-use Rattle.std.proofs.lemmas.List.{length-take-le}
-use Rattle.fsb_trace.specs.Agree.{AgreeTo}
-use Rattle.fsb_trace.specs.At.{Trace}
-use Rattle.fsb_trace.specs.Deferral.{is_answered}
-use Rattle.fsb_trace.specs.Requests.{live_count}
-use Rattle.fsb_trace.proofs.Interface.{AgreeTo-sym}
-use Rattle.fsb_timely.specs.Runs.{Run, run_to}
-use Rattle.fsb_lawful.proofs.Interface.{run_to-agrees, slice_get-take}
-use Rattle.fsb_run_laws.specs.Reaches.{Reaches}
-use Rattle.fsb_bridge.specs.declared.deferral.Waiting.{Waiting}
-use Rattle.fsb_bridge.specs.DeferralList.{StandsFor, waiting_at, waits}
-use Rattle.fsb_bridge.proofs.Interface.{AreEntriesOf-IsEntryOf, IsEntryOf, Matched}
-use Rattle.fsb_bridge_run.specs.DeferralSteps.{after_cancellation, after_response, after_snoop_end}
-use Rattle.fsb_bridge_run.specs.RunDeferrals.{FindsDeferrals, ShowsDeferrals, turns_of}
+use Rattle.fsb_bridge_run.proofs.Words
+use Words.{ℕ, ◌+◌, ◌≤◌, ◌≡◌, true, List, length, take, refl, subst, arith, length-take-le, AgreeTo, Trace, is_answered}
+use Words.{live_count, AgreeTo-sym, Run, run_to, run_to-agrees, slice_get-take, Reaches, Waiting, StandsFor, waiting_at}
+use Words.{waits, AreEntriesOf-IsEntryOf, IsEntryOf, Matched, after_cancellation, after_response, after_snoop_end}
+use Words.{FindsDeferrals, ShowsDeferrals, turns_of}
 use Rattle.fsb_bridge_run.proofs.Alike.{SameDeferrals, entry-kept, stands-kept, waiting_at-same}
 use Rattle.fsb_bridge_run.proofs.ClockEntries.{IsAnsweredTo, answered-entries, cancelled-entries}
 use Rattle.fsb_bridge_run.proofs.Listed.{Matched-into, all_where-pass}

@@ -1,31 +1,16 @@
 -- The request that began at the last clock of a run shows at the next one, where its words are as they must.
-use Rattle.std.proofs.Common.{ℕ, ◌+◌, ◌-◌, ◌<◌, ◌≡◌, true, false, List, [], ◌∷◌, Option, Some, None, length, take}
-use Rattle.std.proofs.Common.{take-take, refl, sym, ap, ◌∙◌, arith}
-use Rattle.std.specs.Option.{option_and_then, option_map}
-use Rattle.std.proofs.lemmas.Bool.{and_parts, le-leb}
-use Rattle.std.proofs.lemmas.List.{take-append-le}
+use Rattle.fsb_bridge_run.proofs.Words
+use Words.{ℕ, ◌+◌, ◌-◌, ◌<◌, ◌≡◌, true, false, List, [], ◌∷◌, Option, Some, None, length, take, take-take, refl, sym}
+use Words.{ap, ◌∙◌, arith, option_and_then, option_map, and_parts, le-leb, take-append-le, is_some_and, Request, ADS}
+use Words.{line_at, AgreeTo, Trace, known_pair, known_pair_at, line_back, request_at, line_at-agree, GrowsTo, Past, Run}
+use Words.{entries_to, past_of, past_to, run_to, drives_ads, drives_pair, due_number, is_spaced, may_begin, pair_due}
+use Words.{request_begun, request_begun_before, starts_requests, would_begin, holds_at, holds_in, past-before}
+use Words.{KeepsBounds, run_to-agrees, wants-lawfully, ShowsBegun}
 use Rattle.fsb_access.specs.declared.log.Done.{Done}
-use Rattle.fsb_count.specs.Options.{is_some_and}
 use Rattle.fsb_encode.specs.Decoded.{is_pair}
 use Rattle.fsb_encode.specs.declared.request.Pair.{Pair}
-use Rattle.fsb_encode.specs.declared.request.Request.{Request}
 use Rattle.fsb_encode.specs.Request.{is_lawful_request, pairs_of}
 use Rattle.fsb_encode.proofs.Interface.{request_of_coded}
-use Rattle.fsb_signal.specs.declared.lines.TheConstants.Lines.{ADS}
-use Rattle.fsb_signal.specs.Samples.{line_at}
-use Rattle.fsb_trace.specs.Agree.{AgreeTo}
-use Rattle.fsb_trace.specs.At.{Trace, known_pair, known_pair_at, line_back, request_at}
-use Rattle.fsb_trace.proofs.Interface.{line_at-agree}
-use Rattle.fsb_timely.specs.Growth.{GrowsTo}
-use Rattle.fsb_timely.specs.Past.{Past}
-use Rattle.fsb_timely.specs.Runs.{Run, entries_to, past_of, past_to, run_to}
-use Rattle.fsb_timely.specs.Starts.{drives_ads, drives_pair, due_number, is_spaced, may_begin, pair_due}
-use Rattle.fsb_timely.specs.Starts.{request_begun, request_begun_before, starts_requests, would_begin}
-use Rattle.fsb_timely.specs.Timely.{holds_at, holds_in}
-use Rattle.fsb_timely.proofs.Interface.{past-before}
-use Rattle.fsb_lawful.specs.Beginning.{KeepsBounds}
-use Rattle.fsb_lawful.proofs.Interface.{run_to-agrees, wants-lawfully}
-use Rattle.fsb_bridge_run.specs.RunDeferrals.{ShowsBegun}
 use Rattle.fsb_bridge_run.proofs.GrownLists.{agree-grown}
 
 same-pair : (p q : Pair) → is_pair p q ≡ true → p ≡ q

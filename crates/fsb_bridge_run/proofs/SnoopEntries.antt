@@ -1,37 +1,15 @@
 -- The list of deferrals after the snoop end of a clock.
-use Rattle.std.proofs.Common.{ℕ, ◌+◌, ◌/◌, ◌<◌, ◌≤◌, ◌≡◌, true, false, List, [], ◌∷◌, ◌++◌, Option, Some, None}
-use Rattle.std.proofs.Common.{length, refl, sym, ap, subst, ◌∙◌, arith, inl, inr}
-use Rattle.std.proofs.lemmas.Bool.{cases_Bool, false_from_ne_true}
-use Rattle.fsb_count.specs.Options.{is_some_and}
-use Rattle.fsb_count.proofs.Interface.{is_before-parts}
-use Rattle.fsb_encode.specs.declared.request.Request.{Request}
-use Rattle.fsb_hazard.specs.Choice.{is_never_held_up}
-use Rattle.fsb_signal.specs.declared.lines.TheConstants.Lines.{ADS}
-use Rattle.fsb_signal.specs.Samples.{line_at}
-use Rattle.fsb_trace.specs.At.{Trace, request_at}
-use Rattle.fsb_trace.specs.Deferral.{is_answered}
-use Rattle.fsb_trace.specs.Outcome.{is_deferral, response_clock_of}
-use Rattle.fsb_trace.specs.Requests.{is_reply, is_reply_kind, line_of}
-use Rattle.fsb_trace.specs.Snoop.{line_at_snoop_end, snoop_end_of}
-use Rattle.fsb_trace.specs.Winner.{winner_at}
-use Rattle.fsb_trace.proofs.Interface.{live_request_of-at, winner_at-agree}
-use Rattle.fsb_timely.specs.Grants.{begun_at, snooped_at}
-use Rattle.fsb_timely.specs.Moments.{agent_at, claim_at}
-use Rattle.fsb_timely.specs.Past.{Claim, SnoopEnd}
-use Rattle.fsb_timely.specs.Runs.{Run, past_of, past_to, requests_below, run_to}
-use Rattle.fsb_timely.specs.Starts.{request_begun, would_begin}
-use Rattle.fsb_timely.proofs.Interface.{begun-told, tied-snoop}
-use Rattle.fsb_lawful.proofs.Interface.{begun-winner, begun_of, get-there, run_to-agrees, wanted-by, wants-lawfully}
-use Rattle.fsb_tied.proofs.Interface.{answered, asked-at, begun-want, deferred-held, orderly-whole, snooped-by}
-use Rattle.fsb_run_laws.specs.Reaches.{Reaches}
-use Rattle.fsb_bridge.specs.declared.deferral.Waiting.{Waiting}
-use Rattle.fsb_bridge.specs.Deferrals.{waiting_without}
-use Rattle.fsb_bridge.specs.DeferralList.{StandsFor, live_line_of, request_number_of, response_before, waiting_at}
-use Rattle.fsb_bridge.specs.DeferralList.{waiting_besides}
-use Rattle.fsb_bridge.proofs.Interface.{IsEntryOf, IsEntryOf-AreEntriesOf, IsEntryOf-StandsFor, Matched}
-use Rattle.fsb_bridge.proofs.Interface.{waiting_without-reply}
-use Rattle.fsb_bridge_run.specs.DeferralSteps.{after_snoop_end, after_snoop_end_of, deferral_made}
-use Rattle.fsb_bridge_run.specs.RunDeferrals.{turns_of}
+use Rattle.fsb_bridge_run.proofs.Words
+use Words.{ℕ, ◌+◌, ◌/◌, ◌<◌, ◌≤◌, ◌≡◌, true, false, List, [], ◌∷◌, ◌++◌, Option, Some, None, length, refl, sym, ap}
+use Words.{subst, ◌∙◌, arith, inl, inr, cases_Bool, false_from_ne_true, is_some_and, is_before-parts, Request}
+use Words.{is_never_held_up, ADS, line_at, Trace, request_at, is_answered, is_deferral, response_clock_of, is_reply}
+use Words.{is_reply_kind, line_of, line_at_snoop_end, snoop_end_of, winner_at, live_request_of-at, winner_at-agree}
+use Words.{begun_at, snooped_at, agent_at, claim_at, Claim, SnoopEnd, Run, past_of, past_to, requests_below, run_to}
+use Words.{request_begun, would_begin, begun-told, tied-snoop, begun-winner, begun_of, get-there, run_to-agrees}
+use Words.{wanted-by, wants-lawfully, answered, asked-at, begun-want, deferred-held, orderly-whole, snooped-by, Reaches}
+use Words.{Waiting, waiting_without, StandsFor, live_line_of, request_number_of, response_before, waiting_at}
+use Words.{waiting_besides, IsEntryOf, IsEntryOf-AreEntriesOf, IsEntryOf-StandsFor, Matched, waiting_without-reply}
+use Words.{after_snoop_end, after_snoop_end_of, deferral_made, turns_of}
 use Rattle.fsb_bridge_run.proofs.Listed.{Matched-more}
 use Rattle.fsb_bridge_run.proofs.OwnIds.{own-ids}
 use Rattle.fsb_bridge_run.proofs.RepliesIn.{TakesDeferral, takes-in}

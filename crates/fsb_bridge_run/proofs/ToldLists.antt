@@ -1,32 +1,13 @@
 -- A list that has the deferrals of a run with the reply that began at the clock before, one clock on: what the
 -- clock does
 -- to it comes to the same, whether the reply that begins is told before the rest or behind it.
-use Rattle.std.proofs.Common.{ℕ, ◌+◌, ◌≡◌, Bool, true, false, List, [], ◌∷◌, ◌++◌, map, Option, Some, None, nat_eq}
-use Rattle.std.proofs.Common.{refl, sym, ap, subst, ◌∙◌, arith, inr, add-one}
-use Rattle.std.proofs.lemmas.Bool.{both_ways, eqb-true, false_from_ne_true}
-use Rattle.fsb_encode.specs.declared.request.Request.{Request}
-use Rattle.fsb_trace.specs.At.{Trace, request_at}
-use Rattle.fsb_trace.specs.Deferral.{is_answered}
-use Rattle.fsb_trace.specs.Outcome.{is_deferral}
-use Rattle.fsb_trace.specs.Requests.{is_reply_kind}
-use Rattle.fsb_trace.specs.Snoop.{snoop_end_of}
-use Rattle.fsb_trace.proofs.Interface.{live_request_of-at}
-use Rattle.fsb_timely.specs.Grants.{snooped_at}
-use Rattle.fsb_timely.specs.Past.{SnoopEnd}
-use Rattle.fsb_timely.specs.Runs.{Run, past_of}
-use Rattle.fsb_timely.specs.Starts.{reply_to}
-use Rattle.fsb_timely.proofs.Interface.{tied-snoop}
-use Rattle.fsb_lawful.proofs.Interface.{wants-lawfully}
-use Rattle.fsb_coherent.specs.Awaits.{cancelled_in}
-use Rattle.fsb_tied.proofs.Interface.{cancels, snooped-by}
-use Rattle.fsb_run_laws.specs.Reaches.{Reaches}
-use Rattle.fsb_bridge.specs.declared.deferral.Waiting.{Waiting}
-use Rattle.fsb_bridge.specs.Deferrals.{with_reply}
-use Rattle.fsb_bridge.proofs.Interface.{rest, rest_more}
-use Rattle.fsb_bridge_run.specs.DeferralSteps.{after_beginning, after_cancellation, after_clock, after_reply}
-use Rattle.fsb_bridge_run.specs.DeferralSteps.{after_response, after_snoop_end, after_snoop_end_of, deferral_made}
-use Rattle.fsb_bridge_run.specs.DeferralSteps.{reply_at, reply_begun}
-use Rattle.fsb_bridge_run.specs.RunDeferrals.{FindsDeferrals, HasDeferrals, turns_of}
+use Rattle.fsb_bridge_run.proofs.Words
+use Words.{ℕ, ◌+◌, ◌≡◌, Bool, true, false, List, [], ◌∷◌, ◌++◌, map, Option, Some, None, nat_eq, refl, sym, ap, subst}
+use Words.{◌∙◌, arith, inr, add-one, both_ways, eqb-true, false_from_ne_true, Request, Trace, request_at, is_answered}
+use Words.{is_deferral, is_reply_kind, snoop_end_of, live_request_of-at, snooped_at, SnoopEnd, Run, past_of, reply_to}
+use Words.{tied-snoop, wants-lawfully, cancelled_in, cancels, snooped-by, Reaches, Waiting, with_reply, rest, rest_more}
+use Words.{after_beginning, after_cancellation, after_clock, after_reply, after_response, after_snoop_end}
+use Words.{after_snoop_end_of, deferral_made, reply_at, reply_begun, FindsDeferrals, HasDeferrals, turns_of}
 use Rattle.fsb_bridge_run.proofs.BegunReplies.{BegunFor, begun-for, begun-waits}
 use Rattle.fsb_bridge_run.proofs.DueReplies.{answers-due, due-waits}
 use Rattle.fsb_bridge_run.proofs.OwnIds.{one-id}

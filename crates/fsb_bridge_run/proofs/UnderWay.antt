@@ -1,16 +1,8 @@
 -- Replies that are under way, in traces that agree so far.
-use Rattle.std.proofs.Common.{ℕ, ◌+◌, ◌<◌, ◌≤◌, ◌≡◌, true, Some, sym, ap, ◌∙◌, arith, inl, inr}
-use Rattle.std.proofs.lemmas.Bool.{cases_lt}
-use Rattle.fsb_signal.specs.declared.lines.TheConstants.Lines.{ADS}
-use Rattle.fsb_trace.specs.Agree.{AgreeTo}
-use Rattle.fsb_trace.specs.At.{Trace}
-use Rattle.fsb_trace.specs.Deferral.{is_answered}
-use Rattle.fsb_trace.specs.Flight.{is_reply_to}
-use Rattle.fsb_trace.specs.Requests.{have_same_id, is_reply}
-use Rattle.fsb_trace.specs.Snoop.{snoop_end_of}
-use Rattle.fsb_trace.proofs.Interface.{AgreeTo-sym, is_live-agree, line_at-agree, live_request_of-stays}
-use Rattle.fsb_trace.proofs.Interface.{request_at-agree, response_clock_of-stays, snoop_end_of-stays}
-use Rattle.fsb_tied.proofs.Interface.{same-both}
+use Rattle.fsb_bridge_run.proofs.Words
+use Words.{ℕ, ◌+◌, ◌<◌, ◌≤◌, ◌≡◌, true, Some, sym, ap, ◌∙◌, arith, inl, inr, cases_lt, ADS, AgreeTo, Trace, is_answered}
+use Words.{is_reply_to, have_same_id, is_reply, snoop_end_of, AgreeTo-sym, is_live-agree, line_at-agree}
+use Words.{live_request_of-stays, request_at-agree, response_clock_of-stays, snoop_end_of-stays, same-both}
 use Rattle.fsb_bridge_run.proofs.Waiting.{IsUnderWay, answered-from, answered-parts, reply-from, reply-parts}
 
 -- a reply that shows below n is one in both traces

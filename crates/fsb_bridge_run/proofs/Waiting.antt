@@ -1,20 +1,10 @@
 -- What it says that a live request waits for its reply, and that a reply to it is under way.
-use Rattle.std.proofs.Common.{ℕ, ◌+◌, ◌<◌, ◌≤◌, ◌≡◌, Bool, true, false, not, ◌&&◌, ◌||◌, List, Some, nat_le, ◌∙◌, ◌⊎◌}
-use Rattle.std.proofs.Common.{Option, arith, inl, inr}
-use Rattle.std.specs.Option.{option_and_then}
-use Rattle.std.proofs.lemmas.Bool.{and_from, and_parts, le-leb}
-use Rattle.fsb_count.specs.Options.{is_before}
-use Rattle.fsb_count.proofs.Interface.{any_where-at, any_where-found, is_before-from, is_before-parts}
-use Rattle.fsb_signal.specs.declared.lines.TheConstants.Lines.{ADS}
-use Rattle.fsb_signal.specs.Samples.{line_at}
-use Rattle.fsb_trace.specs.At.{Trace, request_at}
-use Rattle.fsb_trace.specs.Deferral.{answers, is_answered}
-use Rattle.fsb_trace.specs.Flight.{has_ended, is_dropped, is_in_flight, is_reply_to, reply_number_of}
-use Rattle.fsb_trace.specs.Outcome.{is_settled_deferred, response_clock_of}
-use Rattle.fsb_trace.specs.Requests.{have_same_id, is_live, is_reply, live_clock_of, live_count, live_request_of}
-use Rattle.fsb_trace.specs.Snoop.{snoop_end_of}
-use Rattle.fsb_trace.proofs.Interface.{live_below_count, snoop_end_of-clock}
-use Rattle.fsb_bridge.specs.DeferralList.{waits}
+use Rattle.fsb_bridge_run.proofs.Words
+use Words.{ℕ, ◌+◌, ◌<◌, ◌≤◌, ◌≡◌, Bool, true, false, not, ◌&&◌, ◌||◌, List, Some, nat_le, ◌∙◌, ◌⊎◌, Option, arith, inl}
+use Words.{inr, option_and_then, and_from, and_parts, le-leb, is_before, any_where-at, any_where-found, is_before-from}
+use Words.{is_before-parts, ADS, line_at, Trace, request_at, answers, is_answered, has_ended, is_dropped, is_in_flight}
+use Words.{is_reply_to, reply_number_of, is_settled_deferred, response_clock_of, have_same_id, is_live, is_reply}
+use Words.{live_clock_of, live_count, live_request_of, snoop_end_of, live_below_count, snoop_end_of-clock, waits}
 
 -- a reply to live request i has its snoop end below c
 abbrev pub is_replied : Trace → ℕ → ℕ → Bool

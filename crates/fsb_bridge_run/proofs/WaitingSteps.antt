@@ -1,27 +1,12 @@
 -- Which requests wait for their replies, one clock on.
-use Rattle.std.proofs.Common.{ℕ, ◌+◌, ◌<◌, ◌≤◌, ◌≡◌, ◌≢◌, true, false, not, ◌&&◌, List, [], ◌∷◌, ◌++◌, Some, None}
-use Rattle.std.proofs.Common.{nat_eq, sym, ap, subst, ◌∙◌, arith, inl, inr}
-use Rattle.std.specs.Option.{option_and_then}
-use Rattle.std.proofs.lemmas.Bool.{and_from, and_parts, both_ways, cases_lt, cases_order, eq-eqb, false_from_ne_true}
-use Rattle.std.proofs.lemmas.Bool.{ne_eqb, not-true}
-use Rattle.fsb_count.specs.Options.{is_before, is_some_and}
-use Rattle.fsb_count.proofs.Interface.{is_before-from, is_before-parts}
-use Rattle.fsb_encode.specs.declared.request.Request.{Request}
-use Rattle.fsb_trace.specs.At.{Trace, request_at}
-use Rattle.fsb_trace.specs.Flight.{reply_number_of}
-use Rattle.fsb_trace.specs.Outcome.{is_deferral, is_settled_deferred}
-use Rattle.fsb_trace.specs.Requests.{is_reply, is_reply_kind, live_clock_of, live_count, live_request_of}
-use Rattle.fsb_trace.specs.Snoop.{snoop_end_of}
-use Rattle.fsb_trace.proofs.Interface.{is_reply-some, live_below_count, snoop_end_of-clock, snoop_end_of-rises}
-use Rattle.fsb_timely.specs.Grants.{snooped_at}
-use Rattle.fsb_timely.specs.Past.{SnoopEnd}
-use Rattle.fsb_timely.specs.Runs.{Run, past_of}
-use Rattle.fsb_timely.proofs.Interface.{one_end, snoop-tied}
-use Rattle.fsb_lawful.proofs.Interface.{and-then}
-use Rattle.fsb_tied.proofs.Interface.{IsSnooped, answered, orderly-whole, same-both}
-use Rattle.fsb_run_laws.specs.Reaches.{Reaches}
-use Rattle.fsb_bridge.specs.DeferralList.{waiting_at, waiting_besides, waits}
-use Rattle.fsb_bridge_run.specs.RunDeferrals.{turns_of}
+use Rattle.fsb_bridge_run.proofs.Words
+use Words.{ℕ, ◌+◌, ◌<◌, ◌≤◌, ◌≡◌, ◌≢◌, true, false, not, ◌&&◌, List, [], ◌∷◌, ◌++◌, Some, None, nat_eq, sym, ap, subst}
+use Words.{◌∙◌, arith, inl, inr, option_and_then, and_from, and_parts, both_ways, cases_lt, cases_order, eq-eqb}
+use Words.{false_from_ne_true, ne_eqb, not-true, is_before, is_some_and, is_before-from, is_before-parts, Request}
+use Words.{Trace, request_at, reply_number_of, is_deferral, is_settled_deferred, is_reply, is_reply_kind, live_clock_of}
+use Words.{live_count, live_request_of, snoop_end_of, is_reply-some, live_below_count, snoop_end_of-clock}
+use Words.{snoop_end_of-rises, snooped_at, SnoopEnd, Run, past_of, one_end, snoop-tied, and-then, IsSnooped, answered}
+use Words.{orderly-whole, same-both, Reaches, waiting_at, waiting_besides, waits, turns_of}
 use Rattle.fsb_bridge_run.proofs.DueReplies.{is-replied}
 use Rattle.fsb_bridge_run.proofs.Listed.{all_where-added, all_where-below}
 use Rattle.fsb_bridge_run.proofs.OwnIds.{one-id, request-waiting, same-dids}
