@@ -1,46 +1,17 @@
 -- From behind the snoop end of a clock to the next clock, where a line comes to the agent.
-use Rattle.std.proofs.Common.{ℕ, ◌+◌, ◌<◌, ◌≡◌, ◌≢◌, ◌%◌, Bool, true, false, not, ◌&&◌, ◌||◌, List, length, Some}
-use Rattle.std.proofs.Common.{nat_eq, refl, sym, ap, subst, ◌∙◌, inl, inr, arith, ⊎_elim, if◌then◌else◌}
-use Rattle.std.specs.Prelude.{◌==◌}
-use Rattle.std.specs.List.{list_all, list_any}
-use Rattle.std.proofs.lemmas.Bool.{and_from, and_parts, cases_Bool, cases_eq, eq-eqb, eqb-true, false_from_ne_true}
-use Rattle.std.proofs.lemmas.Bool.{ne_eqb, or_right}
-use Rattle.fsb_access.specs.declared.access.Access.{Access}
-use Rattle.fsb_access.specs.declared.item.Item.{Item}
-use Rattle.fsb_access.specs.Access.{accessed_line}
-use Rattle.fsb_access.specs.ScriptOrder.{Step, steps_of_item}
-use Rattle.fsb_cache.specs.Sets.{CacheSets, states}
-use Rattle.fsb_count.specs.Options.{is_some_and}
-use Rattle.fsb_linebuf.specs.Buffers.{Buffered, fills_without}
-use Rattle.fsb_line.specs.declared.state.Mesi.{Mesi}
-use Rattle.fsb_line.specs.declared.state.Mesi.TheVariants.{Modified}
-use Rattle.fsb_line.specs.States.{is_held, kind_owns}
-use Rattle.fsb_timely.specs.Past.{Grant, Owing, Past, SnoopEnd}
-use Rattle.fsb_timely.specs.Completions.{completes_by, is_arrival, is_brought, is_there}
-use Rattle.fsb_timely.specs.Grants.{has_arrived, holds_line, is_end_at, is_ended, is_exclusive, is_granted, is_lost}
-use Rattle.fsb_timely.specs.Grants.{is_rival, latest_grant, set_of, snooped_at}
-use Rattle.fsb_timely.specs.Hits.{is_hit, is_met}
-use Rattle.fsb_timely.specs.Runs.{Run, past_of}
-use Rattle.fsb_timely.specs.Scripts.{Need, is_idling, is_load, needs_of, next_item}
-use Rattle.fsb_timely.specs.Wants.{is_asked_for, owed}
-use Rattle.fsb_timely.proofs.Interface.{holds_line-more, is_ended-more}
-use Rattle.fsb_coherent.specs.Awaits.{snoop_end_below}
-use Rattle.fsb_coherent.specs.Relation.{is_dirty_below}
-use Rattle.fsb_lawful.proofs.Interface.{grants-are-owed}
-use Rattle.fsb_tied.proofs.Interface.{one-slot}
-use Rattle.fsb_run_laws.specs.Reaches.{Reaches}
-use Rattle.fsb_agent_view.specs.declared.want.OwnRequest.{OwnRequest}
-use Rattle.fsb_agent_view.specs.AgentViews.{AgentView, line_state_by}
-use Rattle.fsb_agent_view.specs.Arriving.{arrived_for, is_arrival_by, landed, met_by, sets_settled, with_bytes}
-use Rattle.fsb_agent_view.specs.Completing.{completed_by, hand_of, next_steps}
-use Rattle.fsb_agent_view.specs.OwnRequests.{requests_without}
-use Rattle.fsb_agent_view.specs.Serving.{hand_after_steps}
-use Rattle.fsb_agent_view.specs.Snooping.{kind_asks}
-use Rattle.fsb_agent_view.proofs.Interface.{length-with_slot}
-use Rattle.fsb_agent_run.specs.Ending.{EndsFor}
-use Rattle.fsb_agent_run.specs.RunViews.{IsAgentOf, IsComing, IsPlacedIn, LogsItem, is_awaited, one_if, owing_by}
-use Rattle.fsb_agent_run.specs.RunViews.{state_told}
-use Rattle.fsb_agent_run.specs.Stages.{IsViewAfterSnoop, IsViewOf, is_dirty_snooped}
+use Rattle.fsb_agent_run.proofs.Words
+use Words.{ℕ, ◌+◌, ◌<◌, ◌≡◌, ◌≢◌, ◌%◌, Bool, true, false, not, ◌&&◌, ◌||◌, List, length, Some, nat_eq, refl, sym, ap}
+use Words.{subst, ◌∙◌, inl, inr, arith, ⊎_elim, if◌then◌else◌, ◌==◌, list_all, list_any, and_from, and_parts}
+use Words.{cases_Bool, cases_eq, eq-eqb, eqb-true, false_from_ne_true, ne_eqb, or_right, Access, Item, accessed_line}
+use Words.{Step, steps_of_item, CacheSets, states, is_some_and, Buffered, fills_without, Mesi, Modified, is_held}
+use Words.{kind_owns, Grant, Owing, Past, SnoopEnd, completes_by, is_arrival, is_brought, is_there, has_arrived}
+use Words.{holds_line, is_end_at, is_ended, is_exclusive, is_granted, is_lost, is_rival, latest_grant, set_of}
+use Words.{snooped_at, is_hit, is_met, Run, past_of, Need, is_idling, is_load, needs_of, next_item, is_asked_for, owed}
+use Words.{holds_line-more, is_ended-more, snoop_end_below, is_dirty_below, grants-are-owed, one-slot, Reaches}
+use Words.{OwnRequest, AgentView, line_state_by, arrived_for, is_arrival_by, landed, met_by, sets_settled, with_bytes}
+use Words.{completed_by, hand_of, next_steps, requests_without, hand_after_steps, kind_asks, length-with_slot, EndsFor}
+use Words.{IsAgentOf, IsComing, IsPlacedIn, LogsItem, is_awaited, one_if, owing_by, state_told, IsViewAfterSnoop}
+use Words.{IsViewOf, is_dirty_snooped}
 use Rattle.fsb_agent_run.proofs.Among.{among-any, any-among}
 use Rattle.fsb_agent_run.proofs.EndFacts.{IsEnded, below-says, ended-comes, ended-grant, first-of-grant, one-ended}
 use Rattle.fsb_agent_run.proofs.EndViews.{awaited-still, end-lines, end-placed, latest-snooped, left-requests}

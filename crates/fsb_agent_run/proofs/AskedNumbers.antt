@@ -1,12 +1,7 @@
 -- What a reply serves is the request that its agent has outstanding on the line.
-use Rattle.std.proofs.Common.{ℕ, ◌+◌, ◌≡◌, Some, sym, ap, ◌∙◌, arith, subst}
-use Rattle.fsb_timely.specs.Past.{Claim, Grant, Owing}
-use Rattle.fsb_timely.specs.Runs.{past_of, Run}
-use Rattle.fsb_timely.specs.Wants.{owed}
-use Rattle.fsb_tied.proofs.Interface.{begun-want}
-use Rattle.fsb_run_laws.specs.Reaches.{Reaches}
-use Rattle.fsb_run_laws.proofs.Interface.{ServesOutstanding}
-use Rattle.fsb_agent_run.specs.AgentClocks.{number_asked}
+use Rattle.fsb_agent_run.proofs.Words
+use Words.{ℕ, ◌+◌, ◌≡◌, Some, sym, ap, ◌∙◌, arith, subst, Claim, Grant, Owing, past_of, Run, owed, begun-want, Reaches}
+use Words.{ServesOutstanding, number_asked}
 use Rattle.fsb_agent_run.proofs.Among.{Among}
 use Rattle.fsb_agent_run.proofs.EndFacts.{asked-there}
 use Rattle.fsb_agent_run.proofs.OtherSnoops.{asked-number}

@@ -1,8 +1,7 @@
 -- That the record of an agent has the fills of the lines that the agent awaits.
+use Rattle.fsb_agent_run.proofs.Words
+use Words.{Past, AgentView, fill_count, is_awaited, one_if}
 use Rattle.std.specs.Prelude.{◌≡◌, ℕ}
-use Rattle.fsb_timely.specs.Past.{Past}
-use Rattle.fsb_agent_view.specs.AgentViews.{AgentView}
-use Rattle.fsb_agent_run.specs.RunViews.{fill_count, is_awaited, one_if}
 
 -- there is one fill of each line that agent a awaits, by the snoop ends below n and the ends below c, and none
 -- of another

@@ -1,11 +1,7 @@
 -- What begins in a timely run is what its agent wants.
-use Rattle.std.proofs.Common.{ℕ, ◌<◌, ◌≡◌, Some, length, arith}
-use Rattle.fsb_timely.specs.Past.{Claim}
-use Rattle.fsb_timely.specs.Grants.{begun_at}
-use Rattle.fsb_timely.specs.Runs.{Run, past_of}
-use Rattle.fsb_timely.specs.Timely.{Timely}
-use Rattle.fsb_lawful.specs.Beginning.{KeepsBounds}
-use Rattle.fsb_tied.proofs.Interface.{begun-shown, begun-want}
+use Rattle.fsb_agent_run.proofs.Words
+use Words.{ℕ, ◌<◌, ◌≡◌, Some, length, arith, Claim, begun_at, Run, past_of, Timely, KeepsBounds, begun-shown}
+use Words.{begun-want}
 use Rattle.fsb_agent_run.specs.BegunAsWanted.{BeginsAsWanted}
 
 pub begins-wanted : (r : Run) (n : ℕ) (claim : Claim) → Timely r → KeepsBounds r.plan → n < length r.trace

@@ -1,14 +1,9 @@
 -- The pushes and promises of an agent's buffers, one by one and all together.
-use Rattle.std.proofs.Common.{ℕ, ◌+◌, ◌≡◌, ◌≢◌, Bool, true, false, cond, not, Option, Some, None, List, [], ◌∷◌, ◌++◌}
-use Rattle.std.proofs.Common.{refl, sym, ap, ◌∙◌, inl, inr, arith}
-use Rattle.std.specs.Prelude.{◌==◌, ◌&&◌, count_by, is_none, is_some}
-use Rattle.std.proofs.lemmas.Bool.{cases_Bool, eqb-true, ne_eqb}
-use Rattle.std.proofs.lemmas.List.Sums.{sum_by-cons, sum_by_push}
-use Rattle.fsb_linebuf.specs.declared.entry.Fill.{Fill}
-use Rattle.fsb_linebuf.specs.declared.entry.Push.{Push}
-use Rattle.fsb_linebuf.specs.Buffers.{fill_on, fills_without, is_push_for, promise_on, promised_to, push_for}
-use Rattle.fsb_linebuf.specs.Buffers.{pushed_to, pushes_without}
-use Rattle.fsb_agent_run.specs.RunViews.{one_if}
+use Rattle.fsb_agent_run.proofs.Words
+use Words.{ℕ, ◌+◌, ◌≡◌, ◌≢◌, Bool, true, false, cond, not, Option, Some, None, List, [], ◌∷◌, ◌++◌, refl, sym, ap, ◌∙◌}
+use Words.{inl, inr, arith, ◌==◌, count_by, is_none, cases_Bool, eqb-true, ne_eqb, sum_by-cons, sum_by_push, Fill, Push}
+use Words.{fill_on, fills_without, is_push_for, promise_on, promised_to, push_for, pushed_to, pushes_without, one_if}
+use Rattle.std.specs.Prelude.{◌&&◌, is_some}
 use Rattle.fsb_agent_run.proofs.FillCounts.{come-count, count-here, count_on}
 use Rattle.fsb_agent_run.proofs.FillsTold.{fill_on-without, promised_count, promised_count-cons}
 

@@ -1,29 +1,14 @@
 -- At the response of a request its giver hands on the bytes that it has for it; at any other response what it
 -- owes stays.
-use Rattle.std.proofs.Common.{ℕ, zero, suc, ◌+◌, ◌<◌, ◌≡◌, Bool, true, false, cond, not, ◌&&◌, ◌||◌, if◌then◌else◌}
-use Rattle.std.proofs.Common.{Option, Some, length, nat_eq, refl, sym, ap, subst, ◌∙◌, inl, inr, arith}
-use Rattle.std.specs.Prelude.{◌==◌, is_some}
-use Rattle.std.specs.Option.{option_map}
-use Rattle.std.proofs.lemmas.Bool.{cases_eq, eq-eqb, eqb-true, false_from_ne_true, ne_eqb}
-use Rattle.fsb_count.specs.Clocks.{count_where}
-use Rattle.fsb_count.specs.Options.{is_at, is_some_and}
-use Rattle.fsb_count.proofs.Interface.{any_where-at, any_where-found, any_where-more, any_where-off, count_where-same}
-use Rattle.fsb_count.proofs.Interface.{is_at-some}
-use Rattle.fsb_linebuf.specs.declared.entry.Push.{Push}
-use Rattle.fsb_linebuf.specs.Buffers.{push_for, pushes_without}
-use Rattle.fsb_timely.specs.Past.{Claim, Past}
-use Rattle.fsb_timely.specs.Runs.{Run, past_of}
-use Rattle.fsb_timely.specs.Timely.{Timely}
-use Rattle.fsb_lawful.specs.Beginning.{KeepsBounds}
-use Rattle.fsb_lawful.proofs.Interface.{some-and}
-use Rattle.fsb_coherent.specs.Awaits.{responded_in}
-use Rattle.fsb_coherent.specs.Relation.{is_responded_below}
-use Rattle.fsb_tied.proofs.Interface.{answers-in-order}
-use Rattle.fsb_agent_view.specs.AgentViews.{AgentView}
-use Rattle.fsb_agent_view.specs.Arriving.{hand_by, handed_on}
-use Rattle.fsb_agent_view.specs.Snooping.{owed_count}
-use Rattle.fsb_agent_view.proofs.Interface.{length-without-found}
-use Rattle.fsb_agent_run.specs.BytesOwed.{HasBytesOwed, claim_given_at, is_given_below, is_pushed, owes_bytes_from}
+use Rattle.fsb_agent_run.proofs.Words
+use Words.{ℕ, zero, suc, ◌+◌, ◌<◌, ◌≡◌, Bool, true, false, cond, not, ◌&&◌, ◌||◌, if◌then◌else◌, Option, Some, length}
+use Words.{nat_eq, refl, sym, ap, subst, ◌∙◌, inl, inr, arith, ◌==◌, option_map, cases_eq, eq-eqb, eqb-true}
+use Words.{false_from_ne_true, ne_eqb, count_where, is_at, is_some_and, any_where-at, any_where-found, any_where-more}
+use Words.{any_where-off, count_where-same, is_at-some, Push, push_for, pushes_without, Claim, Past, Run, past_of}
+use Words.{Timely, KeepsBounds, some-and, responded_in, is_responded_below, answers-in-order, AgentView, hand_by}
+use Words.{handed_on, owed_count, length-without-found, HasBytesOwed, claim_given_at, is_given_below, is_pushed}
+use Words.{owes_bytes_from}
+use Rattle.std.specs.Prelude.{is_some}
 use Rattle.fsb_agent_run.proofs.BufferCounts.{push-there, push_count, push_count-without}
 use Rattle.fsb_agent_run.proofs.GivenBytes.{given}
 use Rattle.fsb_agent_run.proofs.PromisesTold.{responded-unpromised}

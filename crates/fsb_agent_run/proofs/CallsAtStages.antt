@@ -1,25 +1,10 @@
 -- When the calls of an agent may come, by its record at the stages of a clock.
-use Rattle.std.proofs.Common.{ℕ, ◌+◌, ◌<◌, ◌≡◌, Bool, true, map, Option, Some, None, refl, sym, ap, subst, ◌∙◌, arith}
-use Rattle.fsb_timely.specs.Past.{Claim, Owing, Past, SnoopEnd}
-use Rattle.fsb_timely.specs.Grants.{begun_at}
-use Rattle.fsb_timely.specs.Runs.{Run, past_of}
-use Rattle.fsb_timely.specs.Wants.{owed}
-use Rattle.fsb_trace.specs.Flight.{is_outstanding}
-use Rattle.fsb_coherent.specs.Awaits.{cancelled_in}
-use Rattle.fsb_tied.proofs.Interface.{begun-want, cancels}
-use Rattle.fsb_run_laws.specs.Reaches.{Reaches}
-use Rattle.fsb_run_laws.proofs.Interface.{cancelled-last, last-outstanding}
-use Rattle.fsb_agent_view.specs.declared.want.OwnRequest.{OwnRequest}
-use Rattle.fsb_agent_view.specs.AgentViews.{AgentView}
-use Rattle.fsb_agent_view.specs.Arriving.{may_give_up}
-use Rattle.fsb_agent_view.specs.OwnRequests.{request_numbered}
-use Rattle.fsb_agent_view.specs.Snooping.{may_commit}
-use Rattle.fsb_agent_view.specs.Sound.{IsSound}
-use Rattle.fsb_agent_view.specs.Wanting.{may_send}
-use Rattle.fsb_agent_run.specs.BytesOwed.{HasBytesOwed}
-use Rattle.fsb_agent_run.specs.Owings.{are_owings_apart}
-use Rattle.fsb_agent_run.specs.RunViews.{HasLines, owing_by}
-use Rattle.fsb_agent_run.specs.Stages.{IsViewAfterHit, IsViewAfterSent, IsViewBeforeSnoop, owed_sent}
+use Rattle.fsb_agent_run.proofs.Words
+use Words.{ℕ, ◌+◌, ◌<◌, ◌≡◌, Bool, true, map, Option, Some, None, refl, sym, ap, subst, ◌∙◌, arith, Claim, Owing, Past}
+use Words.{SnoopEnd, begun_at, Run, past_of, owed, is_outstanding, cancelled_in, begun-want, cancels, Reaches}
+use Words.{cancelled-last, last-outstanding, OwnRequest, AgentView, may_give_up, request_numbered, may_commit, IsSound}
+use Words.{may_send, HasBytesOwed, are_owings_apart, HasLines, owing_by, IsViewAfterHit, IsViewAfterSent}
+use Words.{IsViewBeforeSnoop, owed_sent}
 use Rattle.fsb_agent_run.proofs.Among.{Among, among-left}
 use Rattle.fsb_agent_run.proofs.AwaitedFills.{HasFillsOf}
 use Rattle.fsb_agent_run.proofs.BufferCounts.{fill-counted}

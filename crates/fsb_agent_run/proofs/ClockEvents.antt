@@ -1,35 +1,16 @@
 -- The events of an agent at a clock lead from its view as the clock finds it to that of the next clock.
-use Rattle.std.proofs.Common.{ℕ, zero, suc, ◌+◌, ◌<◌, ◌≡◌, ◌⊎◌, Bool, true, false, List, [], ◌∷◌, Option, Some, None}
-use Rattle.std.proofs.Common.{fold, nat_eq, refl, sym, ap, subst, ◌∙◌, inl, inr, arith, append-nil, if◌then◌else◌}
-use Rattle.std.specs.List.{flat_map, list_any}
-use Rattle.std.specs.Option.{option_map_or}
-use Rattle.std.proofs.lemmas.Bool.{cases_Bool, eq-eqb, eqb-true, both_ways}
-use Rattle.std.proofs.lemmas.List.Sums.{fold-append}
-use Rattle.fsb_count.specs.Options.{is_some_and}
-use Rattle.fsb_encode.specs.declared.request.Request.{Request}
-use Rattle.fsb_timely.specs.Past.{Claim, Grant, Past, SnoopEnd}
-use Rattle.fsb_timely.specs.Grants.{begun_at, ended_requests, is_end_at, snooped_at}
-use Rattle.fsb_timely.specs.Runs.{Run, past_of}
-use Rattle.fsb_timely.specs.Scripts.{items_of}
-use Rattle.fsb_timely.specs.Wants.{owed, want_of}
-use Rattle.fsb_trace.specs.Outcome.{is_deferral}
-use Rattle.fsb_trace.specs.declared.outcome.Outcome.{Outcome}
-use Rattle.fsb_trace.specs.declared.outcome.Outcome.TheVariants.{Granted, Handed, Retried, Deferred, Written, Replied}
-use Rattle.fsb_trace.specs.declared.outcome.Outcome.TheVariants.{Failed, Upgraded}
-use Rattle.fsb_coherent.specs.Awaits.{cancelled_in, snoop_end_below}
-use Rattle.fsb_coherent.specs.Fitting.{fits_kind}
-use Rattle.fsb_tied.proofs.Interface.{begun-want, one-at-end}
-use Rattle.fsb_run_laws.specs.Reaches.{Reaches}
-use Rattle.fsb_run_laws.proofs.Interface.{replied-outstanding}
-use Rattle.fsb_agent_view.specs.AgentEvents.{AgentEvent, Arrived, Committed, GivenUp, Sent, UpgradeEnded, agent_after}
-use Rattle.fsb_agent_view.specs.AgentEvents.{first_view}
-use Rattle.fsb_agent_view.specs.AgentViews.{AgentView}
-use Rattle.fsb_agent_run.specs.AgentClocks.{cancelled_events, committed_events, end_events_of, ended_events}
-use Rattle.fsb_agent_run.specs.AgentClocks.{events_of_agent, events_of_agent_below, given_up_events, handed_events}
-use Rattle.fsb_agent_run.specs.AgentClocks.{is_seen_shared, number_asked, own_end_events, replied_events}
-use Rattle.fsb_agent_run.specs.AgentClocks.{reply_end_events, sent_events, snoop_events_of}
-use Rattle.fsb_agent_run.specs.Ending.{EndsFor, number_claimed, number_left, number_replied}
-use Rattle.fsb_agent_run.specs.Stages.{IsViewAfterHit, IsViewAfterSent, IsViewAfterSnoop, IsViewBeforeSnoop, IsViewOf}
+use Rattle.fsb_agent_run.proofs.Words
+use Words.{ℕ, zero, suc, ◌+◌, ◌<◌, ◌≡◌, ◌⊎◌, Bool, true, false, List, [], ◌∷◌, Option, Some, None, fold, nat_eq, refl}
+use Words.{sym, ap, subst, ◌∙◌, inl, inr, arith, append-nil, if◌then◌else◌, flat_map, list_any, option_map_or}
+use Words.{cases_Bool, eq-eqb, eqb-true, both_ways, fold-append, is_some_and, Request, Claim, Grant, Past, SnoopEnd}
+use Words.{begun_at, ended_requests, is_end_at, snooped_at, Run, past_of, items_of, owed, want_of, is_deferral, Outcome}
+use Words.{Granted, Handed, Retried, Deferred, Written, Replied, Failed, Upgraded, cancelled_in, snoop_end_below}
+use Words.{fits_kind, begun-want, one-at-end, Reaches, replied-outstanding, AgentEvent, Arrived, Committed, GivenUp}
+use Words.{Sent, UpgradeEnded, agent_after, first_view, AgentView, cancelled_events, committed_events, end_events_of}
+use Words.{ended_events, events_of_agent, events_of_agent_below, given_up_events, handed_events, is_seen_shared}
+use Words.{number_asked, own_end_events, replied_events, reply_end_events, sent_events, snoop_events_of, EndsFor}
+use Words.{number_claimed, number_left, number_replied, IsViewAfterHit, IsViewAfterSent, IsViewAfterSnoop}
+use Words.{IsViewBeforeSnoop, IsViewOf}
 use Rattle.fsb_agent_run.proofs.Among.{Among}
 use Rattle.fsb_agent_run.proofs.EndEvents.{given-up-view, line-view, upgrade-view}
 use Rattle.fsb_agent_run.proofs.EndFacts.{asked-there, below-says, own-left, replied-left}

@@ -1,36 +1,15 @@
 -- What an agent owes goes on by the events of the agent at a clock.
-use Rattle.std.proofs.Common.{ℕ, zero, suc, ◌+◌, ◌<◌, ◌≡◌, Bool, true, false, if◌then◌else◌, List, [], ◌∷◌, ◌++◌}
-use Rattle.std.proofs.Common.{fold, Option, Some, None, nat_eq, refl, sym, ap, subst, ◌∙◌, add-one, arith}
-use Rattle.std.specs.List.{flat_map}
-use Rattle.std.specs.Option.{option_map_or}
-use Rattle.std.proofs.lemmas.Bool.{eqb-false, eqb-true}
-use Rattle.fsb_count.specs.Options.{is_at}
-use Rattle.fsb_encode.specs.declared.request.Request.{Request}
-use Rattle.fsb_trace.specs.declared.outcome.Outcome.{Outcome}
-use Rattle.fsb_trace.specs.declared.outcome.Outcome.TheVariants.{Granted, Handed, Retried, Deferred, Written, Replied}
-use Rattle.fsb_trace.specs.declared.outcome.Outcome.TheVariants.{Failed, Upgraded}
-use Rattle.fsb_timely.specs.Past.{Claim, Grant, Past, SnoopEnd}
-use Rattle.fsb_timely.specs.Grants.{ended_requests, snooped_at}
-use Rattle.fsb_timely.specs.Runs.{Run, past_of}
-use Rattle.fsb_timely.specs.Scripts.{items_of}
-use Rattle.fsb_timely.specs.Wants.{want_of}
-use Rattle.fsb_coherent.specs.Awaits.{responded_in, snoop_end_below}
-use Rattle.fsb_tied.proofs.Interface.{clock-facts, one-at-end}
-use Rattle.fsb_run_laws.specs.Reaches.{Reaches}
-use Rattle.fsb_agent_view.specs.declared.want.OwnRequest.{OwnRequest}
-use Rattle.fsb_agent_view.specs.AgentEvents.{AgentEvent, Arrived, Committed, GivenUp, HandedOn, Performed}
-use Rattle.fsb_agent_view.specs.AgentEvents.{UpgradeEnded, agent_after, first_view}
-use Rattle.fsb_agent_view.specs.AgentViews.{AgentView}
-use Rattle.fsb_agent_view.specs.Arriving.{given_up, line_arrived, upgrade_ended}
-use Rattle.fsb_agent_view.specs.Completing.{performed}
-use Rattle.fsb_agent_view.specs.OwnRequests.{request_numbered}
-use Rattle.fsb_agent_view.specs.Snooping.{committed, own_settled}
-use Rattle.fsb_agent_run.specs.AgentClocks.{events_of_agent, events_of_agent_below, cancelled_events}
-use Rattle.fsb_agent_run.specs.AgentClocks.{committed_events, end_events_of, ended_events, given_up_events, giver_of}
-use Rattle.fsb_agent_run.specs.AgentClocks.{handed_events, is_seen_shared, number_asked, own_end_events}
-use Rattle.fsb_agent_run.specs.AgentClocks.{replied_events, reply_end_events, sent_events, snoop_events_of}
-use Rattle.fsb_agent_run.specs.BytesOwed.{HasBytesOwed, is_given_below}
-use Rattle.fsb_agent_run.specs.Stages.{IsViewAfterSnoop, IsViewBeforeSnoop, IsViewOf}
+use Rattle.fsb_agent_run.proofs.Words
+use Words.{ℕ, zero, suc, ◌+◌, ◌<◌, ◌≡◌, Bool, true, false, if◌then◌else◌, List, [], ◌∷◌, ◌++◌, fold, Option, Some, None}
+use Words.{nat_eq, refl, sym, ap, subst, ◌∙◌, add-one, arith, flat_map, option_map_or, eqb-false, eqb-true, is_at}
+use Words.{Request, Outcome, Granted, Handed, Retried, Deferred, Written, Replied, Failed, Upgraded, Claim, Grant, Past}
+use Words.{SnoopEnd, ended_requests, snooped_at, Run, past_of, items_of, want_of, responded_in, snoop_end_below}
+use Words.{clock-facts, one-at-end, Reaches, OwnRequest, AgentEvent, Arrived, Committed, GivenUp, HandedOn, Performed}
+use Words.{UpgradeEnded, agent_after, first_view, AgentView, given_up, line_arrived, upgrade_ended, performed}
+use Words.{request_numbered, committed, own_settled, events_of_agent, events_of_agent_below, cancelled_events}
+use Words.{committed_events, end_events_of, ended_events, given_up_events, giver_of, handed_events, is_seen_shared}
+use Words.{number_asked, own_end_events, replied_events, reply_end_events, sent_events, snoop_events_of, HasBytesOwed}
+use Words.{is_given_below, IsViewAfterSnoop, IsViewBeforeSnoop, IsViewOf}
 use Rattle.fsb_agent_run.proofs.BytesHandedOn.{handed-owed, kept-at-response}
 use Rattle.fsb_agent_run.proofs.ClockEvents.{after, cancelled-all, clocks-view, ended-all, handed-all, sent-all}
 use Rattle.fsb_agent_run.proofs.ClockEvents.{snooped-all}

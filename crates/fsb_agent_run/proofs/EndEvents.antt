@@ -1,27 +1,11 @@
 -- The events by which a request of an agent ends.
-use Rattle.std.proofs.Common.{ℕ, ◌+◌, ◌<◌, ◌≡◌, ◌≢◌, ◌⊎◌, false, ◌&&◌, List, Option, Some, None, is_some, refl, sym, ap}
-use Rattle.std.proofs.Common.{subst, ◌∙◌, inl, inr, arith}
-use Rattle.std.specs.Option.{option_map_or}
-use Rattle.fsb_encode.specs.declared.request.Kind.{Kind}
+use Rattle.fsb_agent_run.proofs.Words
+use Words.{ℕ, ◌+◌, ◌<◌, ◌≡◌, ◌≢◌, ◌⊎◌, false, ◌&&◌, List, Option, Some, None, is_some, refl, sym, ap, subst, ◌∙◌, inl}
+use Words.{inr, arith, option_map_or, Kind, kind_owns, Claim, Grant, SnoopEnd, is_upgraded, makes_grant, is_arrival}
+use Words.{Run, past_of, Outcome, Replied, Retried, Upgraded, Written, fits_kind, Reaches, replied-on, OwnRequest}
+use Words.{AgentView, arrived_for, ended_for, given_up, is_arrival_by, line_arrived, upgrade_ended, request_numbered}
+use Words.{kind_asks, EndsFor, IsComing, is_won_below, IsViewAfterSnoop, IsViewOf, is_dirty_snooped, owed_through}
 use Rattle.fsb_encode.specs.declared.request.Kind.TheVariants as kinds
-use Rattle.fsb_line.specs.States.{kind_owns}
-use Rattle.fsb_timely.specs.Past.{Claim, Grant, SnoopEnd}
-use Rattle.fsb_timely.specs.Moments.{is_upgraded, makes_grant}
-use Rattle.fsb_timely.specs.Completions.{is_arrival}
-use Rattle.fsb_timely.specs.Runs.{Run, past_of}
-use Rattle.fsb_trace.specs.declared.outcome.Outcome.{Outcome}
-use Rattle.fsb_trace.specs.declared.outcome.Outcome.TheVariants.{Replied, Retried, Upgraded, Written}
-use Rattle.fsb_coherent.specs.Fitting.{fits_kind}
-use Rattle.fsb_run_laws.specs.Reaches.{Reaches}
-use Rattle.fsb_run_laws.proofs.Interface.{replied-on}
-use Rattle.fsb_agent_view.specs.declared.want.OwnRequest.{OwnRequest}
-use Rattle.fsb_agent_view.specs.AgentViews.{AgentView}
-use Rattle.fsb_agent_view.specs.Arriving.{arrived_for, ended_for, given_up, is_arrival_by, line_arrived, upgrade_ended}
-use Rattle.fsb_agent_view.specs.OwnRequests.{request_numbered}
-use Rattle.fsb_agent_view.specs.Snooping.{kind_asks}
-use Rattle.fsb_agent_run.specs.Ending.{EndsFor}
-use Rattle.fsb_agent_run.specs.RunViews.{IsComing, is_won_below}
-use Rattle.fsb_agent_run.specs.Stages.{IsViewAfterSnoop, IsViewOf, is_dirty_snooped, owed_through}
 use Rattle.fsb_agent_run.proofs.ArrivedViews.{arrived-view}
 use Rattle.fsb_agent_run.proofs.EndFacts.{IsEnded, below-says, ended-comes, ended-out, left-last, left-says}
 use Rattle.fsb_agent_run.proofs.EndViews.{left-view}

@@ -1,38 +1,15 @@
 -- What ends for an agent at a clock: which request of its is not outstanding any more, and what comes.
-use Rattle.std.proofs.Common.{ℕ, ◌+◌, ◌<◌, ◌≤◌, ◌≡◌, ◌⊎◌, Bool, true, false, not, ◌&&◌, ◌||◌, ◌++◌, length, Some}
-use Rattle.std.proofs.Common.{None, nat_eq, refl, sym, ap, subst, ◌∙◌, inl, inr, arith, if◌then◌else◌}
-use Rattle.std.specs.List.{filter}
-use Rattle.std.specs.Option.{option_map}
-use Rattle.std.proofs.lemmas.Bool.{and_from, eq-eqb, eqb-true, false_from_ne_true, ne_eqb, or_cases, or_left}
-use Rattle.std.proofs.lemmas.Bool.{or_right}
-use Rattle.std.proofs.lemmas.List.Elements.{filter-append}
-use Rattle.fsb_count.specs.Options.{is_at, is_some_and}
-use Rattle.fsb_count.proofs.Interface.{first_where-found, is_at-from, is_at-some}
-use Rattle.fsb_encode.specs.declared.request.Kind.{Kind}
-use Rattle.fsb_encode.specs.declared.request.Request.{Request}
-use Rattle.fsb_line.specs.States.{kind_owns}
-use Rattle.fsb_timely.specs.Past.{Claim, Grant, Owing, Past, SnoopEnd}
-use Rattle.fsb_timely.specs.Grants.{begun_at, grant_at, is_end_at, is_granted, is_owning, snooped_at}
-use Rattle.fsb_timely.specs.Growth.{is_last_clock}
-use Rattle.fsb_timely.specs.Moments.{is_snoop_of}
-use Rattle.fsb_timely.specs.Runs.{Run, past_of}
-use Rattle.fsb_timely.specs.Wants.{owed, want_of}
-use Rattle.fsb_trace.specs.Outcome.{is_deferral}
-use Rattle.fsb_coherent.specs.Awaits.{cancelled_in, snoop_end_below}
-use Rattle.fsb_tied.proofs.Interface.{answers-in-order, begun-want, cancels, ended-number, grant-first, one-ends}
-use Rattle.fsb_tied.proofs.Interface.{orderly-whole, same-both, snooped-by}
-use Rattle.fsb_timely.proofs.Interface.{tied-snoop}
-use Rattle.fsb_run_laws.specs.Reaches.{Reaches}
-use Rattle.fsb_run_laws.proofs.Interface.{cancelled-last, ending-serves, ends-last, last-outstanding, last-says}
-use Rattle.fsb_run_laws.proofs.Interface.{snooped-outstanding}
-use Rattle.fsb_agent_view.specs.declared.want.OwnRequest.{OwnRequest}
-use Rattle.fsb_agent_view.specs.AgentViews.{AgentView}
-use Rattle.fsb_agent_view.specs.OwnRequests.{request_numbered}
-use Rattle.fsb_agent_view.specs.Snooping.{kind_asks}
-use Rattle.fsb_agent_run.specs.AgentClocks.{number_asked}
-use Rattle.fsb_agent_run.specs.Ending.{EndsFor, NothingEndsFor, number_claimed, number_left, number_replied}
-use Rattle.fsb_agent_run.specs.RunViews.{HasRequestsOf, IsComing, owing_by}
-use Rattle.fsb_agent_run.specs.Stages.{owings_begun, is_uncancelled, owed_sent, owed_through}
+use Rattle.fsb_agent_run.proofs.Words
+use Words.{ℕ, ◌+◌, ◌<◌, ◌≤◌, ◌≡◌, ◌⊎◌, Bool, true, false, not, ◌&&◌, ◌||◌, ◌++◌, length, Some, None, nat_eq, refl, sym}
+use Words.{ap, subst, ◌∙◌, inl, inr, arith, if◌then◌else◌, filter, option_map, and_from, eq-eqb, eqb-true}
+use Words.{false_from_ne_true, ne_eqb, or_cases, or_left, or_right, filter-append, is_at, is_some_and}
+use Words.{first_where-found, is_at-from, is_at-some, Kind, Request, kind_owns, Claim, Grant, Owing, Past, SnoopEnd}
+use Words.{begun_at, grant_at, is_end_at, is_granted, is_owning, snooped_at, is_last_clock, is_snoop_of, Run, past_of}
+use Words.{owed, want_of, is_deferral, cancelled_in, snoop_end_below, answers-in-order, begun-want, cancels}
+use Words.{ended-number, grant-first, one-ends, orderly-whole, same-both, snooped-by, tied-snoop, Reaches}
+use Words.{cancelled-last, ending-serves, ends-last, last-outstanding, last-says, snooped-outstanding, OwnRequest}
+use Words.{AgentView, request_numbered, kind_asks, number_asked, EndsFor, NothingEndsFor, number_claimed, number_left}
+use Words.{number_replied, HasRequestsOf, IsComing, owing_by, owings_begun, is_uncancelled, owed_sent, owed_through}
 use Rattle.fsb_agent_run.proofs.Among.{Among, among-found, among-left, filter-all, filter-among, filter-same}
 use Rattle.fsb_agent_run.proofs.Among.{filter-two}
 use Rattle.fsb_agent_run.proofs.OtherSnoops.{asked-number, served-out}

@@ -1,35 +1,15 @@
 -- From behind the snoop end of a clock to the next clock, where no line comes to the agent.
-use Rattle.std.proofs.Common.{ℕ, ◌+◌, ◌<◌, ◌≡◌, true, false, not, ◌&&◌, ◌||◌, map, Option, Some, None, nat_eq, refl}
-use Rattle.std.proofs.Common.{sym, ap, subst, ◌∙◌, inl, inr, arith}
-use Rattle.std.specs.List.{filter, list_any}
-use Rattle.std.specs.Option.{option_and_then}
-use Rattle.std.proofs.lemmas.Bool.{and_parts, cases_Bool, eq-eqb, eqb-true, false_from_ne_true}
-use Rattle.fsb_count.specs.Options.{is_some_and}
-use Rattle.fsb_timely.specs.Past.{Claim, Grant, Past, SnoopEnd}
-use Rattle.fsb_timely.specs.Completions.{completes_by, is_arrival, is_brought}
-use Rattle.fsb_timely.specs.Grants.{ended_requests, holds_line, is_end_at, is_exclusive, is_granted, latest_grant}
-use Rattle.fsb_timely.specs.Hits.{is_hit, is_store_on}
-use Rattle.fsb_timely.specs.Runs.{Run, past_of}
-use Rattle.fsb_timely.specs.Scripts.{Need, completes_at, is_done_at}
-use Rattle.fsb_timely.specs.Wants.{owed}
-use Rattle.fsb_timely.proofs.Interface.{is_ended-more}
-use Rattle.fsb_trace.specs.Outcome.{is_deferral}
-use Rattle.fsb_trace.specs.declared.outcome.Outcome.{Outcome}
-use Rattle.fsb_trace.specs.declared.outcome.Outcome.TheVariants.{Deferred}
-use Rattle.fsb_coherent.specs.Awaits.{snoop_end_below}
-use Rattle.fsb_coherent.specs.Fitting.{fits_kind}
-use Rattle.fsb_coherent.specs.Relation.{is_dirty_below}
-use Rattle.fsb_coherent.proofs.Interface.{some-there}
-use Rattle.fsb_lawful.proofs.Interface.{and-then, some-and}
+use Rattle.fsb_agent_run.proofs.Words
+use Words.{ℕ, ◌+◌, ◌<◌, ◌≡◌, true, false, not, ◌&&◌, ◌||◌, map, Option, Some, None, nat_eq, refl, sym, ap, subst, ◌∙◌}
+use Words.{inl, inr, arith, filter, list_any, option_and_then, and_parts, cases_Bool, eq-eqb, eqb-true}
+use Words.{false_from_ne_true, is_some_and, Claim, Grant, Past, SnoopEnd, completes_by, is_arrival, is_brought}
+use Words.{ended_requests, holds_line, is_end_at, is_exclusive, is_granted, latest_grant, is_hit, is_store_on, Run}
+use Words.{past_of, Need, completes_at, is_done_at, owed, is_ended-more, is_deferral, Outcome, Deferred}
+use Words.{snoop_end_below, fits_kind, is_dirty_below, some-there, and-then, some-and, Reaches, brought-told}
+use Words.{ending-serves, snoop-below, AgentView, given_up, EndsFor, NothingEndsFor, HasLinesOf, HasRequestsOf}
+use Words.{IsAgentOf, IsPlacedIn, is_awaited, owing_by, state_told, IsPlacedThrough, IsViewAfterSnoop, IsViewOf}
+use Words.{is_dirty_snooped, owed_through}
 use Rattle.fsb_run_laws.specs.Brought.{brings, is_bringing}
-use Rattle.fsb_run_laws.specs.Reaches.{Reaches}
-use Rattle.fsb_run_laws.proofs.Interface.{brought-told, ending-serves, snoop-below}
-use Rattle.fsb_agent_view.specs.AgentViews.{AgentView}
-use Rattle.fsb_agent_view.specs.Arriving.{given_up}
-use Rattle.fsb_agent_run.specs.Ending.{EndsFor, NothingEndsFor}
-use Rattle.fsb_agent_run.specs.RunViews.{HasLinesOf, HasRequestsOf, IsAgentOf, IsPlacedIn, is_awaited, owing_by}
-use Rattle.fsb_agent_run.specs.RunViews.{state_told}
-use Rattle.fsb_agent_run.specs.Stages.{IsPlacedThrough, IsViewAfterSnoop, IsViewOf, is_dirty_snooped, owed_through}
 use Rattle.fsb_agent_run.proofs.Among.{Among, among-any, any-among}
 use Rattle.fsb_agent_run.proofs.EndFacts.{asked-there, below-says, first-of-grant, grant-there, last-is, made-by}
 use Rattle.fsb_agent_run.proofs.EndFacts.{one-ended, own-left, owed-kept, owed-left, replied-left}

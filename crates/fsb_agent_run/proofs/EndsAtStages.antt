@@ -1,28 +1,12 @@
 -- When an agent may see the ends of its requests, by its record after the snoop end of the clock.
-use Rattle.std.proofs.Common.{ℕ, ◌+◌, ◌<◌, ◌≡◌, ◌≢◌, ◌⊎◌, Bool, true, false, ◌&&◌, ◌||◌, if◌then◌else◌, Some, None}
-use Rattle.std.proofs.Common.{refl, sym, ap, ◌∙◌, inl, inr, arith}
+use Rattle.fsb_agent_run.proofs.Words
+use Words.{ℕ, ◌+◌, ◌<◌, ◌≡◌, ◌≢◌, ◌⊎◌, Bool, true, false, ◌&&◌, ◌||◌, if◌then◌else◌, Some, None, refl, sym, ap, ◌∙◌}
+use Words.{inl, inr, arith, Kind, kind_owns, Outcome, Deferred, Replied, Retried, Upgraded, Written, Claim, Grant}
+use Words.{Owing, Past, SnoopEnd, holds_line, is_end_at, snooped_at, is_got, is_upgraded, makes_grant, Run, past_of}
+use Words.{owed, fits_getting, fits_kind, fits_upgrade, fits_write_back, clock-facts, Reaches, OwnRequest, AgentView}
+use Words.{may_arrive, may_end_upgrade, may_give_up, request_numbered, kind_asks, IsSound, EndsFor, is_won_below}
+use Words.{owing_by, IsViewAfterSnoop, owed_through}
 use Rattle.std.specs.Prelude.{is_some}
-use Rattle.fsb_encode.specs.declared.request.Kind.{Kind}
-use Rattle.fsb_line.specs.States.{kind_owns}
-use Rattle.fsb_trace.specs.declared.outcome.Outcome.{Outcome}
-use Rattle.fsb_trace.specs.declared.outcome.Outcome.TheVariants.{Deferred, Replied, Retried, Upgraded, Written}
-use Rattle.fsb_timely.specs.Past.{Claim, Grant, Owing, Past, SnoopEnd}
-use Rattle.fsb_timely.specs.Grants.{holds_line, is_end_at, snooped_at}
-use Rattle.fsb_timely.specs.Moments.{is_got, is_upgraded, makes_grant}
-use Rattle.fsb_timely.specs.Runs.{Run, past_of}
-use Rattle.fsb_timely.specs.Wants.{owed}
-use Rattle.fsb_coherent.specs.Fitting.{fits_getting, fits_kind, fits_upgrade, fits_write_back}
-use Rattle.fsb_tied.proofs.Interface.{clock-facts}
-use Rattle.fsb_run_laws.specs.Reaches.{Reaches}
-use Rattle.fsb_agent_view.specs.declared.want.OwnRequest.{OwnRequest}
-use Rattle.fsb_agent_view.specs.AgentViews.{AgentView}
-use Rattle.fsb_agent_view.specs.Arriving.{may_arrive, may_end_upgrade, may_give_up}
-use Rattle.fsb_agent_view.specs.OwnRequests.{request_numbered}
-use Rattle.fsb_agent_view.specs.Snooping.{kind_asks}
-use Rattle.fsb_agent_view.specs.Sound.{IsSound}
-use Rattle.fsb_agent_run.specs.Ending.{EndsFor}
-use Rattle.fsb_agent_run.specs.RunViews.{is_won_below, owing_by}
-use Rattle.fsb_agent_run.specs.Stages.{IsViewAfterSnoop, owed_through}
 use Rattle.fsb_agent_run.proofs.EndFacts.{IsEnded, IsLast, below-says, ended-grant, ended-out, left-last, left-says}
 use Rattle.fsb_agent_run.proofs.FewOwed.{within}
 use Rattle.fsb_agent_run.proofs.MayCalls.{arrives-may, given-up-may, upgrade-may}

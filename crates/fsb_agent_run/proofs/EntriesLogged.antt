@@ -1,28 +1,12 @@
 -- The entries of a view's hit and arrival log the accesses that the run completes for its agent.
-use Rattle.std.proofs.Common.{ℕ, ◌+◌, ◌≡◌, Bool, true, false, List, [], ◌∷◌, map, Option, Some, None, is_some, nat_eq}
-use Rattle.std.proofs.Common.{refl, sym, ap, subst, ◌∙◌, arith}
-use Rattle.std.specs.List.{list_all}
-use Rattle.std.specs.Option.{option_map_or}
-use Rattle.fsb_access.specs.declared.item.Item.{Item}
-use Rattle.fsb_access.specs.declared.log.Done.{Done}
-use Rattle.fsb_access.specs.ScriptOrder.{Step, steps_of_item}
-use Rattle.fsb_timely.specs.Completions.{Completed, completed_if, completed_of_item, is_arrival, next_accesses}
-use Rattle.fsb_timely.specs.Hits.{is_hit}
-use Rattle.fsb_timely.specs.Past.{Grant, Past, SnoopEnd}
-use Rattle.fsb_timely.specs.Runs.{Run, past_of}
-use Rattle.fsb_timely.specs.Scripts.{items_of, next_item, next_number}
-use Rattle.fsb_trace.specs.declared.outcome.Outcome.TheVariants.{Upgraded}
-use Rattle.fsb_run_laws.specs.Reaches.{Reaches}
-use Rattle.fsb_agent_view.specs.declared.want.OwnRequest.{OwnRequest}
-use Rattle.fsb_agent_view.specs.AgentViews.{AgentView}
-use Rattle.fsb_agent_view.specs.Arriving.{arrived_entries, ended_entries_for, is_arrival_by, met_entries}
-use Rattle.fsb_agent_view.specs.Arriving.{upgrade_entries, with_bytes}
-use Rattle.fsb_agent_view.specs.Completing.{completed_entries, is_hit_by, performed_entries, steps_at}
-use Rattle.fsb_agent_view.specs.Serving.{AtHand, entries_at_hand, hand_after}
-use Rattle.fsb_agent_run.specs.Ending.{EndsFor}
-use Rattle.fsb_agent_run.specs.EntriesMade.{LogsAccesses, logged_access}
-use Rattle.fsb_agent_run.specs.RunViews.{place_of}
-use Rattle.fsb_agent_run.specs.Stages.{IsViewAfterSnoop, IsViewOf}
+use Rattle.fsb_agent_run.proofs.Words
+use Words.{ℕ, ◌+◌, ◌≡◌, Bool, true, false, List, [], ◌∷◌, map, Option, Some, None, is_some, nat_eq, refl, sym, ap}
+use Words.{subst, ◌∙◌, arith, list_all, option_map_or, Item, Done, Step, steps_of_item, Completed, completed_if}
+use Words.{completed_of_item, is_arrival, next_accesses, is_hit, Grant, Past, SnoopEnd, Run, past_of, items_of}
+use Words.{next_item, next_number, Upgraded, Reaches, OwnRequest, AgentView, arrived_entries, ended_entries_for}
+use Words.{is_arrival_by, met_entries, upgrade_entries, with_bytes, completed_entries, is_hit_by, performed_entries}
+use Words.{steps_at, AtHand, entries_at_hand, hand_after, EndsFor, LogsAccesses, logged_access, place_of}
+use Words.{IsViewAfterSnoop, IsViewOf}
 use Rattle.fsb_agent_run.proofs.ArrivedViews.{arrival-unhit}
 use Rattle.fsb_agent_run.proofs.EndEvents.{arrives-by, ended-here, kept-made}
 use Rattle.fsb_agent_run.proofs.EndViews.{ungranted-arrival}

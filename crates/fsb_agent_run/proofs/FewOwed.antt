@@ -1,35 +1,19 @@
 -- A request that has its snoop end, and no response yet, is in flight: so there are eight of them at most.
-use Rattle.std.proofs.Common.{ℕ, zero, suc, ◌+◌, ◌<◌, ◌≤◌, ◌≡◌, Bool, true, false, not, ◌&&◌, Some, length, refl, sym}
-use Rattle.std.proofs.Common.{ap, subst, ◌∙◌, inl, inr, arith}
-use Rattle.std.specs.Option.{option_map_or}
-use Rattle.std.proofs.lemmas.Bool.{and_parts, both_ways, cases_Bool, cases_eq, cases_lt, false_from_ne_true, le-ltb}
-use Rattle.std.proofs.lemmas.Bool.{lt-ltb, not-true}
-use Rattle.fsb_count.specs.Clocks.{count_where}
-use Rattle.fsb_count.specs.Options.{is_at, is_before, is_some_and}
-use Rattle.fsb_count.proofs.Interface.{any_where-at, any_where-found, any_where-none, any_where-off}
-use Rattle.fsb_count.proofs.Interface.{count_where-above, count_where-passed, is_at-from, is_before-parts}
-use Rattle.fsb_count.proofs.Interface.{length-all_where}
-use Rattle.fsb_signal.specs.declared.lines.TheConstants.Lines.{ADS, AERR}
-use Rattle.fsb_signal.specs.Samples.{line_at}
+use Rattle.fsb_agent_run.proofs.Words
+use Words.{ℕ, zero, suc, ◌+◌, ◌<◌, ◌≤◌, ◌≡◌, Bool, true, false, not, ◌&&◌, Some, length, refl, sym, ap, subst, ◌∙◌, inl}
+use Words.{inr, arith, option_map_or, and_parts, both_ways, cases_Bool, cases_eq, cases_lt, false_from_ne_true, le-ltb}
+use Words.{lt-ltb, not-true, count_where, is_at, is_before, is_some_and, any_where-at, any_where-found, any_where-none}
+use Words.{any_where-off, count_where-above, count_where-passed, is_at-from, is_before-parts, length-all_where, ADS}
+use Words.{AERR, line_at, has_ended, in_flight, is_dropped, is_in_flight, is_cancelled, is_live, live_clock_of}
+use Words.{live_number_of, is_end_at, is_ended, snooped_at, Claim, Past, SnoopEnd, Run, past_of, run_to, Timely}
+use Words.{holds_at, holds_in, tied-snoop, KeepsBounds, length-cut, run_to-agrees, some-and, responded_in}
+use Words.{is_responded_below, answers-in-order, end-below, live-at, claim_given_at, owes_bytes_from}
 use Rattle.fsb_trace.specs.At.{Trace}
-use Rattle.fsb_trace.specs.Flight.{has_ended, in_flight, is_dropped, is_in_flight}
-use Rattle.fsb_trace.specs.Requests.{is_cancelled, is_live, live_clock_of, live_number_of}
 use Rattle.fsb_trace.specs.Response.{end_of}
 use Rattle.fsb_trace.specs.Snoop.{snoop_end_of}
 use Rattle.fsb_trace.proofs.Interface.{line_at-agree, live_clock_of-number, live_clock_of-rises, snoop_end_of-clock}
 use Rattle.fsb_trace.proofs.Interface.{snoop_end_of-rises}
-use Rattle.fsb_timely.specs.Grants.{is_end_at, is_ended, snooped_at}
-use Rattle.fsb_timely.specs.Past.{Claim, Past, SnoopEnd}
-use Rattle.fsb_timely.specs.Runs.{Run, past_of, run_to}
 use Rattle.fsb_timely.specs.Starts.{drives_ads, has_room, may_begin, starts_requests}
-use Rattle.fsb_timely.specs.Timely.{Timely, holds_at, holds_in}
-use Rattle.fsb_timely.proofs.Interface.{tied-snoop}
-use Rattle.fsb_lawful.specs.Beginning.{KeepsBounds}
-use Rattle.fsb_lawful.proofs.Interface.{length-cut, run_to-agrees, some-and}
-use Rattle.fsb_coherent.specs.Awaits.{responded_in}
-use Rattle.fsb_coherent.specs.Relation.{is_responded_below}
-use Rattle.fsb_tied.proofs.Interface.{answers-in-order, end-below, live-at}
-use Rattle.fsb_agent_run.specs.BytesOwed.{claim_given_at, owes_bytes_from}
 use Rattle.fsb_agent_run.proofs.GivenBytes.{given, unresponded}
 
 -- where a request begins there is room for it

@@ -1,14 +1,8 @@
 -- How many fills a line has when one is added, promised or ended.
-use Rattle.std.proofs.Common.{ℕ, ◌+◌, ◌≡◌, ◌≢◌, Bool, true, false, cond, not, List, [], ◌∷◌, ◌++◌, refl, sym, ap, ◌∙◌}
-use Rattle.std.proofs.Common.{inl, inr, arith, zero-add}
-use Rattle.std.specs.Prelude.{◌==◌, count_by, is_none}
-use Rattle.std.specs.List.{find}
-use Rattle.std.proofs.lemmas.Bool.{cases_Bool, eqb-true, ne_eqb}
-use Rattle.std.proofs.lemmas.List.Sums.{sum_by-cons}
-use Rattle.fsb_linebuf.specs.declared.entry.Fill.{Fill}
-use Rattle.fsb_linebuf.specs.Buffers.{fills_without, is_fill_on, promised_to, with_promise}
-use Rattle.fsb_agent_view.proofs.Interface.{without_first-cons}
-use Rattle.fsb_agent_run.specs.RunViews.{one_if}
+use Rattle.fsb_agent_run.proofs.Words
+use Words.{ℕ, ◌+◌, ◌≡◌, ◌≢◌, Bool, true, false, cond, not, List, [], ◌∷◌, ◌++◌, refl, sym, ap, ◌∙◌, inl, inr, arith}
+use Words.{zero-add, ◌==◌, count_by, is_none, find, cases_Bool, eqb-true, ne_eqb, sum_by-cons, Fill, fills_without}
+use Words.{is_fill_on, promised_to, with_promise, without_first-cons, one_if}
 
 abbrev pub count_on : ℕ → List Fill → ℕ
 count_on line fills = count_by (is_fill_on line) fills

@@ -1,19 +1,11 @@
 -- Fills of an agent's buffers, and what a sound agent tells by them of its requests and lines.
-use Rattle.std.proofs.Common.{ℕ, ◌+◌, ◌≡◌, ◌≢◌, Bool, true, cond, Some, None, List, [], ◌∷◌, ◌++◌, refl, sym, ap, ◌∙◌}
-use Rattle.std.proofs.Common.{inl, inr, arith}
-use Rattle.std.specs.Prelude.{◌==◌, ◌||◌, count_by, is_none, is_some}
+use Rattle.fsb_agent_run.proofs.Words
+use Words.{ℕ, ◌+◌, ◌≡◌, ◌≢◌, Bool, true, cond, Some, None, List, [], ◌∷◌, ◌++◌, refl, sym, ap, ◌∙◌, inl, inr, arith}
+use Words.{◌==◌, count_by, is_none, find, cases_Bool, eqb-true, sum_by-cons, slot_of, Fill, fill_on, fills_without}
+use Words.{is_fill_on, promise_on, OwnRequest, AgentView, is_numbered, request_numbered, IsSound, is_only}
+use Words.{is_sound_request, both_left, both_right, list_all-found, without_first-cons}
+use Rattle.std.specs.Prelude.{◌||◌, is_some}
 use Rattle.std.specs.Bool.{beq}
-use Rattle.std.specs.List.{find}
-use Rattle.std.proofs.lemmas.Bool.{cases_Bool, eqb-true}
-use Rattle.std.proofs.lemmas.List.Sums.{sum_by-cons}
-use Rattle.fsb_cache.specs.Sets.{slot_of}
-use Rattle.fsb_linebuf.specs.declared.entry.Fill.{Fill}
-use Rattle.fsb_linebuf.specs.Buffers.{fill_on, fills_without, is_fill_on, promise_on}
-use Rattle.fsb_agent_view.specs.declared.want.OwnRequest.{OwnRequest}
-use Rattle.fsb_agent_view.specs.AgentViews.{AgentView}
-use Rattle.fsb_agent_view.specs.OwnRequests.{is_numbered, request_numbered}
-use Rattle.fsb_agent_view.specs.Sound.{IsSound, is_only, is_sound_request}
-use Rattle.fsb_agent_view.proofs.Interface.{both_left, both_right, list_all-found, without_first-cons}
 
 -- the fill of another line when one has ended
 pub fill_on-without : (line other : ℕ) (fills : List Fill) → line ≢ other

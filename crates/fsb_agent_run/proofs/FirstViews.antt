@@ -1,26 +1,12 @@
 -- The view of an agent before any event is that of the run at its first clock.
-use Rattle.std.proofs.Common.{ℕ, zero, suc, ◌+◌, ◌≡◌, Bool, false, not, ◌&&◌, List, [], ◌∷◌, Option, None, replicate}
-use Rattle.std.proofs.Common.{get_or, nat_eq, ◌%◌, length, refl, sym, ap, ◌∙◌, arith}
-use Rattle.std.specs.List.{list_any, slice_get}
-use Rattle.std.specs.Option.{option_map, option_map_or}
-use Rattle.std.proofs.lemmas.List.{length-replicate}
-use Rattle.fsb_count.specs.Clocks.{holds_since, last_where}
-use Rattle.fsb_count.specs.Options.{is_some_and}
-use Rattle.fsb_access.specs.declared.log.Done.{Done}
-use Rattle.fsb_cache.specs.declared.held.Held.{Held}
-use Rattle.fsb_cache.specs.Sets.{held_at, states}
-use Rattle.fsb_line.specs.declared.state.Mesi.TheVariants.{Invalid}
-use Rattle.fsb_timely.specs.Past.{Past}
-use Rattle.fsb_timely.specs.Grants.{holds_line, is_exclusive, latest_grant}
-use Rattle.fsb_timely.specs.Scripts.{idle_clocks, idle_start, is_done_by, is_idle, is_logged, is_to_do, items_of}
-use Rattle.fsb_timely.specs.Scripts.{last_done, next_number, number_after}
-use Rattle.fsb_timely.specs.Wants.{outstanding_at, owed}
-use Rattle.fsb_coherent.specs.Relation.{is_dirty_below}
-use Rattle.fsb_agent_view.specs.AgentEvents.{first_view}
-use Rattle.fsb_agent_view.specs.AgentViews.{AgentView, line_state_by}
-use Rattle.fsb_agent_view.specs.Idling.{idle_from, place_from}
-use Rattle.fsb_agent_run.specs.RunViews.{finished_by, idle_end, is_awaited, one_if, place_of, state_told}
-use Rattle.fsb_agent_run.specs.Stages.{IsViewOf}
+use Rattle.fsb_agent_run.proofs.Words
+use Words.{ℕ, zero, suc, ◌+◌, ◌≡◌, Bool, false, not, ◌&&◌, List, [], ◌∷◌, Option, None, replicate, get_or, nat_eq, ◌%◌}
+use Words.{length, refl, sym, ap, ◌∙◌, arith, list_any, option_map, option_map_or, length-replicate, holds_since}
+use Words.{last_where, is_some_and, Done, Held, held_at, states, Invalid, Past, holds_line, is_exclusive, latest_grant}
+use Words.{idle_clocks, idle_start, is_done_by, is_idle, is_logged, is_to_do, items_of, last_done, next_number}
+use Words.{number_after, outstanding_at, owed, is_dirty_below, first_view, AgentView, line_state_by, idle_from}
+use Words.{place_from, finished_by, idle_end, is_awaited, one_if, place_of, state_told, IsViewOf}
+use Rattle.std.specs.List.{slice_get}
 use Rattle.fsb_agent_run.proofs.IdleItems.{idles-from, next-from}
 use Rattle.fsb_agent_run.proofs.Places.{done-before}
 

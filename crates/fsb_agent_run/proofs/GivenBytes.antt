@@ -1,27 +1,13 @@
 -- The requests whose bytes an agent gives in a timely run.
-use Rattle.std.proofs.Common.{ℕ, ◌+◌, ◌<◌, ◌≤◌, ◌≡◌, ◌≢◌, ◌⊎◌, Bool, true, false, ◌&&◌, ◌||◌, if◌then◌else◌, Some}
-use Rattle.std.proofs.Common.{None, length, nat_eq, refl, sym, ap, ◌∙◌, arith}
-use Rattle.std.proofs.lemmas.Bool.{eqb-true, false_from_ne_true}
-use Rattle.fsb_count.specs.Options.{is_at, is_some_and}
-use Rattle.fsb_count.proofs.Interface.{any_where-off, first_where-found, is_at-some}
-use Rattle.fsb_encode.specs.declared.request.Kind.{Kind}
-use Rattle.fsb_encode.specs.declared.request.Kind.TheVariants.{WriteBack}
-use Rattle.fsb_trace.specs.declared.outcome.Outcome.{Outcome}
-use Rattle.fsb_trace.specs.declared.outcome.Outcome.TheVariants.{Handed, Written}
-use Rattle.fsb_timely.specs.Past.{Claim, Grant, Past, SnoopEnd}
-use Rattle.fsb_timely.specs.Grants.{begun_at, is_granted, snooped_at}
-use Rattle.fsb_timely.specs.Hits.{is_dirty}
-use Rattle.fsb_timely.specs.Moments.{is_got, is_upgraded, makes_grant}
-use Rattle.fsb_timely.specs.Runs.{Run, past_of, past_to}
-use Rattle.fsb_timely.specs.Timely.{Timely}
-use Rattle.fsb_lawful.specs.Beginning.{KeepsBounds}
-use Rattle.fsb_lawful.proofs.Interface.{some-and}
-use Rattle.fsb_coherent.specs.Awaits.{owner_at, responded_in}
+use Rattle.fsb_agent_run.proofs.Words
+use Words.{ℕ, ◌+◌, ◌<◌, ◌≤◌, ◌≡◌, ◌≢◌, ◌⊎◌, Bool, true, false, ◌&&◌, ◌||◌, if◌then◌else◌, Some, None, length, nat_eq}
+use Words.{refl, sym, ap, ◌∙◌, arith, eqb-true, false_from_ne_true, is_at, is_some_and, any_where-off}
+use Words.{first_where-found, is_at-some, Kind, WriteBack, Outcome, Handed, Written, Claim, Grant, Past, SnoopEnd}
+use Words.{begun_at, is_granted, snooped_at, is_dirty, is_got, is_upgraded, makes_grant, Run, past_of, past_to, Timely}
+use Words.{KeepsBounds, some-and, owner_at, responded_in, IsSnoopOn, fits_getting, fits_kind, fits_upgrade}
+use Words.{fits_write_back, giver_at, is_responded_below, answers-in-order, clock-facts, granted-parts, claim_given_at}
+use Words.{claim_given_by, gives_claim, is_given_below}
 use Rattle.fsb_coherent.specs.Facts.{IsSettledOn}
-use Rattle.fsb_coherent.specs.Fitting.{IsSnoopOn, fits_getting, fits_kind, fits_upgrade, fits_write_back}
-use Rattle.fsb_coherent.specs.Relation.{giver_at, is_responded_below}
-use Rattle.fsb_tied.proofs.Interface.{answers-in-order, clock-facts, granted-parts}
-use Rattle.fsb_agent_run.specs.BytesOwed.{claim_given_at, claim_given_by, gives_claim, is_given_below}
 
 -- how an agent gives bytes by a snoop end: it hands its line over to another, being dirty on it, or writes it back
 pub record GivesBy (p : Past) (a t : ℕ) (s : SnoopEnd) (claim : Claim) : Type 0 where

@@ -1,31 +1,14 @@
 -- An agent gives the bytes of the request that responds exactly where it is named as the giver of what is
 -- awaited after the request's snoop end.
-use Rattle.std.proofs.Common.{ℕ, ◌+◌, ◌<◌, ◌≤◌, ◌≡◌, Bool, true, false, ◌&&◌, ◌||◌, if◌then◌else◌, Option, Some, None}
-use Rattle.std.proofs.Common.{length, nat_eq, refl, sym, ap, subst, ◌∙◌, arith}
-use Rattle.std.specs.Option.{option_and_then}
-use Rattle.std.proofs.lemmas.Bool.{both_ways, eqb-true, false_from_ne_true}
-use Rattle.fsb_count.specs.Clocks.{first_where}
-use Rattle.fsb_count.specs.Options.{is_at, is_some_and}
-use Rattle.fsb_count.proofs.Interface.{any_where-at, any_where-off, first_where-at}
-use Rattle.fsb_encode.specs.declared.request.Kind.{Kind}
-use Rattle.fsb_trace.specs.declared.outcome.Outcome.{Outcome}
-use Rattle.fsb_trace.specs.declared.outcome.Outcome.TheVariants.{Granted, Handed, Retried, Deferred, Written, Replied}
-use Rattle.fsb_trace.specs.declared.outcome.Outcome.TheVariants.{Failed, Upgraded}
-use Rattle.fsb_timely.specs.Past.{Claim, Grant, Past, SnoopEnd}
-use Rattle.fsb_timely.specs.Grants.{snooped_at}
-use Rattle.fsb_timely.specs.Moments.{is_got, is_snoop_of, is_upgraded, makes_grant}
-use Rattle.fsb_timely.specs.Runs.{Run, past_of}
-use Rattle.fsb_timely.specs.Timely.{Timely}
-use Rattle.fsb_lawful.specs.Beginning.{KeepsBounds}
-use Rattle.fsb_lawful.proofs.Interface.{some-and}
-use Rattle.fsb_coherent.specs.Awaits.{Awaited, awaited_by, awaited_by_claim, awaited_by_grant, is_written}
-use Rattle.fsb_coherent.specs.Awaits.{responded_in}
-use Rattle.fsb_coherent.specs.Fitting.{fits_kind, fits_write_back}
-use Rattle.fsb_coherent.specs.Relation.{giver_at}
-use Rattle.fsb_tied.proofs.Interface.{answers-in-order, awaits-grant, clock-facts, is-found, none-before, uncontested}
-use Rattle.fsb_tied.proofs.Interface.{writes-back-alone}
-use Rattle.fsb_agent_run.specs.AgentClocks.{giver_after_snoop, giver_of}
-use Rattle.fsb_agent_run.specs.BytesOwed.{claim_given_at, gives_claim, is_given_below}
+use Rattle.fsb_agent_run.proofs.Words
+use Words.{ℕ, ◌+◌, ◌<◌, ◌≤◌, ◌≡◌, Bool, true, false, ◌&&◌, ◌||◌, if◌then◌else◌, Option, Some, None, length, nat_eq}
+use Words.{refl, sym, ap, subst, ◌∙◌, arith, option_and_then, both_ways, eqb-true, false_from_ne_true, first_where}
+use Words.{is_at, is_some_and, any_where-at, any_where-off, first_where-at, Kind, Outcome, Granted, Handed, Retried}
+use Words.{Deferred, Written, Replied, Failed, Upgraded, Claim, Grant, Past, SnoopEnd, snooped_at, is_got, is_snoop_of}
+use Words.{is_upgraded, makes_grant, Run, past_of, Timely, KeepsBounds, some-and, Awaited, awaited_by, awaited_by_claim}
+use Words.{awaited_by_grant, is_written, responded_in, fits_kind, fits_write_back, giver_at, answers-in-order}
+use Words.{awaits-grant, clock-facts, is-found, none-before, uncontested, writes-back-alone, giver_after_snoop}
+use Words.{giver_of, claim_given_at, gives_claim, is_given_below}
 use Rattle.fsb_agent_run.proofs.GivenBytes.{claim-given, given, none-claimed, same-first, written-ungranted}
 
 -- after a snoop end by which nobody gives bytes nobody is named

@@ -1,23 +1,11 @@
 -- A line is granted only to who awaits no earlier grant of it; so an end that comes is that of the latest grant.
-use Rattle.std.proofs.Common.{ℕ, zero, suc, ◌+◌, ◌<◌, ◌≤◌, ◌≡◌, Bool, true, false, ◌||◌, List, [], ◌∷◌, ◌++◌, Option}
-use Rattle.std.proofs.Common.{Some, None, refl, sym, ap, subst, ◌∙◌, inl, inr, arith, if◌then◌else◌}
-use Rattle.std.specs.Prelude.{◌==◌}
-use Rattle.std.specs.Option.{option_and_then}
-use Rattle.std.proofs.lemmas.Bool.{both_ways, cases_lt}
-use Rattle.fsb_count.proofs.Interface.{any_where-found}
-use Rattle.fsb_line.specs.declared.link.Link.{Link}
-use Rattle.fsb_line.specs.Links.{is_linked}
-use Rattle.fsb_timely.specs.Past.{Claim, Grant, Past, SnoopEnd}
-use Rattle.fsb_timely.specs.Grants.{grant_at, is_end_at, is_ended, is_granted, latest_grant, snooped_at}
-use Rattle.fsb_timely.specs.Runs.{Run, past_of}
-use Rattle.fsb_timely.proofs.Interface.{last_where-found, last_where-from}
-use Rattle.fsb_coherent.specs.Awaits.{Awaited, awaited_by, awaited_by_grant}
-use Rattle.fsb_coherent.specs.Relation.{chain_below, link_for, link_left, links_left}
-use Rattle.fsb_coherent.proofs.Interface.{some-there}
-use Rattle.fsb_tied.proofs.Interface.{awaits-grant, clock-facts, ended-number, events-may-happen, grant-first}
-use Rattle.fsb_tied.proofs.Interface.{granted-parts, live-at}
-use Rattle.fsb_run_laws.specs.Reaches.{Reaches}
-use Rattle.fsb_agent_run.specs.RunViews.{is_awaited}
+use Rattle.fsb_agent_run.proofs.Words
+use Words.{ℕ, zero, suc, ◌+◌, ◌<◌, ◌≤◌, ◌≡◌, Bool, true, false, ◌||◌, List, [], ◌∷◌, ◌++◌, Option, Some, None, refl}
+use Words.{sym, ap, subst, ◌∙◌, inl, inr, arith, if◌then◌else◌, ◌==◌, option_and_then, both_ways, cases_lt}
+use Words.{any_where-found, Link, is_linked, Claim, Grant, Past, SnoopEnd, grant_at, is_end_at, is_ended, is_granted}
+use Words.{latest_grant, snooped_at, Run, past_of, last_where-found, last_where-from, Awaited, awaited_by}
+use Words.{awaited_by_grant, chain_below, link_for, link_left, links_left, some-there, awaits-grant, clock-facts}
+use Words.{ended-number, events-may-happen, grant-first, granted-parts, live-at, Reaches, is_awaited}
 
 linked-append : (a : ℕ) (xs ys : List Link) → is_linked a (xs ++ ys) ≡ (is_linked a xs || is_linked a ys)
 linked-append a [] ys = refl

@@ -1,27 +1,13 @@
 -- What an agent owes stays as it is where the run grows by a clock.
-use Rattle.std.proofs.Common.{ℕ, zero, suc, ◌+◌, ◌<◌, ◌≤◌, ◌≡◌, Bool, false, if◌then◌else◌, nat_eq, List, [], ◌∷◌}
-use Rattle.std.proofs.Common.{take, slice_get, length, Option, refl, sym, ap, ◌∙◌, arith}
-use Rattle.std.proofs.lemmas.Bool.{eqb-true, false_from_ne_true}
-use Rattle.std.specs.Option.{option_and_then}
-use Rattle.fsb_count.specs.Clocks.{from_clock, last_where}
-use Rattle.fsb_count.specs.Options.{is_some_and}
-use Rattle.fsb_count.proofs.Interface.{any_where-off, any_where-same, count_where-same}
-use Rattle.fsb_timely.specs.Grants.{begun_at, ended_requests, grant_at, is_end_at, is_ended, is_granted, latest_grant}
-use Rattle.fsb_timely.specs.Grants.{snooped_at}
-use Rattle.fsb_timely.specs.Growth.{GrowsTo, IsWhole}
-use Rattle.fsb_timely.specs.Past.{Claim, Moment, Past, SnoopEnd}
-use Rattle.fsb_timely.specs.Runs.{Run, past_of, past_to}
-use Rattle.fsb_timely.proofs.Interface.{last-same, last_where-found, past-same, tied-snoop}
-use Rattle.fsb_lawful.proofs.Interface.{some-and}
-use Rattle.fsb_coherent.specs.Awaits.{responded_in}
-use Rattle.fsb_coherent.specs.Relation.{giver_at, is_responded_below}
-use Rattle.fsb_tied.proofs.Interface.{snooped-by}
-use Rattle.fsb_run_laws.specs.Reaches.{Reaches}
-use Rattle.fsb_agent_view.specs.AgentViews.{AgentView}
-use Rattle.fsb_agent_run.specs.BytesOwed.{HasBytesOwed, claim_given_at, claim_given_by, given_since, gives_claim}
-use Rattle.fsb_agent_run.specs.BytesOwed.{gives_line_at, is_given_below, is_promised, is_pushed, owes_bytes_from}
-use Rattle.fsb_agent_run.specs.BytesOwed.{promise_told}
-use Rattle.fsb_agent_run.specs.RunViews.{is_awaited}
+use Rattle.fsb_agent_run.proofs.Words
+use Words.{ℕ, zero, suc, ◌+◌, ◌<◌, ◌≤◌, ◌≡◌, Bool, false, if◌then◌else◌, nat_eq, List, [], ◌∷◌, take, slice_get, length}
+use Words.{Option, refl, sym, ap, ◌∙◌, arith, eqb-true, false_from_ne_true, option_and_then, from_clock, last_where}
+use Words.{is_some_and, any_where-off, any_where-same, count_where-same, begun_at, ended_requests, grant_at, is_end_at}
+use Words.{is_ended, is_granted, latest_grant, snooped_at, GrowsTo, IsWhole, Claim, Moment, Past, SnoopEnd, Run}
+use Words.{past_of, past_to, last-same, last_where-found, past-same, tied-snoop, some-and, responded_in, giver_at}
+use Words.{is_responded_below, snooped-by, Reaches, AgentView, HasBytesOwed, claim_given_at, claim_given_by}
+use Words.{given_since, gives_claim, gives_line_at, is_given_below, is_promised, is_pushed, owes_bytes_from}
+use Words.{promise_told, is_awaited}
 use Rattle.fsb_agent_run.proofs.GivenBytes.{given}
 
 -- two pasts have the same moments below n, and are the same up to each clock below n

@@ -1,21 +1,10 @@
 -- The lines of a cache after the accesses of an item: what is stored into is Modified, and all else stays.
-use Rattle.std.proofs.Common.{ℕ, ◌≡◌, ◌/◌, Bool, true, not, ◌&&◌, ◌||◌, List, [], ◌∷◌, length, refl, sym, ap, ◌∙◌}
-use Rattle.std.proofs.Common.{if◌then◌else◌, nat_eq, arith}
-use Rattle.std.specs.Prelude.{◌==◌}
-use Rattle.std.specs.List.{list_all, list_any}
-use Rattle.std.proofs.lemmas.Bool.{and_parts}
-use Rattle.fsb_access.specs.declared.access.Access.{Access}
+use Rattle.fsb_agent_run.proofs.Words
+use Words.{ℕ, ◌≡◌, ◌/◌, Bool, true, not, ◌&&◌, ◌||◌, List, [], ◌∷◌, length, refl, sym, ap, ◌∙◌, if◌then◌else◌, nat_eq}
+use Words.{arith, ◌==◌, list_all, list_any, and_parts, Access, accessed_line, Step, CacheSets, states, Mesi, Modified}
+use Words.{is_held, is_load, AtHand, hand_after, hand_after_steps, length-with_slot, list_all-from}
 use Rattle.fsb_access.specs.declared.access.Access.TheVariants.{Load, Store}
-use Rattle.fsb_access.specs.Access.{accessed_line}
 use Rattle.fsb_access.specs.Replay.{put_of}
-use Rattle.fsb_access.specs.ScriptOrder.{Step}
-use Rattle.fsb_cache.specs.Sets.{CacheSets, states}
-use Rattle.fsb_line.specs.declared.state.Mesi.{Mesi}
-use Rattle.fsb_line.specs.declared.state.Mesi.TheVariants.{Modified}
-use Rattle.fsb_line.specs.States.{is_held}
-use Rattle.fsb_timely.specs.Scripts.{is_load}
-use Rattle.fsb_agent_view.specs.Serving.{AtHand, hand_after, hand_after_steps}
-use Rattle.fsb_agent_view.proofs.Interface.{length-with_slot, list_all-from}
 use Rattle.fsb_agent_run.proofs.SlotStates.{InSets, in_sets-mapped, state-stored}
 
 -- the access is a store into the line

@@ -1,31 +1,11 @@
 -- After its hit, if it has one, a view is that after the hits.
-use Rattle.std.proofs.Common.{ℕ, ◌+◌, ◌<◌, ◌≡◌, Bool, true, false, ◌&&◌, ◌||◌, Some, sym, ap, subst, ◌∙◌, inl, inr}
-use Rattle.std.proofs.Common.{arith}
-use Rattle.std.specs.List.{list_all, list_any}
-use Rattle.std.proofs.lemmas.Bool.{both_ways, cases_Bool, or_right}
-use Rattle.fsb_access.specs.declared.access.Access.{Access}
-use Rattle.fsb_access.specs.declared.item.Item.{Item}
-use Rattle.fsb_access.specs.Access.{accessed_line}
-use Rattle.fsb_access.specs.ScriptOrder.{Step, steps_of_item}
-use Rattle.fsb_cache.specs.Sets.{states}
-use Rattle.fsb_line.specs.declared.state.Mesi.{Mesi}
-use Rattle.fsb_line.specs.declared.state.Mesi.TheVariants.{Modified}
-use Rattle.fsb_line.specs.States.{is_held}
-use Rattle.fsb_count.specs.Options.{is_some_and}
-use Rattle.fsb_timely.specs.Past.{Past}
-use Rattle.fsb_timely.specs.Grants.{has_arrived, holds_line, is_exclusive}
-use Rattle.fsb_timely.specs.Hits.{is_dirty, is_hit, is_met, is_served}
-use Rattle.fsb_timely.specs.Runs.{Run, past_of}
-use Rattle.fsb_timely.specs.Scripts.{Need, is_load, needs_of, next_item, next_number}
-use Rattle.fsb_coherent.specs.Relation.{is_dirty_below}
-use Rattle.fsb_coherent.proofs.Interface.{dirty-none}
-use Rattle.fsb_run_laws.specs.Reaches.{Reaches}
-use Rattle.fsb_agent_view.specs.AgentViews.{AgentView, line_state_by}
-use Rattle.fsb_agent_view.specs.Arriving.{handed_on}
-use Rattle.fsb_agent_view.specs.Serving.{hand_after_steps}
-use Rattle.fsb_agent_view.specs.Completing.{completed_by, hand_of, next_steps, performed}
-use Rattle.fsb_agent_run.specs.RunViews.{CompletesItem, IsAgentOf, IsAtItem, IsPlacedIn, LogsItem, state_told}
-use Rattle.fsb_agent_run.specs.Stages.{IsViewAfterHit, IsViewOf}
+use Rattle.fsb_agent_run.proofs.Words
+use Words.{ℕ, ◌+◌, ◌<◌, ◌≡◌, Bool, true, false, ◌&&◌, ◌||◌, Some, sym, ap, subst, ◌∙◌, inl, inr, arith, list_all}
+use Words.{list_any, both_ways, cases_Bool, or_right, Access, Item, accessed_line, Step, steps_of_item, states, Mesi}
+use Words.{Modified, is_held, is_some_and, Past, has_arrived, holds_line, is_exclusive, is_dirty, is_hit, is_met}
+use Words.{is_served, Run, past_of, Need, is_load, needs_of, next_item, next_number, is_dirty_below, dirty-none}
+use Words.{Reaches, AgentView, line_state_by, handed_on, hand_after_steps, completed_by, hand_of, next_steps, performed}
+use Words.{CompletesItem, IsAgentOf, IsAtItem, IsPlacedIn, LogsItem, state_told, IsViewAfterHit, IsViewOf}
 use Rattle.fsb_agent_run.proofs.HandSteps.{in_sets-after, length-after, may_store, state-after, stores_into}
 use Rattle.fsb_agent_run.proofs.HitsMade.{hit-by}
 use Rattle.fsb_agent_run.proofs.ItemsCompleted.{IsNeedOf, any-stores, logged-there, steps-need, stores-by-steps}

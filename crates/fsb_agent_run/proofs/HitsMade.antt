@@ -1,25 +1,11 @@
 -- A view has a hit exactly where the run has one, and an arrival likewise.
-use Rattle.std.proofs.Common.{ℕ, ◌+◌, ◌≤◌, ◌≡◌, Bool, true, false, not, ◌&&◌, ◌||◌, List, [], ◌∷◌, Option, Some, refl}
-use Rattle.std.proofs.Common.{sym, ap, subst, ◌∙◌, inl, inr, arith}
-use Rattle.std.specs.List.{list_all, list_any}
-use Rattle.std.specs.Option.{option_map_or}
-use Rattle.std.proofs.lemmas.Bool.{both_ways, cases_Bool, false_from_ne_true}
-use Rattle.fsb_count.specs.Options.{is_some_and}
-use Rattle.fsb_count.proofs.Interface.{any_where-at, any_where-off}
-use Rattle.fsb_access.specs.declared.item.Item.{Item}
-use Rattle.fsb_timely.specs.Past.{Past}
-use Rattle.fsb_timely.specs.Grants.{is_granted}
-use Rattle.fsb_timely.specs.Scripts.{Need, is_idling, needs_of, next_item}
-use Rattle.fsb_timely.specs.Hits.{is_hit}
-use Rattle.fsb_timely.specs.Completions.{brings_at, completes_by, is_arrival, is_brought, is_there}
-use Rattle.fsb_lawful.proofs.Interface.{some-and}
-use Rattle.fsb_agent_view.specs.AgentViews.{AgentView, is_served_by, may_complete}
-use Rattle.fsb_agent_view.specs.Arriving.{are_met_with, is_arrival_by, is_brought_by, is_there_by}
-use Rattle.fsb_agent_view.specs.Completing.{is_hit_by}
-use Rattle.fsb_agent_view.specs.Snooping.{kind_asks}
-use Rattle.fsb_agent_view.specs.declared.want.OwnRequest.{OwnRequest}
-use Rattle.fsb_line.specs.States.{kind_owns}
-use Rattle.fsb_agent_run.specs.RunViews.{HasLinesOf, IsAgentOf, IsAtItem, IsComing}
+use Rattle.fsb_agent_run.proofs.Words
+use Words.{ℕ, ◌+◌, ◌≤◌, ◌≡◌, Bool, true, false, not, ◌&&◌, ◌||◌, List, [], ◌∷◌, Option, Some, refl, sym, ap, subst, ◌∙◌}
+use Words.{inl, inr, arith, list_all, list_any, option_map_or, both_ways, cases_Bool, false_from_ne_true, is_some_and}
+use Words.{any_where-at, any_where-off, Item, Past, is_granted, Need, is_idling, needs_of, next_item, is_hit, brings_at}
+use Words.{completes_by, is_arrival, is_brought, is_there, some-and, AgentView, is_served_by, may_complete}
+use Words.{are_met_with, is_arrival_by, is_brought_by, is_there_by, is_hit_by, kind_asks, OwnRequest, kind_owns}
+use Words.{HasLinesOf, IsAgentOf, IsAtItem, IsComing}
 use Rattle.fsb_agent_run.proofs.Places.{may-by, next-by}
 use Rattle.fsb_agent_run.proofs.StatesTold.{served-by, there-by}
 

@@ -1,21 +1,11 @@
 -- The next item behind a place of a script, and the clocks that are idled before it.
-use Rattle.std.proofs.Common.{ℕ, zero, suc, ◌+◌, ◌-◌, ◌<◌, ◌≤◌, ◌≡◌, Bool, true, false, not, List, [], ◌∷◌, length}
-use Rattle.std.proofs.Common.{drop, Option, Some, refl, ap, ◌∙◌, inl, inr, arith, zero-add}
+use Rattle.fsb_agent_run.proofs.Words
+use Words.{ℕ, zero, suc, ◌+◌, ◌-◌, ◌<◌, ◌≤◌, ◌≡◌, Bool, true, false, not, List, [], ◌∷◌, length, drop, Option, Some}
+use Words.{refl, ap, ◌∙◌, inl, inr, arith, zero-add, option_map_or, cases_lt, le-leb, lt-leb, length-drop, first_where}
+use Words.{is_some_and, first_where-at, first_where-off, Item, One, Locked, Idle, idle_clocks, idle_count, is_idle}
+use Words.{get-there, idle_clocks_in_front, idle_count_in_front, idle_from, is_idle_item, place_from, busy_from}
+use Words.{place_of}
 use Rattle.std.specs.List.{slice_get}
-use Rattle.std.specs.Option.{option_map_or}
-use Rattle.std.proofs.lemmas.Bool.{cases_lt, le-leb, lt-leb}
-use Rattle.std.proofs.lemmas.List.{length-drop}
-use Rattle.fsb_count.specs.Clocks.{first_where}
-use Rattle.fsb_count.specs.Options.{is_some_and}
-use Rattle.fsb_count.proofs.Interface.{first_where-at, first_where-off}
-use Rattle.fsb_access.specs.declared.item.Item.{Item}
-use Rattle.fsb_access.specs.declared.item.Item.TheVariants.{One, Locked, Idle}
-use Rattle.fsb_timely.specs.Scripts.{idle_clocks, idle_count, is_idle}
-use Rattle.fsb_lawful.proofs.Interface.{get-there}
-use Rattle.fsb_agent_view.specs.Idling.{idle_clocks_in_front, idle_count_in_front, idle_from, is_idle_item}
-use Rattle.fsb_agent_view.specs.Idling.{place_from}
-use Rattle.fsb_agent_view.proofs.Interface.{busy_from}
-use Rattle.fsb_agent_run.specs.RunViews.{place_of}
 
 -- there is an item of this number, and it is not idle
 abbrev pub is_busy : List Item → ℕ → Bool

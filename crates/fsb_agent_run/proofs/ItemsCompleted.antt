@@ -1,24 +1,11 @@
 -- An agent that has a hit or an arrival completes its next item: its entries of the clock are the item's accesses.
-use Rattle.std.proofs.Common.{ℕ, ◌+◌, ◌<◌, ◌≡◌, ◌⊎◌, Bool, true, false, not, ◌&&◌, ◌||◌, List, [], ◌∷◌, map, Some}
-use Rattle.std.proofs.Common.{length, nat_eq, refl, ap, ◌∙◌, inl, inr, arith}
-use Rattle.std.specs.List.{list_all, list_any}
-use Rattle.std.proofs.lemmas.Bool.{and_parts, cases_Bool, eqb-true}
-use Rattle.fsb_access.specs.declared.access.Access.{Access}
-use Rattle.fsb_access.specs.declared.item.Item.{Item}
-use Rattle.fsb_access.specs.declared.log.Done.{Done}
-use Rattle.fsb_access.specs.Access.{accessed_line}
-use Rattle.fsb_access.specs.ScriptOrder.{Step, steps_from, steps_of, steps_of_item}
-use Rattle.fsb_timely.specs.Completions.{is_arrival}
-use Rattle.fsb_timely.specs.Hits.{is_hit, is_store_on}
-use Rattle.fsb_timely.specs.Past.{Past}
-use Rattle.fsb_timely.specs.Runs.{Run, past_of}
-use Rattle.fsb_timely.specs.Scripts.{Need, completes_at, is_load, locked_need, needs_after, needs_of, next_item}
-use Rattle.fsb_timely.specs.Scripts.{plain_need}
-use Rattle.fsb_timely.proofs.Interface.{at, logged-next, logs-item, not-behind, steps-completed}
-use Rattle.fsb_lawful.proofs.Interface.{some-and}
-use Rattle.fsb_run_laws.specs.Reaches.{Reaches}
-use Rattle.fsb_run_laws.proofs.Interface.{completes-exactly, last-of}
-use Rattle.fsb_agent_run.specs.RunViews.{CompletesItem, LogsItem}
+use Rattle.fsb_agent_run.proofs.Words
+use Words.{ℕ, ◌+◌, ◌<◌, ◌≡◌, ◌⊎◌, Bool, true, false, not, ◌&&◌, ◌||◌, List, [], ◌∷◌, map, Some, length, nat_eq, refl}
+use Words.{ap, ◌∙◌, inl, inr, arith, list_all, list_any, and_parts, cases_Bool, eqb-true, Access, Item, Done}
+use Words.{accessed_line, Step, steps_from, steps_of, steps_of_item, is_arrival, is_hit, is_store_on, Past, Run}
+use Words.{past_of, Need, completes_at, is_load, locked_need, needs_after, needs_of, next_item, plain_need, at}
+use Words.{logged-next, logs-item, not-behind, steps-completed, some-and, Reaches, completes-exactly, last-of}
+use Words.{CompletesItem, LogsItem}
 use Rattle.fsb_agent_run.proofs.HandSteps.{stores_into}
 
 pub completes-there : (r : Run) (a c : ℕ) → Reaches r (c + 1) → a < 4

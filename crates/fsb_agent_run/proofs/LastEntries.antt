@@ -1,12 +1,7 @@
 -- The last entry of an agent that has none at a clock.
-use Rattle.std.proofs.Common.{ℕ, zero, suc, ◌+◌, ◌≡◌, false, List, [], ◌∷◌, slice_get, Option, Some, arith}
-use Rattle.std.specs.List.{list_any}
-use Rattle.std.proofs.lemmas.Bool.{or_parts}
-use Rattle.fsb_count.specs.Options.{is_some_and}
-use Rattle.fsb_access.specs.declared.log.Done.{Done}
-use Rattle.fsb_timely.specs.Past.{Past}
-use Rattle.fsb_timely.specs.Scripts.{completes_at, is_done_at, is_done_by, last_done}
-use Rattle.fsb_timely.proofs.Interface.{done-same}
+use Rattle.fsb_agent_run.proofs.Words
+use Words.{ℕ, zero, suc, ◌+◌, ◌≡◌, false, List, [], ◌∷◌, slice_get, Option, Some, arith, list_any, or_parts}
+use Words.{is_some_and, Done, Past, completes_at, is_done_at, is_done_by, last_done, done-same}
 
 -- no entry of the log is the agent's at the clock
 none-there : (a c : ℕ) (log : List Done) (k : ℕ) (done : Done) → list_any (is_done_at a c) log ≡ false

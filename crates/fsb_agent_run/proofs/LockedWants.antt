@@ -1,26 +1,13 @@
 -- A want is a locked one exactly where the agent's next item is, and the want is no write-back.
-use Rattle.std.proofs.Common.{ℕ, zero, suc, ◌+◌, ◌≡◌, ◌&&◌, Bool, true, false, not, Option, Some, None, List, [], ◌∷◌}
-use Rattle.std.proofs.Common.{◌++◌, map, drop, slice_get, if◌then◌else◌, refl, sym, ap, ◌∙◌, arith}
-use Rattle.std.specs.List.{find, list_all}
-use Rattle.std.specs.Option.{option_map, option_map_or}
+use Rattle.fsb_agent_run.proofs.Words
+use Words.{ℕ, zero, suc, ◌+◌, ◌≡◌, ◌&&◌, Bool, true, false, not, Option, Some, None, List, [], ◌∷◌, ◌++◌, map, drop}
+use Words.{slice_get, if◌then◌else◌, refl, sym, ap, ◌∙◌, arith, find, list_all, option_map, option_map_or, Access, Item}
+use Words.{One, Locked, Idle, AgentView, number_by, free_id_by, is_missing_by, kind_by, missing_by, victim_by, want_by}
+use Words.{want_for_by, Want, is_some_and, Request, Past, Need, is_locked, items_of, locked_need, needs_after}
+use Words.{needs_from, needs_of, next_item, next_number, plain_items, plain_need, window_from, request_of_kind, want_of}
+use Words.{write_back_of, is_write_back, is_write_back_kind, place_of, IsViewAfterHit}
 use Rattle.std.proofs.lemmas.Option.{slice_get_within}
-use Rattle.fsb_access.specs.declared.access.Access.{Access}
-use Rattle.fsb_access.specs.declared.item.Item.{Item}
-use Rattle.fsb_access.specs.declared.item.Item.TheVariants.{One, Locked, Idle}
-use Rattle.fsb_agent_view.specs.AgentViews.{AgentView, number_by}
-use Rattle.fsb_agent_view.specs.Wanting.{free_id_by, is_missing_by, kind_by, missing_by, victim_by, want_by}
-use Rattle.fsb_agent_view.specs.Wanting.{want_for_by}
-use Rattle.fsb_agent_view.specs.declared.want.Want.{Want}
-use Rattle.fsb_count.specs.Options.{is_some_and}
-use Rattle.fsb_encode.specs.declared.request.Request.{Request}
 use Rattle.fsb_timely.specs.BusLock.{wants_lock}
-use Rattle.fsb_timely.specs.Past.{Past}
-use Rattle.fsb_timely.specs.Scripts.{Need, is_locked, items_of, locked_need, needs_after, needs_from, needs_of}
-use Rattle.fsb_timely.specs.Scripts.{next_item, next_number, plain_items, plain_need, window_from}
-use Rattle.fsb_timely.specs.Wants.{request_of_kind, want_of, write_back_of}
-use Rattle.fsb_trace.specs.Requests.{is_write_back, is_write_back_kind}
-use Rattle.fsb_agent_run.specs.RunViews.{place_of}
-use Rattle.fsb_agent_run.specs.Stages.{IsViewAfterHit}
 use Rattle.fsb_agent_run.proofs.WantsMade.{want-by}
 
 -- the need is locked so

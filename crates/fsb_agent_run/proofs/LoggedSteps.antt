@@ -1,18 +1,9 @@
 -- What an agent makes at a clock, by its hit and by its arrival, has the steps that a timely run logs of it there.
-use Rattle.std.proofs.Common.{ℕ, ◌+◌, ◌<◌, ◌≡◌, Bool, false, ◌&&◌, ◌||◌, List, [], ◌∷◌, ◌++◌, map, Some, nat_eq}
-use Rattle.std.proofs.Common.{append-nil, refl, sym, ap, ◌∙◌, inl, inr, arith}
-use Rattle.std.specs.List.{filter, list_any}
-use Rattle.std.proofs.lemmas.Bool.{cases_Bool, false_from_ne_true, both_ways}
-use Rattle.fsb_access.specs.declared.item.Item.{Item}
-use Rattle.fsb_access.specs.declared.log.Done.{Done}
-use Rattle.fsb_access.specs.ScriptOrder.{Step, step_of, steps_of, steps_of_item}
-use Rattle.fsb_timely.specs.Completions.{Completed, completed_if, completed_of_item, is_arrival, next_accesses}
-use Rattle.fsb_timely.specs.Hits.{is_hit}
-use Rattle.fsb_timely.specs.Past.{Past}
-use Rattle.fsb_timely.specs.Runs.{Run, past_of}
-use Rattle.fsb_timely.specs.Scripts.{completes_at, is_done_at, next_item, next_number}
-use Rattle.fsb_run_laws.specs.Reaches.{Reaches}
-use Rattle.fsb_agent_run.specs.EntriesMade.{LogsAccesses, logged_access}
+use Rattle.fsb_agent_run.proofs.Words
+use Words.{ℕ, ◌+◌, ◌<◌, ◌≡◌, Bool, false, ◌&&◌, ◌||◌, List, [], ◌∷◌, ◌++◌, map, Some, nat_eq, append-nil, refl, sym, ap}
+use Words.{◌∙◌, inl, inr, arith, filter, list_any, cases_Bool, false_from_ne_true, both_ways, Item, Done, Step, step_of}
+use Words.{steps_of, steps_of_item, Completed, completed_if, completed_of_item, is_arrival, next_accesses, is_hit, Past}
+use Words.{Run, past_of, completes_at, is_done_at, next_item, next_number, Reaches, LogsAccesses, logged_access}
 use Rattle.fsb_agent_run.proofs.ArrivedViews.{arrival-unhit}
 use Rattle.fsb_agent_run.proofs.ItemsCompleted.{completes-not, logged-there}
 

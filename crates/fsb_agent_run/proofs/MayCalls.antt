@@ -1,31 +1,13 @@
 -- A view of an agent may see the snoop ends and ends of a timely run.
-use Rattle.std.proofs.Common.{ℕ, ◌+◌, ◌<◌, ◌≡◌, ◌≢◌, Bool, true, false, not, ◌||◌, Option, Some, None, length, nat_lt}
-use Rattle.std.proofs.Common.{refl, sym, ap, ◌∙◌, arith}
+use Rattle.fsb_agent_run.proofs.Words
+use Words.{ℕ, ◌+◌, ◌<◌, ◌≡◌, ◌≢◌, Bool, true, false, not, ◌||◌, Option, Some, None, length, nat_lt, refl, sym, ap, ◌∙◌}
+use Words.{arith, eq-eqb, is_some_and, Mesi, is_modified, Outcome, Deferred, Written, Upgraded, Claim, Grant, Past}
+use Words.{SnoopEnd, begun_at, grant_at, is_granted, snooped_at, is_dirty, Run, past_of, Timely, KeepsBounds}
+use Words.{cancelled_in, clock-facts, OwnRequest, AgentView, line_state_by, may_arrive, may_end_upgrade, may_give_up}
+use Words.{request_numbered, may_be_settled, may_commit, owed_count, IsSound, HasBytesOwed, is_awaited}
 use Rattle.std.specs.Prelude.{is_some}
-use Rattle.std.proofs.lemmas.Bool.{eq-eqb}
-use Rattle.fsb_count.specs.Options.{is_some_and}
-use Rattle.fsb_line.specs.declared.state.Mesi.{Mesi}
-use Rattle.fsb_line.specs.States.{is_modified}
-use Rattle.fsb_trace.specs.declared.outcome.Outcome.{Outcome}
-use Rattle.fsb_trace.specs.declared.outcome.Outcome.TheVariants.{Deferred, Written, Upgraded}
-use Rattle.fsb_timely.specs.Past.{Claim, Grant, Past, SnoopEnd}
-use Rattle.fsb_timely.specs.Grants.{begun_at, grant_at, is_granted, snooped_at}
-use Rattle.fsb_timely.specs.Hits.{is_dirty}
-use Rattle.fsb_timely.specs.Runs.{Run, past_of}
-use Rattle.fsb_timely.specs.Timely.{Timely}
-use Rattle.fsb_lawful.specs.Beginning.{KeepsBounds}
-use Rattle.fsb_coherent.specs.Awaits.{cancelled_in}
-use Rattle.fsb_tied.proofs.Interface.{clock-facts}
-use Rattle.fsb_agent_view.specs.declared.want.OwnRequest.{OwnRequest}
-use Rattle.fsb_agent_view.specs.AgentViews.{AgentView, line_state_by}
-use Rattle.fsb_agent_view.specs.Arriving.{may_arrive, may_end_upgrade, may_give_up}
-use Rattle.fsb_agent_view.specs.OwnRequests.{request_numbered}
-use Rattle.fsb_agent_view.specs.Snooping.{may_be_settled, may_commit, owed_count}
-use Rattle.fsb_agent_view.specs.Sound.{IsSound}
 use Rattle.fsb_agent_run.proofs.AwaitedFills.{HasFillsOf}
-use Rattle.fsb_agent_run.specs.BytesOwed.{HasBytesOwed}
 use Rattle.fsb_agent_run.proofs.OwnEvents.{IsOwnEnd, IsOwnSnoopEnd}
-use Rattle.fsb_agent_run.specs.RunViews.{is_awaited}
 use Rattle.fsb_agent_run.proofs.BufferCounts.{fill-counted}
 use Rattle.fsb_agent_run.proofs.FewOwed.{owed-before}
 use Rattle.fsb_agent_run.proofs.FillsTold.{fill_out}

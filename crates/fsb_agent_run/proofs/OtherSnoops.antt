@@ -1,50 +1,23 @@
 -- The snoop end of another agent's request, of a reply, and a clock without one, in an agent's view.
-use Rattle.std.proofs.Common.{ℕ, ◌+◌, ◌<◌, ◌≡◌, ◌≢◌, ◌⊎◌, Bool, true, false, not, ◌&&◌, ◌||◌, [], length, Option}
-use Rattle.std.proofs.Common.{Some, None, is_some, nat_eq, refl, sym, ap, subst, ◌∙◌, inl, inr, arith, if◌then◌else◌}
-use Rattle.std.specs.Prelude.{◌==◌}
-use Rattle.std.specs.List.{find}
-use Rattle.std.specs.Option.{option_map_or}
-use Rattle.std.proofs.lemmas.Bool.{cases_Bool, eqb-true, false_from_ne_true, ne_eqb}
-use Rattle.fsb_cache.specs.Sets.{CacheSets, sets_filled, states}
-use Rattle.fsb_count.specs.Options.{is_at, is_some_and}
-use Rattle.fsb_count.proofs.Interface.{is_at-some, nat_eq-sym}
-use Rattle.fsb_encode.specs.declared.request.Kind.{Kind}
+use Rattle.fsb_agent_run.proofs.Words
+use Words.{ℕ, ◌+◌, ◌<◌, ◌≡◌, ◌≢◌, ◌⊎◌, Bool, true, false, not, ◌&&◌, ◌||◌, [], length, Option, Some, None, is_some}
+use Words.{nat_eq, refl, sym, ap, subst, ◌∙◌, inl, inr, arith, if◌then◌else◌, ◌==◌, find, option_map_or, cases_Bool}
+use Words.{eqb-true, false_from_ne_true, ne_eqb, CacheSets, sets_filled, states, is_at, is_some_and, is_at-some}
+use Words.{nat_eq-sym, Kind, Request, Mesi, Exclusive, Invalid, Modified, Shared, after_snoop, asks_line, granted}
+use Words.{is_held, Buffered, Claim, Grant, Owing, Past, SnoopEnd, grant_at, holds_line, is_claim_of, is_claim_of_other}
+use Words.{is_granted, is_named_by_other, is_owning, is_snooped, is_taken_away, is_written_back, snooped_at}
+use Words.{is_owner_request, is_upgraded, Run, past_of, owed, want_of, is_deferral, is_write_back_kind, Outcome}
+use Words.{Replied, cancelled_in, purpose_of, fits_getting, fits_kind, fits_upgrade, fits_write_back, map-some}
+use Words.{begun-shown, begun-want, cancels, clock-facts, deferred-held, events-may-happen, Reaches, state_granted}
+use Words.{state_read, ServesOutstanding, replied-on, replied-outstanding, snoop-below, OwnRequest, AgentView, has_come}
+use Words.{line_state_by, request_numbered, requests_granted, buffers_giving, committed, granted_by, is_giver}
+use Words.{kind_asks, no_bytes, other_settled, own_settled, sets_lowered, state_snooped, with_fill, length-with_slot}
+use Words.{number_asked, HasRequestsOf, fill_count, is_won_below, IsViewAfterSnoop, IsViewBeforeSnoop, is_uncancelled}
+use Words.{owed_sent, owed_through}
 use Rattle.fsb_encode.specs.declared.request.Kind.TheVariants as kinds
-use Rattle.fsb_encode.specs.declared.request.Request.{Request}
 use Rattle.fsb_hazard.specs.Choice.{is_never_held_up}
 use Rattle.fsb_line.specs.declared.purpose.Purpose.TheVariants as purposes
-use Rattle.fsb_line.specs.declared.state.Mesi.{Mesi}
-use Rattle.fsb_line.specs.declared.state.Mesi.TheVariants.{Exclusive, Invalid, Modified, Shared}
-use Rattle.fsb_line.specs.States.{after_snoop, asks_line, granted, is_held}
 use Rattle.fsb_line.proofs.Interface.{modified_is_sole}
-use Rattle.fsb_linebuf.specs.Buffers.{Buffered}
-use Rattle.fsb_timely.specs.Past.{Claim, Grant, Owing, Past, SnoopEnd}
-use Rattle.fsb_timely.specs.Grants.{grant_at, holds_line, is_claim_of, is_claim_of_other, is_granted}
-use Rattle.fsb_timely.specs.Grants.{is_named_by_other, is_owning, is_snooped, is_taken_away, is_written_back}
-use Rattle.fsb_timely.specs.Grants.{snooped_at}
-use Rattle.fsb_timely.specs.Moments.{is_owner_request, is_upgraded}
-use Rattle.fsb_timely.specs.Runs.{Run, past_of}
-use Rattle.fsb_timely.specs.Wants.{owed, want_of}
-use Rattle.fsb_trace.specs.Outcome.{is_deferral}
-use Rattle.fsb_trace.specs.Requests.{is_write_back_kind}
-use Rattle.fsb_trace.specs.declared.outcome.Outcome.{Outcome}
-use Rattle.fsb_trace.specs.declared.outcome.Outcome.TheVariants.{Replied}
-use Rattle.fsb_coherent.specs.Awaits.{cancelled_in, purpose_of}
-use Rattle.fsb_coherent.specs.Fitting.{fits_getting, fits_kind, fits_upgrade, fits_write_back}
-use Rattle.fsb_lawful.proofs.Interface.{map-some}
-use Rattle.fsb_tied.proofs.Interface.{begun-shown, begun-want, cancels, clock-facts, deferred-held, events-may-happen}
-use Rattle.fsb_run_laws.specs.Reaches.{Reaches}
-use Rattle.fsb_run_laws.specs.RunStates.{state_granted, state_read}
-use Rattle.fsb_run_laws.proofs.Interface.{ServesOutstanding, replied-on, replied-outstanding, snoop-below}
-use Rattle.fsb_agent_view.specs.declared.want.OwnRequest.{OwnRequest}
-use Rattle.fsb_agent_view.specs.AgentViews.{AgentView, has_come, line_state_by}
-use Rattle.fsb_agent_view.specs.OwnRequests.{request_numbered, requests_granted}
-use Rattle.fsb_agent_view.specs.Snooping.{buffers_giving, committed, granted_by, is_giver, kind_asks, no_bytes}
-use Rattle.fsb_agent_view.specs.Snooping.{other_settled, own_settled, sets_lowered, state_snooped, with_fill}
-use Rattle.fsb_agent_view.proofs.Interface.{length-with_slot}
-use Rattle.fsb_agent_run.specs.AgentClocks.{number_asked}
-use Rattle.fsb_agent_run.specs.RunViews.{HasRequestsOf, fill_count, is_won_below}
-use Rattle.fsb_agent_run.specs.Stages.{IsViewAfterSnoop, IsViewBeforeSnoop, is_uncancelled, owed_sent, owed_through}
 use Rattle.fsb_agent_run.proofs.Among.{Among, among-left, filter-among, found-among}
 use Rattle.fsb_agent_run.proofs.FillCounts.{count_on, count-promised}
 use Rattle.fsb_agent_run.proofs.OutLists.{find-number, out-there, wanted-of}

@@ -1,16 +1,10 @@
 -- The requests of a view, as its agent's run knows them: without one, and with one granted.
-use Rattle.std.proofs.Common.{ℕ, ◌≡◌, ◌≢◌, ◌⊎◌, true, false, not, List, [], ◌∷◌, map, Option, Some, is_some, nat_eq}
-use Rattle.std.proofs.Common.{refl, sym, ap, subst, ◌∙◌, inl, inr, arith}
-use Rattle.std.specs.List.{filter, list_all}
-use Rattle.std.proofs.lemmas.Bool.{and_parts, both_ways, cases_Bool, eq-eqb, eqb-true, false_from_ne_true, ne_eqb}
-use Rattle.fsb_timely.specs.Past.{Owing, Past}
-use Rattle.fsb_timely.specs.Wants.{want_of}
-use Rattle.fsb_agent_view.specs.declared.want.OwnRequest.{OwnRequest}
-use Rattle.fsb_agent_view.specs.AgentViews.{AgentView}
-use Rattle.fsb_agent_view.specs.OwnRequests.{is_numbered, request_numbered, requests_granted, requests_without}
-use Rattle.fsb_agent_view.proofs.Interface.{without_first-cons}
-use Rattle.fsb_agent_run.specs.Owings.{are_owings_apart, is_owing_apart}
-use Rattle.fsb_agent_run.specs.RunViews.{HasRequestsOf, is_won_below, owing_by}
+use Rattle.fsb_agent_run.proofs.Words
+use Words.{ℕ, ◌≡◌, ◌≢◌, ◌⊎◌, true, false, not, List, [], ◌∷◌, map, Option, Some, is_some, nat_eq, refl, sym, ap, subst}
+use Words.{◌∙◌, inl, inr, arith, filter, list_all, and_parts, both_ways, cases_Bool, eq-eqb, eqb-true}
+use Words.{false_from_ne_true, ne_eqb, Owing, Past, want_of, OwnRequest, AgentView, is_numbered, request_numbered}
+use Words.{requests_granted, requests_without, without_first-cons, are_owings_apart, is_owing_apart, HasRequestsOf}
+use Words.{is_won_below, owing_by}
 use Rattle.fsb_agent_run.proofs.Among.{Among, all-among, among-get, among-map, filter-all, found-among, get-among}
 use Rattle.fsb_agent_run.proofs.Among.{map-among}
 

@@ -1,21 +1,11 @@
 -- The outstanding requests of an agent are apart from each other, and few.
-use Rattle.std.proofs.Common.{ℕ, zero, suc, ◌+◌, ◌≤◌, ◌≡◌, ◌⊎◌, Bool, true, false, List, [], ◌∷◌, ◌++◌, Some, length}
-use Rattle.std.proofs.Common.{nat_eq, refl, sym, ap, subst, ◌∙◌, inl, inr, add-one, append-nil, arith, length-append}
-use Rattle.std.specs.List.{filter, list_all}
-use Rattle.std.proofs.lemmas.Bool.{and_from, and_parts, both_ways, cases_Bool, eq-eqb, eqb-true, false_from_ne_true}
-use Rattle.std.proofs.lemmas.Bool.{ne_eqb}
-use Rattle.std.proofs.lemmas.List.Sums.{count_by-le-length, length-filter}
-use Rattle.fsb_timely.specs.Past.{Owing, Past}
-use Rattle.fsb_timely.specs.Grants.{set_of}
-use Rattle.fsb_timely.specs.Runs.{Run, past_of}
-use Rattle.fsb_timely.specs.Wants.{is_asked_for, is_id_used, is_same_set, owed}
-use Rattle.fsb_lawful.proofs.Interface.{want-few}
-use Rattle.fsb_tied.proofs.Interface.{begun-apart}
-use Rattle.fsb_run_laws.specs.Reaches.{Reaches}
-use Rattle.fsb_run_laws.specs.RunSteps.{listed, owing_begun}
-use Rattle.fsb_run_laws.proofs.Interface.{begun-wanted, owing-claim}
-use Rattle.fsb_agent_run.specs.Owings.{are_owings_apart, is_owing_apart}
-use Rattle.fsb_agent_run.specs.Stages.{owings_begun, owed_sent}
+use Rattle.fsb_agent_run.proofs.Words
+use Words.{ℕ, zero, suc, ◌+◌, ◌≤◌, ◌≡◌, ◌⊎◌, Bool, true, false, List, [], ◌∷◌, ◌++◌, Some, length, nat_eq, refl, sym}
+use Words.{ap, subst, ◌∙◌, inl, inr, add-one, append-nil, arith, length-append, filter, list_all, and_from, and_parts}
+use Words.{both_ways, cases_Bool, eq-eqb, eqb-true, false_from_ne_true, ne_eqb, count_by-le-length, length-filter}
+use Words.{Owing, Past, set_of, Run, past_of, is_asked_for, is_id_used, is_same_set, owed, want-few, begun-apart}
+use Words.{Reaches, listed, owing_begun, begun-wanted, owing-claim, are_owings_apart, is_owing_apart, owings_begun}
+use Words.{owed_sent}
 use Rattle.fsb_agent_run.proofs.Among.{Among, all-among, among-all, among-any, among-filter}
 use Rattle.fsb_agent_run.proofs.OwedSteps.{none-owed, owed-more, owing-is, reaches-less, stays_out}
 

@@ -1,31 +1,14 @@
 -- What an agent owes after the ends of a clock: where a line comes whose bytes are promised, they are there.
-use Rattle.std.proofs.Common.{ℕ, ◌+◌, ◌<◌, ◌≡◌, ◌≢◌, Bool, true, false, cond, if◌then◌else◌, List, Option, Some, None}
-use Rattle.std.proofs.Common.{length, length-append, nat_eq, refl, sym, ap, ◌∙◌, inl, inr, arith}
-use Rattle.std.specs.Prelude.{◌==◌, is_some}
-use Rattle.std.proofs.lemmas.Bool.{cases_eq, eq-eqb, false_from_ne_true}
-use Rattle.fsb_count.specs.Clocks.{count_where}
-use Rattle.fsb_count.specs.Options.{is_at, is_some_and}
-use Rattle.fsb_count.proofs.Interface.{any_where-at, any_where-off, is_at-some}
-use Rattle.fsb_cache.specs.Sets.{copies}
-use Rattle.fsb_linebuf.specs.declared.entry.Push.{Push}
-use Rattle.fsb_linebuf.specs.Buffers.{fills_without, promise_on, pushed_to}
-use Rattle.fsb_timely.specs.Past.{Claim, Past}
-use Rattle.fsb_timely.specs.Grants.{begun_at}
-use Rattle.fsb_timely.specs.Runs.{Run, past_of}
-use Rattle.fsb_timely.specs.Timely.{Timely}
-use Rattle.fsb_timely.proofs.Interface.{is_ended-more}
-use Rattle.fsb_lawful.specs.Beginning.{KeepsBounds}
-use Rattle.fsb_coherent.specs.Awaits.{responded_in}
-use Rattle.fsb_coherent.specs.Relation.{is_responded_below}
-use Rattle.fsb_agent_view.specs.declared.want.OwnRequest.{OwnRequest}
-use Rattle.fsb_agent_view.specs.AgentViews.{AgentView}
-use Rattle.fsb_agent_view.specs.Arriving.{arrived_for, buffers_landed, ended_for, line_arrived, met_by, upgrade_ended}
-use Rattle.fsb_agent_view.specs.OwnRequests.{request_numbered}
-use Rattle.fsb_agent_view.specs.Snooping.{owed_count}
+use Rattle.fsb_agent_run.proofs.Words
+use Words.{ℕ, ◌+◌, ◌<◌, ◌≡◌, ◌≢◌, Bool, true, false, cond, if◌then◌else◌, List, Option, Some, None, length}
+use Words.{length-append, nat_eq, refl, sym, ap, ◌∙◌, inl, inr, arith, ◌==◌, cases_eq, eq-eqb, false_from_ne_true}
+use Words.{count_where, is_at, is_some_and, any_where-at, any_where-off, is_at-some, copies, Push, fills_without}
+use Words.{promise_on, pushed_to, Claim, Past, begun_at, Run, past_of, Timely, is_ended-more, KeepsBounds, responded_in}
+use Words.{is_responded_below, OwnRequest, AgentView, arrived_for, buffers_landed, ended_for, line_arrived, met_by}
+use Words.{upgrade_ended, request_numbered, owed_count, HasBytesOwed, claim_given_at, is_given_below, is_promised}
+use Words.{is_pushed, owes_bytes_from, promise_told, is_awaited, one_if}
+use Rattle.std.specs.Prelude.{is_some}
 use Rattle.fsb_agent_run.proofs.AwaitedFills.{HasFillsOf}
-use Rattle.fsb_agent_run.specs.BytesOwed.{HasBytesOwed, claim_given_at, is_given_below, is_promised, is_pushed}
-use Rattle.fsb_agent_run.specs.BytesOwed.{owes_bytes_from, promise_told}
-use Rattle.fsb_agent_run.specs.RunViews.{is_awaited, one_if}
 use Rattle.fsb_agent_run.proofs.BufferCounts.{promise_on-none, promise_on-without, push_count, push_count-pushed}
 use Rattle.fsb_agent_run.proofs.FillCounts.{count-without_other, count-without_this, count_on}
 use Rattle.fsb_agent_run.proofs.FillsTold.{promised_count, promised_count-without}

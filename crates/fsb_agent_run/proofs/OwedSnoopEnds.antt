@@ -1,40 +1,16 @@
 -- What an agent owes after a snoop end of its own request, of another agent's, and after a clock without one.
-use Rattle.std.proofs.Common.{ℕ, ◌+◌, ◌<◌, ◌≡◌, ◌≢◌, ◌⊎◌, Bool, true, false, not, ◌&&◌, [], ◌∷◌, ◌++◌, Option, Some}
-use Rattle.std.proofs.Common.{None, length, nat_eq, refl, sym, ap, ◌∙◌, inl, inr, arith}
-use Rattle.std.proofs.lemmas.Bool.{and_parts, cases_Bool, eq-eqb, false_from_ne_true}
-use Rattle.fsb_cache.specs.Sets.{copies}
-use Rattle.fsb_count.specs.Clocks.{first_where}
-use Rattle.fsb_count.specs.Options.{is_at, is_some_and}
-use Rattle.fsb_count.proofs.Interface.{first_where-at, first_where-found, is_at-from, is_at-some}
-use Rattle.fsb_encode.specs.declared.request.Kind.{Kind}
-use Rattle.fsb_encode.specs.declared.request.Kind.TheVariants.{WriteBack}
-use Rattle.fsb_encode.specs.declared.request.Request.{Request}
-use Rattle.fsb_line.specs.States.{asks_line, is_modified}
-use Rattle.fsb_linebuf.specs.Buffers.{promise_on, promised_to}
-use Rattle.fsb_trace.specs.declared.outcome.Outcome.{Outcome}
-use Rattle.fsb_trace.specs.declared.outcome.Outcome.TheVariants.{Granted, Handed, Retried, Deferred, Written, Replied}
-use Rattle.fsb_trace.specs.declared.outcome.Outcome.TheVariants.{Failed, Upgraded}
-use Rattle.fsb_timely.specs.Growth.{GoesOn}
-use Rattle.fsb_timely.specs.Past.{Claim, Grant, Past, SnoopEnd}
-use Rattle.fsb_timely.specs.Grants.{snooped_at}
-use Rattle.fsb_timely.specs.Hits.{is_dirty}
-use Rattle.fsb_timely.specs.Runs.{Run, past_of, past_to}
-use Rattle.fsb_timely.specs.Timely.{Timely}
-use Rattle.fsb_timely.proofs.Interface.{below_le, done_below, is_dirty-alike}
-use Rattle.fsb_lawful.specs.Beginning.{KeepsBounds}
-use Rattle.fsb_coherent.specs.Awaits.{owner_at}
-use Rattle.fsb_coherent.specs.Fitting.{fits_kind}
-use Rattle.fsb_coherent.specs.Relation.{giver_at}
-use Rattle.fsb_tied.proofs.Interface.{clock-facts, one-dirty, uncontested, writes-back-alone}
-use Rattle.fsb_agent_view.specs.declared.want.OwnRequest.{OwnRequest}
-use Rattle.fsb_agent_view.specs.AgentViews.{AgentView, has_come, line_state_by}
-use Rattle.fsb_agent_view.specs.OwnRequests.{request_numbered}
-use Rattle.fsb_agent_view.specs.Snooping.{buffers_giving, committed, granted_by, is_giver, is_handed, kind_asks}
-use Rattle.fsb_agent_view.specs.Snooping.{other_settled, own_settled, upgraded_by}
+use Rattle.fsb_agent_run.proofs.Words
+use Words.{ℕ, ◌+◌, ◌<◌, ◌≡◌, ◌≢◌, ◌⊎◌, Bool, true, false, not, ◌&&◌, [], ◌∷◌, ◌++◌, Option, Some, None, length, nat_eq}
+use Words.{refl, sym, ap, ◌∙◌, inl, inr, arith, and_parts, cases_Bool, eq-eqb, false_from_ne_true, copies, first_where}
+use Words.{is_at, is_some_and, first_where-at, first_where-found, is_at-from, is_at-some, Kind, WriteBack, Request}
+use Words.{asks_line, is_modified, promise_on, promised_to, Outcome, Granted, Handed, Retried, Deferred, Written}
+use Words.{Replied, Failed, Upgraded, GoesOn, Claim, Grant, Past, SnoopEnd, snooped_at, is_dirty, Run, past_of, past_to}
+use Words.{Timely, below_le, done_below, is_dirty-alike, KeepsBounds, owner_at, fits_kind, giver_at, clock-facts}
+use Words.{one-dirty, uncontested, writes-back-alone, OwnRequest, AgentView, has_come, line_state_by, request_numbered}
+use Words.{buffers_giving, committed, granted_by, is_giver, is_handed, kind_asks, other_settled, own_settled}
+use Words.{upgraded_by, HasBytesOwed, claim_given_at, gives_claim, is_awaited, one_if}
 use Rattle.fsb_agent_run.proofs.AwaitedFills.{HasFillsOf}
-use Rattle.fsb_agent_run.specs.BytesOwed.{HasBytesOwed, claim_given_at, gives_claim}
 use Rattle.fsb_agent_run.proofs.OwnEvents.{IsOtherSnoopEnd, IsOwnSnoopEnd}
-use Rattle.fsb_agent_run.specs.RunViews.{is_awaited, one_if}
 use Rattle.fsb_agent_run.proofs.FillCounts.{come-count, count_on}
 use Rattle.fsb_agent_run.proofs.GivenBytes.{claim-given, gives-by, none-claimed, none-snooped, same-first}
 use Rattle.fsb_agent_run.proofs.OwedSnoops.{SameDebts, filled-debts, gives-now, owed-on, promised-owed, pushed-owed}

@@ -1,24 +1,11 @@
 -- What an agent owes after a snoop end at which it gives no bytes, and after one at which it does.
-use Rattle.std.proofs.Common.{ℕ, ◌+◌, ◌<◌, ◌≡◌, ◌≢◌, Bool, true, false, cond, not, ◌&&◌, ◌||◌, if◌then◌else◌, Option}
-use Rattle.std.proofs.Common.{Some, None, List, [], ◌∷◌, ◌++◌, length, length-append, nat_eq, refl, sym, ap, subst}
-use Rattle.std.proofs.Common.{◌∙◌, inl, inr, arith}
-use Rattle.std.specs.Prelude.{◌==◌}
-use Rattle.std.proofs.lemmas.Bool.{cases_eq, eq-eqb, ne_eqb}
-use Rattle.fsb_count.specs.Clocks.{count_where}
-use Rattle.fsb_count.specs.Options.{is_at, is_some_and}
-use Rattle.fsb_count.proofs.Interface.{any_where-more, count_where-failed, count_where-passed}
-use Rattle.fsb_linebuf.specs.Buffers.{Buffered, promise_on, promised_to}
-use Rattle.fsb_timely.specs.Past.{Claim, Past}
-use Rattle.fsb_timely.specs.Grants.{begun_at, is_granted}
-use Rattle.fsb_timely.specs.Runs.{Run, past_of}
-use Rattle.fsb_timely.specs.Timely.{Timely}
-use Rattle.fsb_lawful.specs.Beginning.{KeepsBounds}
-use Rattle.fsb_coherent.specs.Relation.{is_responded_below}
-use Rattle.fsb_agent_view.specs.AgentViews.{AgentView}
-use Rattle.fsb_agent_view.specs.Snooping.{owed_count, with_fill, with_push}
-use Rattle.fsb_agent_run.specs.BytesOwed.{HasBytesOwed, claim_given_at, gives_line_at, is_given_below, is_promised}
-use Rattle.fsb_agent_run.specs.BytesOwed.{is_pushed, owes_bytes_from, promise_told}
-use Rattle.fsb_agent_run.specs.RunViews.{is_awaited}
+use Rattle.fsb_agent_run.proofs.Words
+use Words.{ℕ, ◌+◌, ◌<◌, ◌≡◌, ◌≢◌, Bool, true, false, cond, not, ◌&&◌, ◌||◌, if◌then◌else◌, Option, Some, None, List, []}
+use Words.{◌∷◌, ◌++◌, length, length-append, nat_eq, refl, sym, ap, subst, ◌∙◌, inl, inr, arith, ◌==◌, cases_eq, eq-eqb}
+use Words.{ne_eqb, count_where, is_at, is_some_and, any_where-more, count_where-failed, count_where-passed, Buffered}
+use Words.{promise_on, promised_to, Claim, Past, begun_at, is_granted, Run, past_of, Timely, KeepsBounds}
+use Words.{is_responded_below, AgentView, owed_count, with_fill, with_push, HasBytesOwed, claim_given_at, gives_line_at}
+use Words.{is_given_below, is_promised, is_pushed, owes_bytes_from, promise_told, is_awaited}
 use Rattle.fsb_agent_run.proofs.BufferCounts.{fill-counted, promise_on-other, promise_on-promised, promise_on-push}
 use Rattle.fsb_agent_run.proofs.BufferCounts.{promised_count-more, push_count, push_count-push}
 use Rattle.fsb_agent_run.proofs.FillCounts.{count_on}

@@ -1,28 +1,12 @@
 -- What an agent owes after the snoop ends and ends of a clock, by its record at the stages of the clock.
-use Rattle.std.proofs.Common.{ℕ, ◌+◌, ◌<◌, ◌≡◌, ◌≢◌, Bool, true, false, ◌&&◌, Some, None, nat_eq, refl, sym, ap}
-use Rattle.std.proofs.Common.{subst, ◌∙◌, arith}
+use Rattle.fsb_agent_run.proofs.Words
+use Words.{ℕ, ◌+◌, ◌<◌, ◌≡◌, ◌≢◌, Bool, true, false, ◌&&◌, Some, None, nat_eq, refl, sym, ap, subst, ◌∙◌, arith}
+use Words.{and_parts, both_ways, eqb-true, false_from_ne_true, is_some_and, Request, is_modified, Claim, Grant, Past}
+use Words.{SnoopEnd, begun_at, holds_line, is_claim_of, is_evicted, is_exclusive, is_rival, snooped_at, is_dirty, Run}
+use Words.{past_of, want_of, some-and, is_granted_by, clock-facts, Reaches, replied-outstanding, OwnRequest, AgentView}
+use Words.{line_state_by, request_numbered, committed, number_asked, HasBytesOwed, IsViewAfterSnoop, IsViewBeforeSnoop}
+use Words.{IsViewOf}
 use Rattle.std.specs.Prelude.{is_some}
-use Rattle.std.proofs.lemmas.Bool.{and_parts, both_ways, eqb-true, false_from_ne_true}
-use Rattle.fsb_count.specs.Options.{is_some_and}
-use Rattle.fsb_encode.specs.declared.request.Request.{Request}
-use Rattle.fsb_line.specs.States.{is_modified}
-use Rattle.fsb_timely.specs.Past.{Claim, Grant, Past, SnoopEnd}
-use Rattle.fsb_timely.specs.Grants.{begun_at, holds_line, is_claim_of, is_evicted, is_exclusive, is_rival, snooped_at}
-use Rattle.fsb_timely.specs.Hits.{is_dirty}
-use Rattle.fsb_timely.specs.Runs.{Run, past_of}
-use Rattle.fsb_timely.specs.Wants.{want_of}
-use Rattle.fsb_lawful.proofs.Interface.{some-and}
-use Rattle.fsb_coherent.specs.Fitting.{is_granted_by}
-use Rattle.fsb_tied.proofs.Interface.{clock-facts}
-use Rattle.fsb_run_laws.specs.Reaches.{Reaches}
-use Rattle.fsb_run_laws.proofs.Interface.{replied-outstanding}
-use Rattle.fsb_agent_view.specs.declared.want.OwnRequest.{OwnRequest}
-use Rattle.fsb_agent_view.specs.AgentViews.{AgentView, line_state_by}
-use Rattle.fsb_agent_view.specs.OwnRequests.{request_numbered}
-use Rattle.fsb_agent_view.specs.Snooping.{committed}
-use Rattle.fsb_agent_run.specs.AgentClocks.{number_asked}
-use Rattle.fsb_agent_run.specs.BytesOwed.{HasBytesOwed}
-use Rattle.fsb_agent_run.specs.Stages.{IsViewAfterSnoop, IsViewBeforeSnoop, IsViewOf}
 use Rattle.fsb_agent_run.proofs.AwaitedFills.{HasFillsOf}
 use Rattle.fsb_agent_run.proofs.FewOwed.{within}
 use Rattle.fsb_agent_run.proofs.OtherSnoops.{served-out}

@@ -1,21 +1,10 @@
 -- The outstanding requests of an agent: what each of them is, and how they go on by a clock.
-use Rattle.std.proofs.Common.{ℕ, zero, suc, ◌+◌, ◌<◌, ◌≤◌, ◌≡◌, Bool, true, not, ◌&&◌, [], ◌++◌, Option, Some, nat_eq}
-use Rattle.std.proofs.Common.{refl, sym, ap, subst, ◌∙◌, inl, inr, add-one, arith}
-use Rattle.std.specs.List.{filter, list_any}
-use Rattle.std.specs.Option.{option_map}
-use Rattle.std.proofs.lemmas.Bool.{and_from, and_parts, eq-eqb, eqb-true}
-use Rattle.std.proofs.lemmas.List.Elements.{filter-append}
-use Rattle.fsb_trace.specs.Flight.{is_outstanding, outstanding}
-use Rattle.fsb_timely.specs.Past.{Claim, Owing, Past}
-use Rattle.fsb_timely.specs.Grants.{begun_at}
-use Rattle.fsb_timely.specs.Growth.{is_last_clock}
-use Rattle.fsb_timely.specs.Runs.{Run, past_of}
-use Rattle.fsb_timely.specs.Wants.{outstanding_at, owed}
-use Rattle.fsb_lawful.proofs.Interface.{IsListed, any-listed}
-use Rattle.fsb_run_laws.specs.Reaches.{Reaches}
-use Rattle.fsb_run_laws.specs.RunSteps.{listed, owing_begun}
-use Rattle.fsb_run_laws.proofs.Interface.{begun-wanted, owed-step, owed-told, owing-claim}
-use Rattle.fsb_agent_run.specs.Stages.{owings_begun, owed_sent}
+use Rattle.fsb_agent_run.proofs.Words
+use Words.{ℕ, zero, suc, ◌+◌, ◌<◌, ◌≤◌, ◌≡◌, Bool, true, not, ◌&&◌, [], ◌++◌, Option, Some, nat_eq, refl, sym, ap}
+use Words.{subst, ◌∙◌, inl, inr, add-one, arith, filter, list_any, option_map, and_from, and_parts, eq-eqb, eqb-true}
+use Words.{filter-append, is_outstanding, outstanding, Claim, Owing, Past, begun_at, is_last_clock, Run, past_of}
+use Words.{outstanding_at, owed, IsListed, any-listed, Reaches, listed, owing_begun, begun-wanted, owed-step, owed-told}
+use Words.{owing-claim, owings_begun, owed_sent}
 use Rattle.fsb_agent_run.proofs.Among.{Among, among-either, among-filter, any-among, filter-among, filter-swap}
 
 -- the request is agent a's

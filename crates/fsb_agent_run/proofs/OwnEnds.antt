@@ -1,44 +1,19 @@
 -- At the end of its own request an agent awaits the line where the request was granted, and nothing on the line
 -- where it was not; and at the snoop end of its write-back it is dirty on the line.
-use Rattle.std.proofs.Common.{ℕ, ◌+◌, ◌<◌, ◌≤◌, ◌≡◌, ◌≢◌, Bool, true, false, ◌&&◌, ◌||◌, if◌then◌else◌, List, [], ◌∷◌}
-use Rattle.std.proofs.Common.{Option, Some, None, length, nat_lt, refl, sym, ap, subst, ◌∙◌, inl, inr, arith}
-use Rattle.std.specs.List.{list_any}
-use Rattle.std.proofs.lemmas.Bool.{and_from, and_parts, both_ways, cases_eq, cases_lt, false_from_ne_true, or_left}
-use Rattle.std.proofs.lemmas.Bool.{or_right, or_cases}
-use Rattle.fsb_count.specs.Clocks.{any_where, from_clock, last_where}
-use Rattle.fsb_count.specs.Options.{is_at, is_some_and}
-use Rattle.fsb_count.proofs.Interface.{any_where-found, any_where-none, any_where-off, is_at-some}
-use Rattle.fsb_access.specs.declared.log.Done.{Done}
-use Rattle.fsb_encode.specs.declared.request.Kind.TheVariants.{WriteBack}
-use Rattle.fsb_signal.specs.declared.lines.TheConstants.Lines.{AERR}
-use Rattle.fsb_signal.specs.Samples.{line_at}
-use Rattle.fsb_line.specs.declared.purpose.Purpose.{Purpose}
+use Rattle.fsb_agent_run.proofs.Words
+use Words.{ℕ, ◌+◌, ◌<◌, ◌≤◌, ◌≡◌, ◌≢◌, Bool, true, false, ◌&&◌, ◌||◌, if◌then◌else◌, List, [], ◌∷◌, Option, Some, None}
+use Words.{length, nat_lt, refl, sym, ap, subst, ◌∙◌, inl, inr, arith, list_any, and_from, and_parts, both_ways}
+use Words.{cases_eq, cases_lt, false_from_ne_true, or_left, or_right, or_cases, any_where, from_clock, last_where}
+use Words.{is_at, is_some_and, any_where-found, any_where-none, any_where-off, is_at-some, Done, WriteBack, AERR}
+use Words.{line_at, Purpose, LineDeferral, OpenRequest, is_modified, Outcome, Deferred, Written, is_deferral, Claim}
+use Words.{Grant, Past, SnoopEnd, begun_at, grant_at, is_end_at, is_ended, is_exclusive, is_granted, latest_grant}
+use Words.{snooped_at, is_dirty, is_hit, is_store_on, Run, past_of, Timely, is_asked_for, owed, last_where-found}
+use Words.{last_where-from, tied-snoop, want_of-new, KeepsBounds, some-and, cancelled_in, purpose_of, IsOpen}
+use Words.{deferral_at, deferral_below, deferred_to, defers_line, is_cancelled_below, is_dirty_below, is_dirty_through}
+use Words.{is_snooped_below, is_stored_below, replies_line, dirty-by-hits, answers-in-order, begun-want, cancels}
+use Words.{clock-facts, grant-first, granted-parts, live-at, own-owed, OwnRequest, is_awaited}
 use Rattle.fsb_line.specs.declared.purpose.Purpose.TheVariants as purposes
-use Rattle.fsb_line.specs.Line.{LineDeferral, OpenRequest}
-use Rattle.fsb_line.specs.States.{is_modified}
-use Rattle.fsb_trace.specs.declared.outcome.Outcome.{Outcome}
-use Rattle.fsb_trace.specs.declared.outcome.Outcome.TheVariants.{Deferred, Written}
-use Rattle.fsb_trace.specs.Outcome.{is_deferral}
-use Rattle.fsb_timely.specs.Past.{Claim, Grant, Past, SnoopEnd}
-use Rattle.fsb_timely.specs.Grants.{begun_at, grant_at, is_end_at, is_ended, is_exclusive, is_granted, latest_grant}
-use Rattle.fsb_timely.specs.Grants.{snooped_at}
-use Rattle.fsb_timely.specs.Hits.{is_dirty, is_hit, is_store_on}
-use Rattle.fsb_timely.specs.Runs.{Run, past_of}
-use Rattle.fsb_timely.specs.Timely.{Timely}
-use Rattle.fsb_timely.specs.Wants.{is_asked_for, owed}
-use Rattle.fsb_timely.proofs.Interface.{last_where-found, last_where-from, tied-snoop, want_of-new}
-use Rattle.fsb_lawful.specs.Beginning.{KeepsBounds}
-use Rattle.fsb_lawful.proofs.Interface.{some-and}
-use Rattle.fsb_coherent.specs.Awaits.{cancelled_in, purpose_of}
-use Rattle.fsb_coherent.specs.Relation.{IsOpen, deferral_at, deferral_below, deferred_to, defers_line}
-use Rattle.fsb_coherent.specs.Relation.{is_cancelled_below, is_dirty_below, is_dirty_through, is_snooped_below}
-use Rattle.fsb_coherent.specs.Relation.{is_stored_below, replies_line}
-use Rattle.fsb_coherent.proofs.Interface.{dirty-by-hits}
-use Rattle.fsb_tied.proofs.Interface.{answers-in-order, begun-want, cancels, clock-facts, grant-first, granted-parts}
-use Rattle.fsb_tied.proofs.Interface.{live-at, own-owed}
-use Rattle.fsb_agent_view.specs.declared.want.OwnRequest.{OwnRequest}
 use Rattle.fsb_agent_run.proofs.OwnEvents.{IsOwnEnd, is_settled_for}
-use Rattle.fsb_agent_run.specs.RunViews.{is_awaited}
 use Rattle.fsb_agent_run.proofs.GivenBytes.{same-first, written-kind}
 use Rattle.fsb_agent_run.proofs.OwnLines.{granted-settled, machine_at, own-claim, own-grant, settled-unawaited}
 use Rattle.fsb_agent_run.proofs.OwnLines.{tied-at}

@@ -1,10 +1,7 @@
 -- The snoop ends and ends of a run that an agent sees as those of its own requests, or as those of others.
+use Rattle.fsb_agent_run.proofs.Words
+use Words.{Request, Claim, Grant, Past, SnoopEnd, is_claim_of, is_end_at, snooped_at, is_granted_by, OwnRequest}
 use Rattle.std.specs.Prelude.{◌≡◌, ◌≢◌, ℕ, Bool, true, Some, None, is_some}
-use Rattle.fsb_encode.specs.declared.request.Request.{Request}
-use Rattle.fsb_timely.specs.Past.{Claim, Grant, Past, SnoopEnd}
-use Rattle.fsb_timely.specs.Grants.{is_claim_of, is_end_at, snooped_at}
-use Rattle.fsb_coherent.specs.Fitting.{is_granted_by}
-use Rattle.fsb_agent_view.specs.declared.want.OwnRequest.{OwnRequest}
 
 -- the snoop end is that of agent a's request for the line, or of the reply that grants a the line
 unfoldable pub is_settled_for : ℕ → ℕ → SnoopEnd → Bool

@@ -1,31 +1,17 @@
 -- A line of which an agent has an open or deferred request is not awaited by it: at a snoop end of its own
 -- request it awaits nothing on the line.
-use Rattle.std.proofs.Common.{ℕ, zero, suc, ◌<◌, ◌≤◌, ◌≡◌, Bool, true, false, ◌&&◌, ◌||◌, List, [], ◌∷◌, ◌++◌, Option}
-use Rattle.std.proofs.Common.{Some, None, length, nat_eq, refl, sym, ap, subst, ◌∙◌, inl, inr, arith}
-use Rattle.std.specs.Prelude.{◌==◌}
-use Rattle.std.specs.Option.{option_map_or}
-use Rattle.std.proofs.lemmas.Bool.{and_parts, both_ways, cases_eq, eq-eqb, eqb-true, false_from_ne_true, or_left}
-use Rattle.std.proofs.lemmas.Bool.{or_right}
-use Rattle.fsb_count.specs.Options.{is_some_and}
-use Rattle.fsb_line.specs.declared.link.Link.{Link}
-use Rattle.fsb_line.specs.Line.{LineDeferral, MemoryLine, OpenRequest, unheld}
+use Rattle.fsb_agent_run.proofs.Words
+use Words.{ℕ, zero, suc, ◌<◌, ◌≤◌, ◌≡◌, Bool, true, false, ◌&&◌, ◌||◌, List, [], ◌∷◌, ◌++◌, Option, Some, None, length}
+use Words.{nat_eq, refl, sym, ap, subst, ◌∙◌, inl, inr, arith, ◌==◌, option_map_or, and_parts, both_ways, cases_eq}
+use Words.{eq-eqb, eqb-true, false_from_ne_true, or_left, or_right, is_some_and, Link, LineDeferral, MemoryLine}
+use Words.{OpenRequest, unheld, is_linked, Claim, Grant, Past, SnoopEnd, is_claim_of, is_ended, is_granted, snooped_at}
+use Words.{Run, past_of, Timely, KeepsBounds, some-and, awaited_by_grant, is_granted_by, IsOpen, chain_below}
+use Words.{deferral_below, link_for, link_left, links_left, facts-keep-ties, may-below, awaits-grant, clock-facts}
+use Words.{grant-first, granted-parts, is_awaited}
 use Rattle.fsb_line.specs.LineRuns.{run}
-use Rattle.fsb_line.specs.Links.{is_linked}
-use Rattle.fsb_timely.specs.Past.{Claim, Grant, Past, SnoopEnd}
-use Rattle.fsb_timely.specs.Grants.{is_claim_of, is_ended, is_granted, snooped_at}
-use Rattle.fsb_timely.specs.Runs.{Run, past_of}
-use Rattle.fsb_timely.specs.Timely.{Timely}
-use Rattle.fsb_lawful.specs.Beginning.{KeepsBounds}
-use Rattle.fsb_lawful.proofs.Interface.{some-and}
-use Rattle.fsb_coherent.specs.Awaits.{awaited_by_grant}
-use Rattle.fsb_coherent.specs.Fitting.{is_granted_by}
 use Rattle.fsb_coherent.specs.KeepsTie.{IsTiedTo}
 use Rattle.fsb_coherent.specs.LineEvents.{events_below}
-use Rattle.fsb_coherent.specs.Relation.{IsOpen, chain_below, deferral_below, link_for, link_left, links_left}
-use Rattle.fsb_coherent.proofs.Interface.{facts-keep-ties, may-below}
-use Rattle.fsb_tied.proofs.Interface.{awaits-grant, clock-facts, grant-first, granted-parts}
 use Rattle.fsb_agent_run.proofs.OwnEvents.{is_settled_for}
-use Rattle.fsb_agent_run.specs.RunViews.{is_awaited}
 use Rattle.fsb_agent_run.proofs.PromisesTold.{awaits-by}
 
 -- the line of the machine at a clock, whatever its bytes

@@ -1,44 +1,19 @@
 -- The snoop end of an agent's own request, and of the reply to its deferred one, in its view.
-use Rattle.std.proofs.Common.{ℕ, ◌+◌, ◌<◌, ◌≡◌, ◌≢◌, ◌⊎◌, Bool, true, false, not, ◌&&◌, ◌||◌, List, Option, Some}
-use Rattle.std.proofs.Common.{None, is_some, nat_eq, refl, sym, ap, subst, ◌∙◌, inl, inr, arith, if◌then◌else◌}
-use Rattle.std.specs.Prelude.{◌==◌}
-use Rattle.std.specs.Option.{option_and_then, option_map_or}
-use Rattle.std.proofs.lemmas.Bool.{both_ways, cases_Bool, eq-eqb, eqb-true}
-use Rattle.fsb_cache.specs.Sets.{copies, sets_filled}
-use Rattle.fsb_count.specs.Options.{is_at, is_some_and}
-use Rattle.fsb_count.proofs.Interface.{nat_eq-sym}
-use Rattle.fsb_encode.specs.declared.request.Kind.{Kind}
+use Rattle.fsb_agent_run.proofs.Words
+use Words.{ℕ, ◌+◌, ◌<◌, ◌≡◌, ◌≢◌, ◌⊎◌, Bool, true, false, not, ◌&&◌, ◌||◌, List, Option, Some, None, is_some, nat_eq}
+use Words.{refl, sym, ap, subst, ◌∙◌, inl, inr, arith, if◌then◌else◌, ◌==◌, option_and_then, option_map_or, both_ways}
+use Words.{cases_Bool, eq-eqb, eqb-true, copies, sets_filled, is_at, is_some_and, nat_eq-sym, Kind, Request, Purpose}
+use Words.{Mesi, Exclusive, Invalid, Modified, Shared, asks_line, granted, is_held, kind_owns, Claim, Grant, Owing}
+use Words.{Past, SnoopEnd, begun_at, grant_at, holds_line, is_claim_of, is_claim_of_other, is_evicted}
+use Words.{is_named_by_other, is_snooped, is_taken_away, is_written_back, snooped_at, is_got, is_upgraded, makes_grant}
+use Words.{Run, past_of, owed, want_of, is_write_back_kind, Outcome, Granted, Handed, Retried, Deferred, Written}
+use Words.{Replied, Failed, Upgraded, cancelled_in, purpose_of, fits_getting, fits_kind, fits_upgrade, fits_write_back}
+use Words.{begun-shown, begun-want, claimed-at, clock-facts, snooped-by, uncontested, writes-back-alone, tied-snoop}
+use Words.{Reaches, state_granted, state_read, snooped-outstanding, OwnRequest, AgentView, line_state_by}
+use Words.{request_numbered, requests_granted, committed, granted_by, kind_asks, no_bytes, own_settled, upgraded_by}
+use Words.{with_fill, written_by, HasRequestsOf, is_won_below, IsViewAfterSnoop, IsViewBeforeSnoop, is_uncancelled}
+use Words.{owed_sent, owed_through}
 use Rattle.fsb_encode.specs.declared.request.Kind.TheVariants as kinds
-use Rattle.fsb_encode.specs.declared.request.Request.{Request}
-use Rattle.fsb_line.specs.declared.purpose.Purpose.{Purpose}
-use Rattle.fsb_line.specs.declared.state.Mesi.{Mesi}
-use Rattle.fsb_line.specs.declared.state.Mesi.TheVariants.{Exclusive, Invalid, Modified, Shared}
-use Rattle.fsb_line.specs.States.{asks_line, granted, is_held, kind_owns}
-use Rattle.fsb_timely.specs.Past.{Claim, Grant, Owing, Past, SnoopEnd}
-use Rattle.fsb_timely.specs.Grants.{begun_at, grant_at, holds_line, is_claim_of, is_claim_of_other, is_evicted}
-use Rattle.fsb_timely.specs.Grants.{is_named_by_other, is_snooped, is_taken_away, is_written_back, snooped_at}
-use Rattle.fsb_timely.specs.Moments.{is_got, is_upgraded, makes_grant}
-use Rattle.fsb_timely.specs.Runs.{Run, past_of}
-use Rattle.fsb_timely.specs.Wants.{owed, want_of}
-use Rattle.fsb_trace.specs.Requests.{is_write_back_kind}
-use Rattle.fsb_trace.specs.declared.outcome.Outcome.{Outcome}
-use Rattle.fsb_trace.specs.declared.outcome.Outcome.TheVariants.{Granted, Handed, Retried, Deferred, Written, Replied}
-use Rattle.fsb_trace.specs.declared.outcome.Outcome.TheVariants.{Failed, Upgraded}
-use Rattle.fsb_coherent.specs.Awaits.{cancelled_in, purpose_of}
-use Rattle.fsb_coherent.specs.Fitting.{fits_getting, fits_kind, fits_upgrade, fits_write_back}
-use Rattle.fsb_tied.proofs.Interface.{begun-shown, begun-want, claimed-at, clock-facts, snooped-by, uncontested}
-use Rattle.fsb_tied.proofs.Interface.{writes-back-alone}
-use Rattle.fsb_timely.proofs.Interface.{tied-snoop}
-use Rattle.fsb_run_laws.specs.Reaches.{Reaches}
-use Rattle.fsb_run_laws.specs.RunStates.{state_granted, state_read}
-use Rattle.fsb_run_laws.proofs.Interface.{snooped-outstanding}
-use Rattle.fsb_agent_view.specs.declared.want.OwnRequest.{OwnRequest}
-use Rattle.fsb_agent_view.specs.AgentViews.{AgentView, line_state_by}
-use Rattle.fsb_agent_view.specs.OwnRequests.{request_numbered, requests_granted}
-use Rattle.fsb_agent_view.specs.Snooping.{committed, granted_by, kind_asks, no_bytes, own_settled, upgraded_by}
-use Rattle.fsb_agent_view.specs.Snooping.{with_fill, written_by}
-use Rattle.fsb_agent_run.specs.RunViews.{HasRequestsOf, is_won_below}
-use Rattle.fsb_agent_run.specs.Stages.{IsViewAfterSnoop, IsViewBeforeSnoop, is_uncancelled, owed_sent, owed_through}
 use Rattle.fsb_agent_run.proofs.Among.{Among, among-left, filter-among}
 use Rattle.fsb_agent_run.proofs.OutLists.{among-granted, find-number, kept-of, out-there, wanted-of}
 use Rattle.fsb_agent_run.proofs.OwedSteps.{owed-there, reaches-less}

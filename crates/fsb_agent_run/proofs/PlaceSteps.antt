@@ -1,19 +1,11 @@
 -- The place of a view in its script, one clock further.
-use Rattle.std.proofs.Common.{ℕ, ◌+◌, ◌<◌, ◌≤◌, ◌≡◌, false, not, ◌&&◌, ◌||◌, List, length, Option, Some, refl, sym}
-use Rattle.std.proofs.Common.{ap, ◌∙◌, arith}
-use Rattle.std.specs.Option.{option_map, option_map_or}
-use Rattle.fsb_count.proofs.Interface.{first_where-found}
-use Rattle.fsb_access.specs.declared.item.Item.{Item}
-use Rattle.fsb_access.specs.declared.log.Done.{Done}
-use Rattle.fsb_timely.specs.Past.{Past}
-use Rattle.fsb_timely.specs.Scripts.{completes_at, idle_clocks, idle_start, is_logged, is_logged_at, is_to_do}
-use Rattle.fsb_timely.specs.Scripts.{items_of, last_done, next_number, number_after}
-use Rattle.fsb_timely.proofs.Interface.{is_logged-more, next_number-same}
+use Rattle.fsb_agent_run.proofs.Words
+use Words.{ℕ, ◌+◌, ◌<◌, ◌≤◌, ◌≡◌, false, not, ◌&&◌, ◌||◌, List, length, Option, Some, refl, sym, ap, ◌∙◌, arith}
+use Words.{option_map, option_map_or, first_where-found, Item, Done, Past, completes_at, idle_clocks, idle_start}
+use Words.{is_logged, is_logged_at, is_to_do, items_of, last_done, next_number, number_after, is_logged-more}
+use Words.{next_number-same, AgentView, completed_by, idle_from, place_from, CompletesItem, IsAgentOf, IsPlacedIn}
+use Words.{finished_by, idle_end, place_of}
 use Rattle.fsb_agent_run.proofs.LastEntries.{last-over}
-use Rattle.fsb_agent_view.specs.AgentViews.{AgentView}
-use Rattle.fsb_agent_view.specs.Completing.{completed_by}
-use Rattle.fsb_agent_view.specs.Idling.{idle_from, place_from}
-use Rattle.fsb_agent_run.specs.RunViews.{CompletesItem, IsAgentOf, IsPlacedIn, finished_by, idle_end, place_of}
 use Rattle.fsb_agent_run.proofs.IdleItems.{idles-from, is_busy, next-from}
 
 -- where an agent idles up to, by its last entry and its next item

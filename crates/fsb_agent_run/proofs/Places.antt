@@ -1,22 +1,13 @@
 -- Where a view is in its script: its next item, its window, and whether it idles.
-use Rattle.std.proofs.Common.{ℕ, ◌<◌, ◌≡◌, Bool, true, false, not, ◌&&◌, List, [], ◌∷◌, length, Option, Some, None}
-use Rattle.std.proofs.Common.{is_some, nat_lt, nat_le, refl, sym, ap, ◌∙◌, arith}
+use Rattle.fsb_agent_run.proofs.Words
+use Words.{ℕ, ◌<◌, ◌≡◌, Bool, true, false, not, ◌&&◌, List, [], ◌∷◌, length, Option, Some, None, is_some, nat_lt}
+use Words.{nat_le, refl, sym, ap, ◌∙◌, arith, option_and_then, option_map, option_map_or, is_some_and}
+use Words.{first_where-found, Item, Done, Past, is_done_by, is_idle, is_idling, is_to_do, items_of, last_done}
+use Words.{next_item, next_number, window, window_at, last_where-found, some-and, AgentView, is_finished_at, is_idle_by}
+use Words.{may_complete, next_item_by, number_at, window_beginning, window_by, IsAgentOf, IsAtItem, IsPlacedIn}
+use Words.{finished_by, idle_end, place_of}
 use Rattle.std.specs.List.{slice_get}
-use Rattle.std.specs.Option.{option_and_then, option_map, option_map_or}
-use Rattle.fsb_count.specs.Options.{is_some_and}
-use Rattle.fsb_count.proofs.Interface.{first_where-found}
-use Rattle.fsb_access.specs.declared.item.Item.{Item}
-use Rattle.fsb_access.specs.declared.log.Done.{Done}
-use Rattle.fsb_timely.specs.Past.{Past}
-use Rattle.fsb_timely.specs.Scripts.{is_done_by, is_idle, is_idling, is_to_do, items_of, last_done, next_item}
-use Rattle.fsb_timely.specs.Scripts.{next_number, window, window_at}
-use Rattle.fsb_timely.proofs.Interface.{last_where-found}
-use Rattle.fsb_lawful.proofs.Interface.{some-and}
 use Rattle.fsb_agent_view.specs.declared.want.Finished.{Finished}
-use Rattle.fsb_agent_view.specs.AgentViews.{AgentView, is_finished_at, is_idle_by, may_complete, next_item_by}
-use Rattle.fsb_agent_view.specs.AgentViews.{number_at}
-use Rattle.fsb_agent_view.specs.Wanting.{window_beginning, window_by}
-use Rattle.fsb_agent_run.specs.RunViews.{IsAgentOf, IsAtItem, IsPlacedIn, finished_by, idle_end, place_of}
 
 -- behind the last item there is none
 slice_get-length : (items : List Item) → slice_get items (length items) ≡ None

@@ -1,17 +1,10 @@
 -- What is promised of a line, one snoop end further.
-use Rattle.std.proofs.Common.{ℕ, ◌+◌, ◌≡◌, Bool, true, false, if◌then◌else◌, Option, Some, None, refl, ap, ◌∙◌, arith}
-use Rattle.std.proofs.Common.{add-one}
-use Rattle.std.specs.Option.{option_and_then}
-use Rattle.std.proofs.lemmas.Bool.{eq-eqb, le-leb, lt-leb}
-use Rattle.fsb_count.specs.Clocks.{any_where, from_clock, last_where}
-use Rattle.fsb_count.specs.Options.{is_some_and}
-use Rattle.fsb_count.proofs.Interface.{any_where-at, any_where-more, any_where-off, last_where-failed}
-use Rattle.fsb_count.proofs.Interface.{last_where-passed}
-use Rattle.fsb_timely.specs.Past.{Claim, Past}
-use Rattle.fsb_timely.specs.Grants.{is_granted}
-use Rattle.fsb_timely.proofs.Interface.{last_where-found, latest_grant-more}
-use Rattle.fsb_agent_run.specs.BytesOwed.{claim_given_at, given_since, gives_line_at, is_promised, promise_told}
-use Rattle.fsb_agent_run.specs.RunViews.{is_awaited}
+use Rattle.fsb_agent_run.proofs.Words
+use Words.{ℕ, ◌+◌, ◌≡◌, Bool, true, false, if◌then◌else◌, Option, Some, None, refl, ap, ◌∙◌, arith, add-one}
+use Words.{option_and_then, eq-eqb, le-leb, lt-leb, any_where, from_clock, last_where, is_some_and, any_where-at}
+use Words.{any_where-more, any_where-off, last_where-failed, last_where-passed, Claim, Past, is_granted}
+use Words.{last_where-found, latest_grant-more, claim_given_at, given_since, gives_line_at, is_promised, promise_told}
+use Words.{is_awaited}
 
 -- a line that is not granted is awaited as before
 pub awaited-kept : (p : Past) (a line c : ℕ) → is_granted p a line c ≡ false

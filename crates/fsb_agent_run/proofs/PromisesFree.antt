@@ -1,21 +1,10 @@
 -- A line on which an agent is dirty is promised to nobody.
-use Rattle.std.proofs.Common.{ℕ, ◌+◌, ◌<◌, ◌≤◌, ◌≡◌, ◌≢◌, Bool, true, not, ◌&&◌, Some, None, length, sym, ap, ◌∙◌}
-use Rattle.std.proofs.Common.{inl, inr, arith}
-use Rattle.std.proofs.lemmas.Bool.{and_parts, both_ways, le-leb, not-true}
-use Rattle.fsb_count.specs.Clocks.{any_where, from_clock, holds_since, last_where}
-use Rattle.fsb_count.specs.Options.{is_some_and}
-use Rattle.fsb_count.proofs.Interface.{any_where-at}
-use Rattle.fsb_encode.specs.declared.request.Kind.TheVariants.{WriteBack}
-use Rattle.fsb_trace.specs.Requests.{is_write_back_kind}
-use Rattle.fsb_timely.specs.Past.{Claim, Past, SnoopEnd}
-use Rattle.fsb_timely.specs.Grants.{holds_line, is_claim_of, is_claim_of_other, is_exclusive, is_granted, is_lost}
-use Rattle.fsb_timely.specs.Grants.{is_named_by_other, is_snooped, is_sole_grant, is_written_back, latest_grant}
-use Rattle.fsb_timely.specs.Grants.{snooped_at}
-use Rattle.fsb_timely.specs.Hits.{is_dirty}
-use Rattle.fsb_timely.specs.Runs.{Run, past_of}
-use Rattle.fsb_timely.specs.Timely.{Timely}
-use Rattle.fsb_lawful.specs.Beginning.{KeepsBounds}
-use Rattle.fsb_agent_run.specs.BytesOwed.{promise_told}
+use Rattle.fsb_agent_run.proofs.Words
+use Words.{ℕ, ◌+◌, ◌<◌, ◌≤◌, ◌≡◌, ◌≢◌, Bool, true, not, ◌&&◌, Some, None, length, sym, ap, ◌∙◌, inl, inr, arith}
+use Words.{and_parts, both_ways, le-leb, not-true, any_where, from_clock, holds_since, last_where, is_some_and}
+use Words.{any_where-at, WriteBack, is_write_back_kind, Claim, Past, SnoopEnd, holds_line, is_claim_of}
+use Words.{is_claim_of_other, is_exclusive, is_granted, is_lost, is_named_by_other, is_snooped, is_sole_grant}
+use Words.{is_written_back, latest_grant, snooped_at, is_dirty, Run, past_of, Timely, KeepsBounds, promise_told}
 use Rattle.fsb_agent_run.proofs.GivenBytes.{given, gives-by, written-kind}
 use Rattle.fsb_agent_run.proofs.PromisesTold.{awaits-by, promised-at, promised-later}
 

@@ -1,21 +1,11 @@
 -- What is promised in a timely run: to whom, and that it has no response as long as the promise stands.
-use Rattle.std.proofs.Common.{ℕ, ◌+◌, ◌<◌, ◌≤◌, ◌≡◌, Bool, true, false, ◌&&◌, Some, length, sym, ap, subst, ◌∙◌}
-use Rattle.std.proofs.Common.{arith}
-use Rattle.std.specs.Option.{option_and_then}
-use Rattle.std.proofs.lemmas.Bool.{both_ways, le-leb}
-use Rattle.fsb_count.specs.Clocks.{any_where, from_clock, last_where}
-use Rattle.fsb_count.proofs.Interface.{any_where-at, any_where-found, any_where-none, is_at-some}
-use Rattle.fsb_timely.specs.Past.{Claim, Grant, Past, SnoopEnd}
-use Rattle.fsb_timely.specs.Grants.{grant_at, is_end_at, is_ended, is_granted, latest_grant, snooped_at}
-use Rattle.fsb_timely.specs.Runs.{Run, past_of}
-use Rattle.fsb_timely.specs.Timely.{Timely}
-use Rattle.fsb_timely.proofs.Interface.{last_where-found}
-use Rattle.fsb_lawful.specs.Beginning.{KeepsBounds}
-use Rattle.fsb_lawful.proofs.Interface.{some-and}
-use Rattle.fsb_coherent.specs.Awaits.{responded_in}
-use Rattle.fsb_tied.proofs.Interface.{answers-in-order, grant-first, granted-parts}
-use Rattle.fsb_agent_run.specs.BytesOwed.{claim_given_at, given_since, gives_line_at, is_promised, promise_told}
-use Rattle.fsb_agent_run.specs.RunViews.{is_awaited}
+use Rattle.fsb_agent_run.proofs.Words
+use Words.{ℕ, ◌+◌, ◌<◌, ◌≤◌, ◌≡◌, Bool, true, false, ◌&&◌, Some, length, sym, ap, subst, ◌∙◌, arith, option_and_then}
+use Words.{both_ways, le-leb, any_where, from_clock, last_where, any_where-at, any_where-found, any_where-none}
+use Words.{is_at-some, Claim, Grant, Past, SnoopEnd, grant_at, is_end_at, is_ended, is_granted, latest_grant}
+use Words.{snooped_at, Run, past_of, Timely, last_where-found, KeepsBounds, some-and, responded_in, answers-in-order}
+use Words.{grant-first, granted-parts, claim_given_at, given_since, gives_line_at, is_promised, promise_told}
+use Words.{is_awaited}
 use Rattle.fsb_agent_run.proofs.GivenBytes.{given, given-ungranted}
 
 -- the latest grant of a line that an agent awaits

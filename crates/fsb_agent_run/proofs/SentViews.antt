@@ -1,36 +1,13 @@
 -- What an agent begins at a clock, and what is cancelled there, in its view.
-use Rattle.std.proofs.Common.{ℕ, ◌+◌, ◌≡◌, ◌≢◌, ◌⊎◌, ◌%◌, Bool, true, false, not, ◌&&◌, [], ◌∷◌, ◌++◌, map, length}
-use Rattle.std.proofs.Common.{Option, Some, None, is_some, nat_eq, refl, sym, ap, subst, ◌∙◌, inl, inr, append-nil}
-use Rattle.std.proofs.Common.{arith, if◌then◌else◌}
-use Rattle.std.specs.Prelude.{◌==◌}
-use Rattle.std.specs.List.{filter}
-use Rattle.std.specs.Option.{option_map}
-use Rattle.std.proofs.lemmas.Bool.{eq-eqb, eqb-true, ne_eqb}
-use Rattle.std.proofs.lemmas.List.{map-append}
-use Rattle.fsb_cache.specs.Sets.{CacheSets, states}
-use Rattle.fsb_count.specs.Options.{is_at, is_some_and}
-use Rattle.fsb_count.proofs.Interface.{is_at-some, nat_eq-sym}
-use Rattle.fsb_line.specs.declared.state.Mesi.TheVariants.{Invalid}
-use Rattle.fsb_timely.specs.Past.{Claim, Owing, Past}
-use Rattle.fsb_timely.specs.Grants.{begun_at, holds_line, is_evicted, is_exclusive, is_rival, set_of}
-use Rattle.fsb_timely.specs.Hits.{is_dirty}
-use Rattle.fsb_timely.specs.Runs.{Run, past_of}
-use Rattle.fsb_timely.specs.Wants.{owed, want_of}
-use Rattle.fsb_coherent.specs.Awaits.{cancelled_in}
-use Rattle.fsb_tied.proofs.Interface.{cancels}
-use Rattle.fsb_run_laws.specs.Reaches.{Reaches}
-use Rattle.fsb_run_laws.specs.RunSteps.{listed, owing_begun}
-use Rattle.fsb_run_laws.proofs.Interface.{begun-wanted}
-use Rattle.fsb_agent_view.specs.declared.want.OwnRequest.{OwnRequest}
-use Rattle.fsb_agent_view.specs.declared.want.Want.{Want}
-use Rattle.fsb_agent_view.specs.AgentViews.{AgentView}
-use Rattle.fsb_agent_view.specs.Arriving.{given_up}
-use Rattle.fsb_agent_view.specs.OwnRequests.{new_request}
-use Rattle.fsb_agent_view.specs.Wanting.{sent, sets_cleared_for, want_by}
-use Rattle.fsb_agent_run.specs.RunViews.{is_won_below, owing_by, state_told}
-use Rattle.fsb_agent_run.specs.Owings.{are_owings_apart}
-use Rattle.fsb_agent_run.specs.Stages.{IsPlacedThrough, IsViewAfterHit, IsViewAfterSent, IsViewBeforeSnoop}
-use Rattle.fsb_agent_run.specs.Stages.{owings_begun, is_uncancelled, owed_sent, owed_through}
+use Rattle.fsb_agent_run.proofs.Words
+use Words.{ℕ, ◌+◌, ◌≡◌, ◌≢◌, ◌⊎◌, ◌%◌, Bool, true, false, not, ◌&&◌, [], ◌∷◌, ◌++◌, map, length, Option, Some, None}
+use Words.{is_some, nat_eq, refl, sym, ap, subst, ◌∙◌, inl, inr, append-nil, arith, if◌then◌else◌, ◌==◌, filter}
+use Words.{option_map, eq-eqb, eqb-true, ne_eqb, map-append, CacheSets, states, is_at, is_some_and, is_at-some}
+use Words.{nat_eq-sym, Invalid, Claim, Owing, Past, begun_at, holds_line, is_evicted, is_exclusive, is_rival, set_of}
+use Words.{is_dirty, Run, past_of, owed, want_of, cancelled_in, cancels, Reaches, listed, owing_begun, begun-wanted}
+use Words.{OwnRequest, Want, AgentView, given_up, new_request, sent, sets_cleared_for, want_by, is_won_below, owing_by}
+use Words.{state_told, are_owings_apart, IsPlacedThrough, IsViewAfterHit, IsViewAfterSent, IsViewBeforeSnoop}
+use Words.{owings_begun, is_uncancelled, owed_sent, owed_through}
 use Rattle.fsb_agent_run.proofs.Among.{Among, among-either, filter-all, filter-same}
 use Rattle.fsb_agent_run.proofs.OutLists.{among-without, kept-of, map-without, requests-from, wanted-of}
 use Rattle.fsb_agent_run.proofs.OwedApart.{sent-apart}

@@ -1,18 +1,11 @@
 -- The state of each line of a cache of which one set has something else, and that each set has a line of its own.
-use Rattle.std.proofs.Common.{ℕ, ◌<◌, ◌≡◌, ◌≢◌, ◌%◌, ◌/◌, true, false, Option, Some, None, List, [], ◌∷◌, length}
-use Rattle.std.proofs.Common.{refl, sym, ap, ◌∙◌, inl, inr, ⊎_elim, arith, if◌then◌else◌}
-use Rattle.std.specs.Prelude.{◌==◌, is_some}
-use Rattle.std.specs.List.{slice_index_or}
-use Rattle.std.specs.Option.{option_map}
-use Rattle.std.proofs.lemmas.Bool.{cases_Bool, cases_eq, eq-eqb, ne_eqb}
-use Rattle.fsb_cache.specs.declared.held.Held.{Held}
-use Rattle.fsb_cache.specs.Sets.{CacheSets, held_at, only_line, sets_filled, sets_shared, sets_stored, sets_without}
-use Rattle.fsb_cache.specs.Sets.{slot_of, state_of_held, states, with_slot}
-use Rattle.fsb_line.specs.declared.state.Mesi.{Mesi}
-use Rattle.fsb_line.specs.declared.state.Mesi.TheVariants.{Invalid, Modified, Shared}
-use Rattle.fsb_line.specs.States.{is_held}
-use Rattle.fsb_agent_view.specs.Sound.{is_in_set}
-use Rattle.fsb_agent_view.proofs.Interface.{length-with_slot, slot_of-other, slot_of-same}
+use Rattle.fsb_agent_run.proofs.Words
+use Words.{ℕ, ◌<◌, ◌≡◌, ◌≢◌, ◌%◌, ◌/◌, true, false, Option, Some, None, List, [], ◌∷◌, length, refl, sym, ap, ◌∙◌, inl}
+use Words.{inr, ⊎_elim, arith, if◌then◌else◌, ◌==◌, slice_index_or, option_map, cases_Bool, cases_eq, eq-eqb, ne_eqb}
+use Words.{Held, CacheSets, held_at, only_line, sets_filled, sets_shared, sets_stored, sets_without, slot_of}
+use Words.{state_of_held, states, with_slot, Mesi, Invalid, Modified, Shared, is_held, is_in_set, length-with_slot}
+use Words.{slot_of-other, slot_of-same}
+use Rattle.std.specs.Prelude.{is_some}
 
 -- a line of that set
 pub state-same : (sets : CacheSets) (line other : ℕ) (slot : Option Held) → 0 < length sets

@@ -1,36 +1,15 @@
 -- From before the snoop end of a clock to behind it: where the agent is granted a line, and where it is granted none.
-use Rattle.std.proofs.Common.{ℕ, ◌+◌, ◌<◌, ◌≡◌, ◌≢◌, ◌%◌, true, false, not, ◌&&◌, ◌||◌, List, map, length, Option}
-use Rattle.std.proofs.Common.{Some, None, is_some, nat_eq, refl, sym, ap, subst, ◌∙◌, inl, inr, arith, ⊎_elim}
-use Rattle.std.proofs.Common.{if◌then◌else◌}
-use Rattle.std.proofs.lemmas.Bool.{and_from, cases_eq, eq-eqb, false_from_ne_true, ne_eqb}
-use Rattle.fsb_cache.specs.Sets.{sets_filled}
-use Rattle.fsb_count.specs.Options.{is_some_and}
-use Rattle.fsb_line.specs.declared.state.Mesi.{Mesi}
-use Rattle.fsb_line.specs.declared.state.Mesi.TheVariants.{Invalid}
-use Rattle.fsb_timely.specs.Past.{Claim, Grant, Past, SnoopEnd}
-use Rattle.fsb_timely.specs.Grants.{begun_at, grant_at, holds_line, is_ended, is_evicted, is_exclusive, is_granted}
-use Rattle.fsb_timely.specs.Grants.{is_named_by_other, is_rival, is_taken_away, is_written_back, latest_grant, set_of}
-use Rattle.fsb_timely.specs.Grants.{snooped_at}
-use Rattle.fsb_timely.specs.Hits.{is_dirty, is_stored_since}
-use Rattle.fsb_timely.specs.Runs.{Run, past_of}
-use Rattle.fsb_timely.specs.Wants.{is_asked_for, owed, want_of}
-use Rattle.fsb_timely.proofs.Interface.{latest_grant-more}
-use Rattle.fsb_coherent.specs.Relation.{is_stored_below}
-use Rattle.fsb_coherent.proofs.Interface.{ended-later, granted-now}
-use Rattle.fsb_lawful.proofs.Interface.{grants-are-owed}
-use Rattle.fsb_tied.proofs.Interface.{clock-facts, one-slot}
-use Rattle.fsb_run_laws.specs.Reaches.{Reaches}
-use Rattle.fsb_run_laws.specs.RunStates.{state_granted, state_read}
-use Rattle.fsb_run_laws.proofs.Interface.{none-stored}
-use Rattle.fsb_agent_view.specs.declared.want.OwnRequest.{OwnRequest}
-use Rattle.fsb_agent_view.specs.AgentViews.{AgentView, line_state_by}
-use Rattle.fsb_agent_view.specs.OwnRequests.{requests_granted}
-use Rattle.fsb_agent_view.specs.Snooping.{with_fill}
-use Rattle.fsb_agent_view.proofs.Interface.{length-with_slot}
-use Rattle.fsb_agent_run.specs.Owings.{are_owings_apart}
-use Rattle.fsb_agent_run.specs.RunViews.{HasRequestsOf, fill_count, is_awaited, is_won_below, one_if, owing_by}
-use Rattle.fsb_agent_run.specs.RunViews.{state_told}
-use Rattle.fsb_agent_run.specs.Stages.{IsViewAfterSnoop, IsViewBeforeSnoop, is_uncancelled, owed_sent, owed_through}
+use Rattle.fsb_agent_run.proofs.Words
+use Words.{ℕ, ◌+◌, ◌<◌, ◌≡◌, ◌≢◌, ◌%◌, true, false, not, ◌&&◌, ◌||◌, List, map, length, Option, Some, None, is_some}
+use Words.{nat_eq, refl, sym, ap, subst, ◌∙◌, inl, inr, arith, ⊎_elim, if◌then◌else◌, and_from, cases_eq, eq-eqb}
+use Words.{false_from_ne_true, ne_eqb, sets_filled, is_some_and, Mesi, Invalid, Claim, Grant, Past, SnoopEnd, begun_at}
+use Words.{grant_at, holds_line, is_ended, is_evicted, is_exclusive, is_granted, is_named_by_other, is_rival}
+use Words.{is_taken_away, is_written_back, latest_grant, set_of, snooped_at, is_dirty, is_stored_since, Run, past_of}
+use Words.{is_asked_for, owed, want_of, latest_grant-more, is_stored_below, ended-later, granted-now, grants-are-owed}
+use Words.{clock-facts, one-slot, Reaches, state_granted, state_read, none-stored, OwnRequest, AgentView, line_state_by}
+use Words.{requests_granted, with_fill, length-with_slot, are_owings_apart, HasRequestsOf, fill_count, is_awaited}
+use Words.{is_won_below, one_if, owing_by, state_told, IsViewAfterSnoop, IsViewBeforeSnoop, is_uncancelled, owed_sent}
+use Words.{owed_through}
 use Rattle.fsb_agent_run.proofs.Among.{Among, among-filter}
 use Rattle.fsb_agent_run.proofs.FillCounts.{count-push}
 use Rattle.fsb_agent_run.proofs.GrantsAwaited.{granted-unawaited}

@@ -1,38 +1,16 @@
 -- An agent may see the events of each clock, one after the other; so it stays sound.
-use Rattle.std.proofs.Common.{ℕ, ◌+◌, ◌<◌, ◌≡◌, Bool, true, false, if◌then◌else◌, List, [], ◌∷◌, ◌++◌, fold, Option}
-use Rattle.std.proofs.Common.{Some, None, nat_eq, refl, sym, ap, subst, ◌∙◌, append-nil, inr, arith}
-use Rattle.std.specs.List.{flat_map}
-use Rattle.std.specs.Option.{option_map_or}
-use Rattle.std.proofs.lemmas.Bool.{eqb-true}
-use Rattle.fsb_count.specs.Options.{is_at}
-use Rattle.fsb_encode.specs.declared.request.Request.{Request}
-use Rattle.fsb_trace.specs.Outcome.{is_deferral}
-use Rattle.fsb_trace.specs.declared.outcome.Outcome.{Outcome}
-use Rattle.fsb_trace.specs.declared.outcome.Outcome.TheVariants.{Granted, Handed, Retried, Deferred, Written, Replied}
-use Rattle.fsb_trace.specs.declared.outcome.Outcome.TheVariants.{Failed, Upgraded}
-use Rattle.fsb_timely.specs.Past.{Claim, Grant, Past, SnoopEnd}
-use Rattle.fsb_timely.specs.Grants.{ended_requests, snooped_at}
-use Rattle.fsb_timely.specs.Runs.{Run, past_of}
-use Rattle.fsb_timely.specs.Wants.{want_of}
-use Rattle.fsb_coherent.specs.Awaits.{responded_in, snoop_end_below}
-use Rattle.fsb_coherent.specs.Fitting.{fits_kind}
-use Rattle.fsb_tied.proofs.Interface.{one-at-end}
-use Rattle.fsb_run_laws.specs.Reaches.{Reaches}
-use Rattle.fsb_agent_view.specs.AgentEvents.{AgentEvent, Arrived, Committed, GivenUp, HandedOn, Performed, Sent}
-use Rattle.fsb_agent_view.specs.AgentEvents.{UpgradeEnded, agent_after}
-use Rattle.fsb_agent_view.specs.AgentViews.{AgentView}
-use Rattle.fsb_agent_view.specs.Completing.{performed}
-use Rattle.fsb_agent_view.specs.Sound.{IsSound}
-use Rattle.fsb_agent_view.proofs.Interface.{sound_given_up, sound_handed}
+use Rattle.fsb_agent_run.proofs.Words
+use Words.{ℕ, ◌+◌, ◌<◌, ◌≡◌, Bool, true, false, if◌then◌else◌, List, [], ◌∷◌, ◌++◌, fold, Option, Some, None, nat_eq}
+use Words.{refl, sym, ap, subst, ◌∙◌, append-nil, inr, arith, flat_map, option_map_or, eqb-true, is_at, Request}
+use Words.{is_deferral, Outcome, Granted, Handed, Retried, Deferred, Written, Replied, Failed, Upgraded, Claim, Grant}
+use Words.{Past, SnoopEnd, ended_requests, snooped_at, Run, past_of, want_of, responded_in, snoop_end_below, fits_kind}
+use Words.{one-at-end, Reaches, AgentEvent, Arrived, Committed, GivenUp, HandedOn, Performed, Sent, UpgradeEnded}
+use Words.{agent_after, AgentView, performed, IsSound, sound_given_up, sound_handed, cancelled_events, committed_events}
+use Words.{end_events_of, ended_events, events_of_agent, given_up_events, giver_of, handed_events, is_seen_shared}
+use Words.{number_asked, own_end_events, replied_events, reply_end_events, sent_events, snoop_events_of, HasBytesOwed}
+use Words.{EndsFor, IsViewAfterHit, IsViewAfterSent, IsViewAfterSnoop, IsViewBeforeSnoop, IsViewOf}
 use Rattle.fsb_agent.proofs.Interface.{sound_arrived, sound_committed, sound_ended, sound_performed, sound_sent}
-use Rattle.fsb_agent_run.specs.AgentClocks.{cancelled_events, committed_events, end_events_of, ended_events}
-use Rattle.fsb_agent_run.specs.AgentClocks.{events_of_agent, given_up_events, giver_of, handed_events, is_seen_shared}
-use Rattle.fsb_agent_run.specs.AgentClocks.{number_asked, own_end_events, replied_events, reply_end_events}
-use Rattle.fsb_agent_run.specs.AgentClocks.{sent_events, snoop_events_of}
-use Rattle.fsb_agent_run.specs.BytesOwed.{HasBytesOwed}
-use Rattle.fsb_agent_run.specs.Ending.{EndsFor}
 use Rattle.fsb_agent_run.specs.EventsSeen.{may_see, may_see_all}
-use Rattle.fsb_agent_run.specs.Stages.{IsViewAfterHit, IsViewAfterSent, IsViewAfterSnoop, IsViewBeforeSnoop, IsViewOf}
 use Rattle.fsb_agent_run.proofs.BytesHandedOn.{hand-there}
 use Rattle.fsb_agent_run.proofs.CallsAtStages.{cancelled-seen, own-seen, send-may}
 use Rattle.fsb_agent_run.proofs.ClockEvents.{after, cancelled-all, end-there, handed-all, sent-all, snooped-all}

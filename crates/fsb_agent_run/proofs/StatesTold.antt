@@ -1,19 +1,11 @@
 -- What a view tells of a line: whether the agent holds it, has it alone, is dirty on it, and what it answers.
-use Rattle.std.proofs.Common.{ℕ, ◌+◌, ◌≡◌, Bool, true, not, ◌&&◌, Some, nat_eq, sym, ap, ◌∙◌, if◌then◌else◌, arith}
-use Rattle.std.specs.Option.{option_and_then}
-use Rattle.fsb_count.specs.Options.{is_some_and}
+use Rattle.fsb_agent_run.proofs.Words
+use Words.{ℕ, ◌+◌, ◌≡◌, Bool, true, not, ◌&&◌, Some, nat_eq, sym, ap, ◌∙◌, if◌then◌else◌, arith, option_and_then}
+use Words.{is_some_and, answer_of, is_held, is_modified, is_sole, Grant, Past, grant_at, has_arrived, holds_line}
+use Words.{is_ended, is_exclusive, is_granted, latest_grant, Need, is_dirty, is_met, is_served, is_there, AgentView}
+use Words.{answer_by, has_come, is_met_by, is_served_by, line_state_by, holds_line-says, last_where-found}
+use Words.{last_where-from, some-there, HasLinesOf, is_awaited, state_told}
 use Rattle.fsb_line.specs.declared.state.Answer.TheVariants as answers
-use Rattle.fsb_line.specs.States.{answer_of, is_held, is_modified, is_sole}
-use Rattle.fsb_timely.specs.Past.{Grant, Past}
-use Rattle.fsb_timely.specs.Grants.{grant_at, has_arrived, holds_line, is_ended, is_exclusive, is_granted}
-use Rattle.fsb_timely.specs.Grants.{latest_grant}
-use Rattle.fsb_timely.specs.Scripts.{Need}
-use Rattle.fsb_timely.specs.Hits.{is_dirty, is_met, is_served}
-use Rattle.fsb_timely.specs.Completions.{is_there}
-use Rattle.fsb_agent_view.specs.AgentViews.{AgentView, answer_by, has_come, is_met_by, is_served_by, line_state_by}
-use Rattle.fsb_timely.proofs.Interface.{holds_line-says, last_where-found, last_where-from}
-use Rattle.fsb_coherent.proofs.Interface.{some-there}
-use Rattle.fsb_agent_run.specs.RunViews.{HasLinesOf, is_awaited, state_told}
 use Rattle.fsb_agent_run.proofs.FillCounts.{come-count}
 
 pub held-told : (held alone dirty : Bool) → is_held (state_told held alone dirty) ≡ held

@@ -1,18 +1,9 @@
 -- What the stores of a clock make of the states of an agent's lines: those of a hit, and those of an arrival.
-use Rattle.std.proofs.Common.{ℕ, ◌+◌, ◌≡◌, Bool, true, false, ◌&&◌, ◌||◌, List, [], ◌∷◌, Option, nat_eq, nat_lt, refl}
-use Rattle.std.proofs.Common.{sym, ap, ◌∙◌, arith}
-use Rattle.std.specs.List.{list_any}
-use Rattle.std.proofs.lemmas.Bool.{eqb-true}
-use Rattle.fsb_access.specs.declared.log.Done.{Done}
-use Rattle.fsb_count.specs.Options.{is_some_and}
-use Rattle.fsb_count.proofs.Interface.{nat_lt-more}
-use Rattle.fsb_line.specs.declared.state.Mesi.{Mesi}
-use Rattle.fsb_line.specs.declared.state.Mesi.TheVariants.{Exclusive, Invalid, Modified, Shared}
-use Rattle.fsb_timely.specs.Past.{Grant, Past}
-use Rattle.fsb_timely.specs.Grants.{has_arrived, holds_line, is_ended, is_exclusive, latest_grant}
-use Rattle.fsb_timely.specs.Hits.{is_counted, is_dirty, is_hit, is_store_on, is_stored_since}
-use Rattle.fsb_coherent.specs.Relation.{is_dirty_below, is_stored_below}
-use Rattle.fsb_agent_run.specs.RunViews.{state_told}
+use Rattle.fsb_agent_run.proofs.Words
+use Words.{ℕ, ◌+◌, ◌≡◌, Bool, true, false, ◌&&◌, ◌||◌, List, [], ◌∷◌, Option, nat_eq, nat_lt, refl, sym, ap, ◌∙◌, arith}
+use Words.{list_any, eqb-true, Done, is_some_and, nat_lt-more, Mesi, Exclusive, Invalid, Modified, Shared, Grant, Past}
+use Words.{has_arrived, holds_line, is_ended, is_exclusive, latest_grant, is_counted, is_dirty, is_hit, is_store_on}
+use Words.{is_stored_since, is_dirty_below, is_stored_below, state_told}
 use Rattle.fsb_agent_run.proofs.ToldStates.{state_snooped_at}
 
 -- agent a's entries of c store into the line

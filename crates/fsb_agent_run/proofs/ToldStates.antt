@@ -1,16 +1,9 @@
 -- The states that a run tells, in the words of agents and of runs, and by what a snoop end makes of them.
-use Rattle.std.proofs.Common.{ℕ, ◌+◌, ◌≡◌, Bool, true, false, not, ◌&&◌, ◌||◌, Some, if◌then◌else◌, arith}
-use Rattle.fsb_count.specs.Options.{is_some_and}
-use Rattle.fsb_line.specs.declared.state.Mesi.{Mesi}
-use Rattle.fsb_line.specs.declared.state.Mesi.TheVariants.{Exclusive, Invalid, Modified, Shared}
-use Rattle.fsb_timely.specs.Past.{Grant, Past}
-use Rattle.fsb_timely.specs.Grants.{grant_at, holds_line, is_evicted, is_exclusive, is_granted, is_lost}
-use Rattle.fsb_timely.specs.Grants.{is_named_by_other, is_sole_grant, is_taken_away, is_written_back}
-use Rattle.fsb_timely.specs.Hits.{is_dirty, is_stored_since}
-use Rattle.fsb_timely.proofs.Interface.{holds_line-more, is_exclusive-more, latest_grant-more}
-use Rattle.fsb_run_laws.specs.RunStates.{state_granted, state_read}
-use Rattle.fsb_agent_run.specs.RunViews.{state_told}
-use Rattle.fsb_agent_run.specs.Stages.{is_dirty_snooped}
+use Rattle.fsb_agent_run.proofs.Words
+use Words.{ℕ, ◌+◌, ◌≡◌, Bool, true, false, not, ◌&&◌, ◌||◌, Some, if◌then◌else◌, arith, is_some_and, Mesi, Exclusive}
+use Words.{Invalid, Modified, Shared, Grant, Past, grant_at, holds_line, is_evicted, is_exclusive, is_granted, is_lost}
+use Words.{is_named_by_other, is_sole_grant, is_taken_away, is_written_back, is_dirty, is_stored_since, holds_line-more}
+use Words.{is_exclusive-more, latest_grant-more, state_granted, state_read, state_told, is_dirty_snooped}
 
 -- the state of a line at agent a before the snoop end of c: with its hits, and dropped where a begins a request for
 -- a rival

@@ -1,20 +1,9 @@
 -- The line that a view has to write back is the one that the run says.
-use Rattle.std.proofs.Common.{ℕ, ◌%◌, ◌≡◌, true, false, not, ◌&&◌, Option, Some, None, length, refl, sym, ap, ◌∙◌}
-use Rattle.std.proofs.Common.{arith}
-use Rattle.std.specs.Prelude.{◌==◌}
-use Rattle.std.specs.List.{slice_index_or}
-use Rattle.std.proofs.lemmas.Bool.{both_ways, eqb-true, false_from_ne_true}
-use Rattle.fsb_cache.specs.declared.held.Held.{Held}
-use Rattle.fsb_cache.specs.Sets.{held_at, only_line, slot_of, state_of_held, states}
-use Rattle.fsb_line.specs.States.{is_modified}
-use Rattle.fsb_timely.specs.Past.{Past}
-use Rattle.fsb_timely.specs.Grants.{is_rival, set_of}
-use Rattle.fsb_timely.specs.Hits.{is_dirty}
-use Rattle.fsb_timely.specs.Wants.{is_same_set, victim_of}
-use Rattle.fsb_tied.proofs.Interface.{a-victim, no-victim, rival-other, rival-set}
-use Rattle.fsb_agent_view.specs.AgentViews.{AgentView, line_state_by}
-use Rattle.fsb_agent_view.specs.Wanting.{dirty_other, victim_by}
-use Rattle.fsb_agent_run.specs.RunViews.{HasLinesOf, IsAgentOf}
+use Rattle.fsb_agent_run.proofs.Words
+use Words.{ℕ, ◌%◌, ◌≡◌, true, false, not, ◌&&◌, Option, Some, None, length, refl, sym, ap, ◌∙◌, arith, ◌==◌}
+use Words.{slice_index_or, both_ways, eqb-true, false_from_ne_true, Held, held_at, only_line, slot_of, state_of_held}
+use Words.{states, is_modified, Past, is_rival, set_of, is_dirty, is_same_set, victim_of, a-victim, no-victim}
+use Words.{rival-other, rival-set, AgentView, line_state_by, dirty_other, victim_by, HasLinesOf, IsAgentOf}
 use Rattle.fsb_agent_run.proofs.StatesTold.{dirty-holds, modified-told}
 
 -- a line is Modified where the agent is dirty on it

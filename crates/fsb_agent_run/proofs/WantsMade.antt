@@ -1,26 +1,12 @@
 -- What a view wants is what the run says.
-use Rattle.std.proofs.Common.{ℕ, ◌+◌, ◌%◌, ◌≡◌, Bool, true, false, not, ◌&&◌, ◌||◌, List, [], ◌∷◌, map, length}
-use Rattle.std.proofs.Common.{Option, Some, None, is_some, nat_eq, nat_le, refl, sym, ap, ◌∙◌, arith}
-use Rattle.std.specs.Prelude.{◌==◌}
-use Rattle.std.specs.List.{find, list_any}
-use Rattle.std.specs.Option.{option_map, option_map_or}
-use Rattle.std.proofs.lemmas.Bool.{and_parts, not-true}
-use Rattle.std.proofs.lemmas.List.{length-map}
-use Rattle.fsb_count.specs.Clocks.{first_where}
-use Rattle.fsb_encode.specs.declared.request.Request.{Request}
-use Rattle.fsb_timely.specs.Past.{Owing, Past}
-use Rattle.fsb_timely.specs.Grants.{set_of}
-use Rattle.fsb_timely.specs.Scripts.{Need, is_idling, needs_from, next_number, window, window_at}
-use Rattle.fsb_timely.specs.Hits.{is_dirty, is_hit}
-use Rattle.fsb_timely.specs.Wants.{free_id, id_of, is_asked_for, is_id_used, is_missing, is_same_set, is_set_taken}
-use Rattle.fsb_timely.specs.Wants.{kind_needed, may_upgrade, owed, request_of_kind, want_for, want_of, write_back_of}
-use Rattle.fsb_agent_view.specs.declared.want.OwnRequest.{OwnRequest}
-use Rattle.fsb_agent_view.specs.declared.want.Want.{Want}
-use Rattle.fsb_agent_view.specs.AgentViews.{AgentView, is_idle_by}
-use Rattle.fsb_agent_view.specs.Wanting.{free_id_by, is_id_used_by, is_missing_by, is_silent_by, is_taken_by, kind_by}
-use Rattle.fsb_agent_view.specs.Wanting.{missing_by, want_by, want_for_by}
-use Rattle.fsb_agent_run.specs.RunViews.{HasLinesOf, HasRequestsOf, IsAgentOf, owing_by}
-use Rattle.fsb_agent_run.specs.Stages.{IsViewAfterHit}
+use Rattle.fsb_agent_run.proofs.Words
+use Words.{ℕ, ◌+◌, ◌%◌, ◌≡◌, Bool, true, false, not, ◌&&◌, ◌||◌, List, [], ◌∷◌, map, length, Option, Some, None}
+use Words.{is_some, nat_eq, nat_le, refl, sym, ap, ◌∙◌, arith, ◌==◌, find, list_any, option_map, option_map_or}
+use Words.{and_parts, not-true, length-map, first_where, Request, Owing, Past, set_of, Need, is_idling, needs_from}
+use Words.{next_number, window, window_at, is_dirty, is_hit, free_id, id_of, is_asked_for, is_id_used, is_missing}
+use Words.{is_same_set, is_set_taken, kind_needed, may_upgrade, owed, request_of_kind, want_for, want_of, write_back_of}
+use Words.{OwnRequest, Want, AgentView, is_idle_by, free_id_by, is_id_used_by, is_missing_by, is_silent_by, is_taken_by}
+use Words.{kind_by, missing_by, want_by, want_for_by, HasLinesOf, HasRequestsOf, IsAgentOf, owing_by, IsViewAfterHit}
 use Rattle.fsb_agent_run.proofs.Places.{idle-by, window-by}
 use Rattle.fsb_agent_run.proofs.StatesTold.{met-by}
 use Rattle.fsb_agent_run.proofs.VictimsNamed.{victim-by}

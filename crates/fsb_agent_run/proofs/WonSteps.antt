@@ -1,22 +1,10 @@
 -- Which upgrades were won below a clock, one clock further.
-use Rattle.std.proofs.Common.{ℕ, ◌+◌, ◌<◌, ◌≤◌, ◌≡◌, ◌≢◌, Bool, false, ◌&&◌, Option, Some, None, is_some, length}
-use Rattle.std.proofs.Common.{refl, subst, inl, inr, arith}
-use Rattle.std.proofs.lemmas.Bool.{cases_lt}
-use Rattle.fsb_count.specs.Clocks.{first_where}
-use Rattle.fsb_count.specs.Options.{is_some_and}
-use Rattle.fsb_count.proofs.Interface.{any_where-none, first_where-at, first_where-found, first_where-none}
-use Rattle.fsb_count.proofs.Interface.{first_where-off}
-use Rattle.fsb_timely.specs.Past.{Past, SnoopEnd}
-use Rattle.fsb_timely.specs.Grants.{snooped_at}
-use Rattle.fsb_timely.specs.Moments.{is_snoop_of, is_upgraded}
-use Rattle.fsb_timely.specs.Runs.{Run, past_of}
-use Rattle.fsb_coherent.specs.Awaits.{snoop_end_below}
-use Rattle.fsb_coherent.specs.Relation.{is_snooped_below}
-use Rattle.fsb_coherent.proofs.Interface.{some-there}
-use Rattle.fsb_tied.proofs.Interface.{answers-in-order, none-before, unsnooped-below}
-use Rattle.fsb_run_laws.specs.Reaches.{Reaches}
-use Rattle.fsb_run_laws.proofs.Interface.{snoop-below}
-use Rattle.fsb_agent_run.specs.RunViews.{is_won_below}
+use Rattle.fsb_agent_run.proofs.Words
+use Words.{ℕ, ◌+◌, ◌<◌, ◌≤◌, ◌≡◌, ◌≢◌, Bool, false, ◌&&◌, Option, Some, None, is_some, length, refl, subst, inl, inr}
+use Words.{arith, cases_lt, first_where, is_some_and, any_where-none, first_where-at, first_where-found}
+use Words.{first_where-none, first_where-off, Past, SnoopEnd, snooped_at, is_snoop_of, is_upgraded, Run, past_of}
+use Words.{snoop_end_below, is_snooped_below, some-there, answers-in-order, none-before, unsnooped-below, Reaches}
+use Words.{snoop-below, is_won_below}
 
 -- a clock that does not pass changes nothing
 first-still : (test : ℕ → Bool) (n : ℕ) → test n ≡ false → first_where test (n + 1) ≡ first_where test n

@@ -1,6 +1,5 @@
-use Rattle.std.proofs.Common.{◌+◌}
-use Rattle.fsb_timely.specs.Runs.{past_of}
-use Rattle.fsb_agent_view.specs.Arriving.{line_arrived, upgrade_ended}
+use Rattle.fsb_agent_run.proofs.Words
+use Words.{◌+◌, past_of, line_arrived, upgrade_ended}
 use Rattle.fsb_agent_run.proofs.FewOwed.{within}
 use Rattle.fsb_agent_run.proofs.OwedEnds.{ends-kept, line-owed, upgrade-owed}
 use Rattle.fsb_agent_run.proofs.OwedStages.{fills-after, fills-then}
