@@ -1,14 +1,8 @@
 -- At which clocks of a run requests begin, as the run grows.
-use Rattle.std.proofs.Common.{ℕ, zero, suc, ◌<◌, ◌≡◌, Bool, true, false, Some, [], ◌∷◌, ◌++◌, length, add-one}
-use Rattle.std.proofs.Common.{append-nil, refl, ◌∙◌, arith}
-use Rattle.fsb_count.specs.Clocks.{all_where, last_where}
-use Rattle.fsb_count.proofs.Interface.{all_where-failed, all_where-passed, last_where-failed, last_where-passed}
-use Rattle.fsb_phase_run.proofs.Interface.{agree-grown, longer}
-use Rattle.fsb_signal.specs.declared.lines.TheConstants.Lines.{ADS}
-use Rattle.fsb_signal.specs.Samples.{line_at}
-use Rattle.fsb_timely.specs.Growth.{GrowsTo}
-use Rattle.fsb_timely.specs.Runs.{Run}
-use Rattle.fsb_trace.proofs.Interface.{line_at-agree}
+use Rattle.fsb_bench_run.proofs.Words
+use Words.{ℕ, zero, suc, ◌<◌, ◌≡◌, Bool, true, false, Some, [], ◌∷◌, ◌++◌, length, add-one, append-nil, refl, ◌∙◌}
+use Words.{arith, all_where, last_where, all_where-failed, all_where-passed, last_where-failed, last_where-passed}
+use Words.{agree-grown, longer, ADS, line_at, GrowsTo, Run, line_at-agree}
 
 -- the last clock below n of two tests that agree there
 pub last-same : (p q : ℕ → Bool) (n : ℕ) → ((c : ℕ) → c < n → p c ≡ q c) → last_where p n ≡ last_where q n

@@ -1,14 +1,8 @@
 -- A bench has four agents at each stage of its next clock.
-use Rattle.std.proofs.Common.{ℕ, ◌<◌, ◌≡◌, Bool, Option, List, length, ◌∙◌, arith}
-use Rattle.std.specs.Option.{option_map_or}
-use Rattle.std.proofs.lemmas.Option.{slice_get_within}
-use Rattle.fsb_agent_view.specs.AgentViews.{AgentView}
-use Rattle.fsb_bench_view.specs.declared.decided.Ending.{Ending}
-use Rattle.fsb_bench_view.specs.BenchSteps.{step_answered, step_cancelled, step_decided, step_ended, step_ending}
-use Rattle.fsb_bench_view.specs.BenchSteps.{step_performed, step_started}
-use Rattle.fsb_bench_view.specs.BusEvents.{bus_ended}
-use Rattle.fsb_bench_view.specs.BusViews.{BenchView, BusView, next_clock_of}
-use Rattle.fsb_bench_run.specs.BenchOf.{IsBenchOf}
+use Rattle.fsb_bench_run.proofs.Words
+use Words.{ℕ, ◌<◌, ◌≡◌, Bool, Option, List, length, ◌∙◌, arith, option_map_or, slice_get_within, AgentView, Ending}
+use Words.{step_answered, step_cancelled, step_decided, step_ended, step_ending, step_performed, step_started}
+use Words.{bus_ended, BenchView, BusView, next_clock_of, IsBenchOf}
 use Rattle.fsb_bench_run.proofs.AgentsNow.{length-told}
 use Rattle.fsb_bench_run.proofs.ArrivalsTold.{answered-four, cancelled-many, started-many}
 use Rattle.fsb_bench_run.proofs.BegunEvents.{AgentsAre}

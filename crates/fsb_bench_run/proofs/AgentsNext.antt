@@ -1,34 +1,13 @@
 -- The agents of a bench after a clock are those of the longer run: what ends for them there leads on.
-use Rattle.std.proofs.Common.{ℕ, ◌+◌, ◌<◌, ◌≡◌, ◌⊎◌, Bool, true, false, if◌then◌else◌, Option, List, [], ◌∷◌, fold}
-use Rattle.std.proofs.Common.{length, nat_eq, refl, sym, ap, subst, ◌∙◌, inl, inr, arith}
-use Rattle.std.specs.Option.{option_map_or}
-use Rattle.std.proofs.lemmas.Bool.{both_ways, eq-eqb, eqb-true}
-use Rattle.fsb_agent_run.specs.BytesOwed.{HasBytesOwed}
-use Rattle.fsb_agent_run.specs.Ending.{EndsFor, NothingEndsFor}
-use Rattle.fsb_agent_run.specs.EventsSeen.{may_see}
-use Rattle.fsb_agent_run.specs.Stages.{IsViewAfterSnoop, IsViewOf}
-use Rattle.fsb_agent_run.proofs.Interface.{arrives-seen, given-up-seen, given-up-view, line-owed, line-view}
-use Rattle.fsb_agent_run.proofs.Interface.{quiet-end-view, upgrade-owed, upgrade-seen, upgrade-view}
-use Rattle.fsb_agent_view.specs.AgentEvents.{AgentEvent, Arrived, GivenUp, UpgradeEnded, agent_after}
-use Rattle.fsb_agent_view.specs.AgentViews.{AgentView}
-use Rattle.fsb_agent_view.specs.Arriving.{given_up, line_arrived, upgrade_ended}
-use Rattle.fsb_agent_view.specs.Sound.{IsSound}
-use Rattle.fsb_hazard.specs.declared.choice.Choice.{Choice}
-use Rattle.fsb_phase_run.proofs.Interface.{longer}
-use Rattle.fsb_run_laws.specs.Reaches.{Reaches}
-use Rattle.fsb_timely.specs.Moments.{is_got}
-use Rattle.fsb_timely.specs.Past.{Past}
-use Rattle.fsb_timely.specs.Runs.{Run, past_of}
-use Rattle.fsb_trace.specs.Outcome.{is_deferral}
-use Rattle.fsb_trace.specs.declared.outcome.Outcome.{Outcome}
-use Rattle.fsb_trace.specs.declared.outcome.Outcome.TheVariants.{Granted, Handed, Retried, Deferred, Written, Replied}
-use Rattle.fsb_trace.specs.declared.outcome.Outcome.TheVariants.{Failed, Upgraded}
-use Rattle.fsb_bench_view.specs.declared.decided.Ending.{Ending}
-use Rattle.fsb_bench_view.specs.declared.snoop.Served.{Served}
-use Rattle.fsb_bench_view.specs.BenchSteps.{bench_stepped, step_answered, step_ended, step_entries, step_run}
-use Rattle.fsb_bench_view.specs.BusEvents.{bus_ended, end_event, ended_event}
-use Rattle.fsb_bench_view.specs.BusViews.{BenchView, next_clock_of}
-use Rattle.fsb_bench_run.specs.BenchOf.{HasAgentsOf, IsBenchOf}
+use Rattle.fsb_bench_run.proofs.Words
+use Words.{ℕ, ◌+◌, ◌<◌, ◌≡◌, ◌⊎◌, Bool, true, false, if◌then◌else◌, Option, List, [], ◌∷◌, fold, length, nat_eq, refl}
+use Words.{sym, ap, subst, ◌∙◌, inl, inr, arith, option_map_or, both_ways, eq-eqb, eqb-true, HasBytesOwed, EndsFor}
+use Words.{NothingEndsFor, may_see, IsViewAfterSnoop, IsViewOf, arrives-seen, given-up-seen, given-up-view, line-owed}
+use Words.{line-view, quiet-end-view, upgrade-owed, upgrade-seen, upgrade-view, AgentEvent, Arrived, GivenUp}
+use Words.{UpgradeEnded, agent_after, AgentView, given_up, line_arrived, upgrade_ended, IsSound, Choice, longer}
+use Words.{Reaches, is_got, Past, Run, past_of, is_deferral, Outcome, Granted, Handed, Retried, Deferred, Written}
+use Words.{Replied, Failed, Upgraded, Ending, Served, bench_stepped, step_answered, step_ended, step_entries, step_run}
+use Words.{bus_ended, end_event, ended_event, BenchView, next_clock_of, HasAgentsOf, IsBenchOf}
 use Rattle.fsb_bench_run.proofs.AgentsCounted.{answered-few, ended-four}
 use Rattle.fsb_bench_run.proofs.AgentsOwing.{owed-answered}
 use Rattle.fsb_bench_run.proofs.AgentsSound.{sound-answered, sound-seen}

@@ -1,15 +1,8 @@
 -- The agents of a bench at its next clock: before the hits, and what they answer after them.
-use Rattle.std.proofs.Common.{ℕ, suc, ◌+◌, ◌≡◌, Bool, Option, List, [], ◌∷◌, length, refl, ap, ◌∙◌, arith}
-use Rattle.fsb_access.specs.declared.log.Done.{Done}
-use Rattle.fsb_agent_view.specs.AgentEvents.{AgentEvent}
-use Rattle.fsb_agent_view.specs.AgentViews.{AgentView}
-use Rattle.fsb_agent_run.proofs.Interface.{answer-by}
-use Rattle.fsb_hazard.specs.declared.choice.Choice.{Choice}
-use Rattle.fsb_bench_view.specs.declared.decided.BytesFrom.{BytesFrom}
-use Rattle.fsb_bench_view.specs.BenchSteps.{step_drive, step_fetched}
-use Rattle.fsb_bench_view.specs.BusViews.{BenchView, BusView}
-use Rattle.fsb_bench_view.specs.BytesFetched.{bus_fetched, bytes_source}
-use Rattle.fsb_bench_view.specs.ToldAgents.{agents_told}
+use Rattle.fsb_bench_run.proofs.Words
+use Words.{ℕ, suc, ◌+◌, ◌≡◌, Bool, Option, List, [], ◌∷◌, length, refl, ap, ◌∙◌, arith, Done, AgentEvent, AgentView}
+use Words.{answer-by, Choice, BytesFrom, step_drive, step_fetched, BenchView, BusView, bus_fetched, bytes_source}
+use Words.{agents_told}
 use Rattle.fsb_bench_run.proofs.RunWith.{run_with}
 use Rattle.fsb_bench_run.proofs.SnoopAnswers.{AgentsAnswer}
 use Rattle.fsb_bench_run.proofs.StepWith.{IsStepWith}

@@ -1,35 +1,13 @@
 -- What the agents of a bench owe at the stages of its next clock is what they owe there in the longer run.
-use Rattle.std.proofs.Common.{ℕ, ◌+◌, ◌<◌, ◌≡◌, ◌||◌, Bool, true, false, Option, Some, None, fold, nat_eq, refl, sym}
-use Rattle.std.proofs.Common.{ap, subst, ◌∙◌, inl, inr, arith}
-use Rattle.std.specs.Option.{option_map_or}
-use Rattle.std.proofs.lemmas.Bool.{both_ways, eq-eqb, eqb-true}
-use Rattle.fsb_agent_run.specs.AgentClocks.{number_asked}
-use Rattle.fsb_agent_run.specs.BytesOwed.{HasBytesOwed}
-use Rattle.fsb_agent_run.specs.Stages.{IsViewBeforeSnoop}
-use Rattle.fsb_agent_run.proofs.Interface.{claimed-out, kept-at-response, other-claimed-owed, owed-grown}
-use Rattle.fsb_agent_run.proofs.Interface.{own-owed-then, replied-out, unsettled-owed-after}
-use Rattle.fsb_agent_view.specs.AgentEvents.{HandedOn, Performed, agent_after}
-use Rattle.fsb_agent_view.specs.AgentViews.{AgentView}
-use Rattle.fsb_agent_view.specs.Snooping.{committed}
-use Rattle.fsb_encode.specs.declared.request.Request.{Request}
-use Rattle.fsb_hazard.specs.declared.choice.Choice.{Choice}
-use Rattle.fsb_queue.specs.declared.entry.Entry.{Entry}
-use Rattle.fsb_run_laws.specs.Reaches.{Reaches}
-use Rattle.fsb_run_laws.proofs.Interface.{replied-on}
-use Rattle.fsb_timely.specs.Grants.{snooped_at}
-use Rattle.fsb_timely.specs.Past.{Past, SnoopEnd}
-use Rattle.fsb_timely.specs.Runs.{Run, past_of}
-use Rattle.fsb_trace.specs.declared.outcome.Outcome.{Outcome}
-use Rattle.fsb_trace.specs.declared.outcome.Outcome.TheVariants.{Replied}
-use Rattle.fsb_bench_view.specs.declared.beginning.Starting.{Starting}
-use Rattle.fsb_bench_view.specs.declared.snoop.SnoopSettled.{SnoopSettled}
-use Rattle.fsb_bench_view.specs.BenchSteps.{step_answered, step_cancelled, step_decided, step_drive, step_entries}
-use Rattle.fsb_bench_view.specs.BenchSteps.{step_fetched, step_performed, step_run, step_snooped, step_started}
-use Rattle.fsb_bench_view.specs.BusEvents.{answered_by, bus_cancelled, bus_snooped, bus_started, cancelled_event}
-use Rattle.fsb_bench_view.specs.BusEvents.{snooped_event, starting_event}
-use Rattle.fsb_bench_view.specs.BusViews.{BenchView, BusView, next_clock_of}
-use Rattle.fsb_bench_view.specs.ToldAgents.{for_all}
-use Rattle.fsb_bench_run.specs.BenchOf.{IsBenchOf}
+use Rattle.fsb_bench_run.proofs.Words
+use Words.{ℕ, ◌+◌, ◌<◌, ◌≡◌, ◌||◌, Bool, true, false, Option, Some, None, fold, nat_eq, refl, sym, ap, subst, ◌∙◌, inl}
+use Words.{inr, arith, option_map_or, both_ways, eq-eqb, eqb-true, number_asked, HasBytesOwed, IsViewBeforeSnoop}
+use Words.{claimed-out, kept-at-response, other-claimed-owed, owed-grown, own-owed-then, replied-out}
+use Words.{unsettled-owed-after, HandedOn, Performed, agent_after, AgentView, committed, Request, Choice, Entry}
+use Words.{Reaches, replied-on, snooped_at, Past, SnoopEnd, Run, past_of, Outcome, Replied, Starting, SnoopSettled}
+use Words.{step_answered, step_cancelled, step_decided, step_drive, step_entries, step_fetched, step_performed}
+use Words.{step_run, step_snooped, step_started, answered_by, bus_cancelled, bus_snooped, bus_started, cancelled_event}
+use Words.{snooped_event, starting_event, BenchView, BusView, next_clock_of, for_all, IsBenchOf}
 use Rattle.fsb_bench_run.proofs.AgentsCounted.{cancelled-few}
 use Rattle.fsb_bench_run.proofs.BegunEvents.{AgentsAre, told-each, views-cancelled}
 use Rattle.fsb_bench_run.proofs.FetchCases.{fetch-cases}

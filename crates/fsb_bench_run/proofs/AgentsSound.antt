@@ -1,38 +1,15 @@
 -- The agents of a bench are sound at the stages of its next clock.
-use Rattle.std.proofs.Common.{ℕ, ◌+◌, ◌<◌, ◌≡◌, ◌||◌, Bool, true, false, if◌then◌else◌, Option, Some, None, List, []}
-use Rattle.std.proofs.Common.{◌∷◌, fold, is_some, nat_eq, refl, sym, ap, subst, ◌∙◌, inl, inr, arith}
-use Rattle.std.specs.Option.{option_map, option_map_or}
-use Rattle.std.proofs.lemmas.Bool.{eqb-true}
-use Rattle.fsb_agent_run.specs.AgentClocks.{cancelled_events, given_up_events, number_asked, sent_events}
-use Rattle.fsb_agent_run.specs.BytesOwed.{HasBytesOwed}
-use Rattle.fsb_agent_run.specs.EventsSeen.{may_see, may_see_all}
-use Rattle.fsb_agent_run.specs.Stages.{IsViewAfterHit, IsViewAfterSent, IsViewBeforeSnoop}
-use Rattle.fsb_agent_run.proofs.Interface.{cancelled-seen, claimed-out, other-may, own-seen, replied-out, send-may}
-use Rattle.fsb_agent_run.proofs.Interface.{sound-all}
-use Rattle.fsb_agent_view.specs.AgentEvents.{AgentEvent, Committed, GivenUp, HandedOn, Performed, Sent, agent_after}
-use Rattle.fsb_agent_view.specs.AgentViews.{AgentView}
-use Rattle.fsb_agent_view.specs.Snooping.{may_commit}
-use Rattle.fsb_agent_view.specs.Sound.{IsSound}
-use Rattle.fsb_agent_view.proofs.Interface.{sound_handed}
-use Rattle.fsb_coherent.specs.Awaits.{cancelled_in}
-use Rattle.fsb_hazard.specs.declared.choice.Choice.{Choice}
-use Rattle.fsb_queue.specs.declared.entry.Entry.{Entry}
-use Rattle.fsb_run_laws.specs.Reaches.{Reaches}
-use Rattle.fsb_timely.specs.Grants.{begun_at}
-use Rattle.fsb_timely.specs.Past.{Claim}
-use Rattle.fsb_timely.specs.Runs.{Run, past_of}
-use Rattle.fsb_bench_view.specs.declared.beginning.Starting.{Starting}
-use Rattle.fsb_bench_view.specs.declared.decided.BytesFrom.{BytesFrom}
-use Rattle.fsb_bench_view.specs.declared.decided.BytesFrom.TheVariants.{Memory, Agents}
-use Rattle.fsb_bench_view.specs.declared.snoop.SnoopSettled.{SnoopSettled}
-use Rattle.fsb_bench_view.specs.BenchSteps.{step_answered, step_cancelled, step_decided, step_drive, step_entries}
-use Rattle.fsb_bench_view.specs.BenchSteps.{step_fetched, step_performed, step_run, step_snooped, step_started}
-use Rattle.fsb_bench_view.specs.BusEvents.{answered_by, bus_cancelled, bus_snooped, bus_started, cancelled_event}
-use Rattle.fsb_bench_view.specs.BusEvents.{snooped_event, starting_event}
-use Rattle.fsb_bench_view.specs.BusViews.{BenchView, BusView, next_clock_of}
-use Rattle.fsb_bench_view.specs.BytesFetched.{bus_fetched, bytes_source}
-use Rattle.fsb_bench_view.specs.ToldAgents.{for_all}
-use Rattle.fsb_bench_run.specs.BenchOf.{IsBegunAt, IsBenchOf}
+use Rattle.fsb_bench_run.proofs.Words
+use Words.{ℕ, ◌+◌, ◌<◌, ◌≡◌, ◌||◌, Bool, true, false, if◌then◌else◌, Option, Some, None, List, [], ◌∷◌, fold, is_some}
+use Words.{nat_eq, refl, sym, ap, subst, ◌∙◌, inl, inr, arith, option_map, option_map_or, eqb-true, cancelled_events}
+use Words.{given_up_events, number_asked, sent_events, HasBytesOwed, may_see, may_see_all, IsViewAfterHit}
+use Words.{IsViewAfterSent, IsViewBeforeSnoop, cancelled-seen, claimed-out, other-may, own-seen, replied-out, send-may}
+use Words.{sound-all, AgentEvent, Committed, GivenUp, HandedOn, Performed, Sent, agent_after, AgentView, may_commit}
+use Words.{IsSound, sound_handed, cancelled_in, Choice, Entry, Reaches, begun_at, Claim, Run, past_of, Starting}
+use Words.{BytesFrom, Memory, Agents, SnoopSettled, step_answered, step_cancelled, step_decided, step_drive}
+use Words.{step_entries, step_fetched, step_performed, step_run, step_snooped, step_started, answered_by, bus_cancelled}
+use Words.{bus_snooped, bus_started, cancelled_event, snooped_event, starting_event, BenchView, BusView, next_clock_of}
+use Words.{bus_fetched, bytes_source, for_all, IsBegunAt, IsBenchOf}
 use Rattle.fsb_bench_run.proofs.AgentsOwing.{owed-cancelled}
 use Rattle.fsb_bench_run.proofs.BegunEvents.{AgentsAre, begun-nothing, cancel-events, cancelled-entry, cancelled-now}
 use Rattle.fsb_bench_run.proofs.BegunEvents.{start-events, started-views, told-each, views-cancelled}

@@ -1,19 +1,10 @@
 -- The agents of a bench after what is told to them.
-use Rattle.std.proofs.Common.{ℕ, zero, suc, ◌+◌, ◌≡◌, Option, Some, None, List, [], ◌∷◌, fold, slice_get, refl, ap}
-use Rattle.std.proofs.Common.{◌∙◌, arith}
-use Rattle.std.specs.Option.{option_map}
-use Rattle.fsb_agent_view.specs.AgentEvents.{AgentEvent, HandedOn, Performed, agent_after}
-use Rattle.fsb_agent_view.specs.AgentViews.{AgentView}
-use Rattle.fsb_agent_view.specs.Arriving.{handed_on}
-use Rattle.fsb_agent_view.specs.Completing.{performed}
-use Rattle.fsb_agent_run.specs.Stages.{IsViewOf}
-use Rattle.fsb_timely.specs.Past.{Past}
-use Rattle.fsb_bench_view.specs.declared.decided.BytesFrom.{BytesFrom}
-use Rattle.fsb_bench_view.specs.declared.decided.BytesFrom.TheVariants.{Memory, Agents}
-use Rattle.fsb_bench_view.specs.BenchSteps.{step_drive, step_fetched, step_performed}
-use Rattle.fsb_bench_view.specs.BusViews.{BenchView, BusView, next_clock_of}
-use Rattle.fsb_bench_view.specs.BytesFetched.{bus_fetched, bytes_source}
-use Rattle.fsb_bench_view.specs.ToldAgents.{agents_told, for_all}
+use Rattle.fsb_bench_run.proofs.Words
+use Words.{ℕ, zero, suc, ◌+◌, ◌≡◌, Option, Some, None, List, [], ◌∷◌, fold, refl, ap, ◌∙◌, arith, option_map}
+use Words.{AgentEvent, HandedOn, Performed, agent_after, AgentView, handed_on, performed, IsViewOf, Past, BytesFrom}
+use Words.{Memory, Agents, step_drive, step_fetched, step_performed, BenchView, BusView, next_clock_of, bus_fetched}
+use Words.{bytes_source, agents_told, for_all}
+use Rattle.std.proofs.Common.{slice_get}
 
 -- an agent after its events
 pub told-at : (events : ℕ → List AgentEvent) (n : ℕ) (agents : List AgentView) (k : ℕ)

@@ -1,8 +1,6 @@
 -- What an agent completes where its line comes is what the run completes by an arrival there.
-use Rattle.std.proofs.Common.{ℕ, ◌≡◌, true, false, arith}
-use Rattle.fsb_timely.specs.Completions.{is_arrival}
-use Rattle.fsb_timely.specs.Hits.{is_hit}
-use Rattle.fsb_timely.specs.Past.{Past}
+use Rattle.fsb_bench_run.proofs.Words
+use Words.{ℕ, ◌≡◌, true, false, arith, is_arrival, is_hit, Past}
 
 -- an arrival is no hit
 pub arrival-unhit : (p : Past) (a n : ℕ) → is_arrival p a n ≡ true → is_hit p a n ≡ false

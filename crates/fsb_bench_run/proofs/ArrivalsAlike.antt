@@ -1,20 +1,10 @@
 -- What arrivals complete at a bench's clock does not rest on the entries that are logged there.
-use Rattle.std.proofs.Common.{ℕ, ◌≡◌, ◌&&◌, ◌||◌, ◌++◌, Bool, not, nat_eq, List, [], ◌∷◌, refl, sym, ap, ◌∙◌, arith}
-use Rattle.std.specs.List.{list_all, list_any}
-use Rattle.std.specs.Option.{option_map_or}
-use Rattle.fsb_access.specs.declared.log.Done.{Done}
-use Rattle.fsb_count.specs.Options.{is_some_and}
-use Rattle.fsb_hazard.specs.declared.choice.Choice.{Choice}
-use Rattle.fsb_timely.specs.Completions.{completed_if, completed_of_item, completes_by, is_arrival, is_brought}
-use Rattle.fsb_timely.specs.Completions.{is_there, next_accesses, of_all_agents}
-use Rattle.fsb_timely.specs.Growth.{GoesOn, GrowsTo, IsWhole, moment_at_growth, past_at_growth}
-use Rattle.fsb_timely.specs.Past.{Past}
-use Rattle.fsb_timely.specs.Runs.{past_of}
-use Rattle.fsb_timely.specs.Scripts.{Need, needs_of}
-use Rattle.fsb_timely.specs.Timely.{Timely}
-use Rattle.fsb_timely.proofs.Interface.{is_hit-alike, is_idling-alike, moments-grow, next_item-alike}
-use Rattle.fsb_timely.proofs.Interface.{next_number-alike, past-goes_on}
-use Rattle.fsb_bench_view.specs.BusViews.{BenchView, next_clock_of}
+use Rattle.fsb_bench_run.proofs.Words
+use Words.{ℕ, ◌≡◌, ◌&&◌, ◌||◌, ◌++◌, Bool, not, nat_eq, List, [], ◌∷◌, refl, sym, ap, ◌∙◌, arith, list_all, list_any}
+use Words.{option_map_or, Done, is_some_and, Choice, completed_if, completed_of_item, completes_by, is_arrival}
+use Words.{is_brought, is_there, next_accesses, of_all_agents, GoesOn, GrowsTo, IsWhole, moment_at_growth}
+use Words.{past_at_growth, Past, past_of, Need, needs_of, Timely, is_hit-alike, is_idling-alike, moments-grow}
+use Words.{next_item-alike, next_number-alike, past-goes_on, BenchView, next_clock_of}
 use Rattle.fsb_bench_run.proofs.CompletionsNow.{arrivals_at}
 use Rattle.fsb_bench_run.proofs.LogsApart.{brought-same, moment-same, there-same}
 use Rattle.fsb_bench_run.proofs.RunWith.{run_with}

@@ -1,10 +1,7 @@
 -- What arrivals complete at a bench's clock: nothing where nothing ends, and of the agent whose request ends alone.
-use Rattle.std.proofs.Common.{ℕ, ◌+◌, ◌<◌, ◌≡◌, ◌≢◌, List, [], append-nil, ◌∙◌, arith}
-use Rattle.fsb_agent_run.specs.Ending.{NothingEndsFor}
-use Rattle.fsb_agent_run.proofs.Interface.{no-arrival, nothing-granted}
-use Rattle.fsb_run_laws.specs.Reaches.{Reaches}
-use Rattle.fsb_timely.specs.Completions.{Completed, completed_if, is_arrival, of_all_agents}
-use Rattle.fsb_timely.specs.Runs.{Run, past_of}
+use Rattle.fsb_bench_run.proofs.Words
+use Words.{ℕ, ◌+◌, ◌<◌, ◌≡◌, ◌≢◌, List, [], append-nil, ◌∙◌, arith, NothingEndsFor, no-arrival, nothing-granted}
+use Words.{Reaches, Completed, completed_if, is_arrival, of_all_agents, Run, past_of}
 use Rattle.fsb_bench_run.proofs.CompletionsNow.{arrivals_at}
 
 -- an agent for which nothing ends completes nothing by an arrival

@@ -1,22 +1,10 @@
 -- The entries of the end of a bench's clock are what the run completes by arrivals there.
-use Rattle.std.proofs.Common.{ℕ, ◌+◌, ◌≡◌, Bool, Option, List, [], length, map, sym, ap, ◌∙◌, arith, inl, inr}
-use Rattle.std.specs.Option.{option_map_or}
-use Rattle.fsb_access.specs.declared.log.Done.{Done}
-use Rattle.fsb_hazard.specs.declared.choice.Choice.{Choice}
-use Rattle.fsb_lawful.proofs.Interface.{get-there}
-use Rattle.fsb_queue.specs.declared.entry.Entry.{Entry}
-use Rattle.fsb_run_laws.specs.Reaches.{Reaches}
-use Rattle.fsb_tied.proofs.Interface.{winner-four}
-use Rattle.fsb_timely.specs.Completions.{completed_if, is_arrival}
-use Rattle.fsb_timely.specs.Runs.{past_of}
-use Rattle.fsb_bench_view.specs.declared.beginning.Starting.{Starting}
-use Rattle.fsb_bench_view.specs.declared.snoop.SnoopSettled.{SnoopSettled}
-use Rattle.fsb_bench_view.specs.BenchSteps.{step_answered, step_cancelled, step_decided, step_drive, step_ending}
-use Rattle.fsb_bench_view.specs.BenchSteps.{step_performed, step_snooped, step_started}
-use Rattle.fsb_bench_view.specs.BusEvents.{answered_by, bus_answered, bus_cancelled, bus_snooped, bus_started}
-use Rattle.fsb_bench_view.specs.BusEvents.{end_entries, entries_ended}
-use Rattle.fsb_bench_view.specs.BusViews.{BenchView, BusView, next_clock_of}
-use Rattle.fsb_bench_run.specs.BenchOf.{IsBenchOf}
+use Rattle.fsb_bench_run.proofs.Words
+use Words.{ℕ, ◌+◌, ◌≡◌, Bool, Option, List, [], length, map, sym, ap, ◌∙◌, arith, inl, inr, option_map_or, Done, Choice}
+use Words.{get-there, Entry, Reaches, winner-four, completed_if, is_arrival, past_of, Starting, SnoopSettled}
+use Words.{step_answered, step_cancelled, step_decided, step_drive, step_ending, step_performed, step_snooped}
+use Words.{step_started, answered_by, bus_answered, bus_cancelled, bus_snooped, bus_started, end_entries, entries_ended}
+use Words.{BenchView, BusView, next_clock_of, IsBenchOf}
 use Rattle.fsb_bench_run.proofs.AgentsNow.{length-told}
 use Rattle.fsb_bench_run.proofs.ArrivalsNow.{arrivals-none, one-list, quiet-completes}
 use Rattle.fsb_bench_run.proofs.CompletionsNow.{arrivals_at}

@@ -1,36 +1,13 @@
 -- What is asked for at the clock: the wants of the agents after their hits, and the reply that is due.
-use Rattle.std.proofs.Common.{ℕ, suc, ◌+◌, ◌<◌, ◌≡◌, Bool, false, Option, Some, None, List, [], ◌∷◌, slice_get}
-use Rattle.std.proofs.Common.{if◌then◌else◌, refl, sym, ap, subst, ◌∙◌, arith}
-use Rattle.std.specs.Option.{option_and_then, option_map, option_map_or}
-use Rattle.std.proofs.lemmas.Bool.{eq-eqb, lt-leb}
-use Rattle.fsb_access.specs.declared.log.Done.{Done}
-use Rattle.fsb_agent_view.specs.AgentViews.{AgentView}
+use Rattle.fsb_bench_run.proofs.Words
+use Words.{ℕ, suc, ◌+◌, ◌<◌, ◌≡◌, Bool, false, Option, Some, None, List, [], ◌∷◌, if◌then◌else◌, refl, sym, ap, subst}
+use Words.{◌∙◌, arith, option_and_then, option_map, option_map_or, eq-eqb, lt-leb, Done, AgentView, Want, IsThatOf}
+use Words.{Bridged, due_deferral, ShowsBegun, grown-due, shows-second, last_where, pairs_of, Choice, ADS, line_at}
+use Words.{wants_lock, past_of, due_number, want_of, Who, locked-by, want-by, get-there, Latest, Starting, step_decided}
+use Words.{step_performed, was_held_at, want_at, pair_driven, is_spaced_by, may_start, starting_for, want_in, BenchView}
+use Words.{BusView, next_clock_of, IsBenchOf, longer}
+use Rattle.std.proofs.Common.{slice_get}
 use Rattle.fsb_agent_view.specs.Wanting.{want_by}
-use Rattle.fsb_agent_view.specs.declared.want.Want.{Want}
-use Rattle.fsb_bridge.specs.DeferralList.{IsThatOf}
-use Rattle.fsb_bridge.specs.Deferrals.{Bridged, due_deferral}
-use Rattle.fsb_bridge_run.specs.RunDeferrals.{ShowsBegun}
-use Rattle.fsb_bridge_run.proofs.Interface.{grown-due, shows-second}
-use Rattle.fsb_count.specs.Clocks.{last_where}
-use Rattle.fsb_encode.specs.Request.{pairs_of}
-use Rattle.fsb_hazard.specs.declared.choice.Choice.{Choice}
-use Rattle.fsb_signal.specs.declared.lines.TheConstants.Lines.{ADS}
-use Rattle.fsb_signal.specs.Samples.{line_at}
-use Rattle.fsb_timely.specs.BusLock.{wants_lock}
-use Rattle.fsb_timely.specs.Runs.{past_of}
-use Rattle.fsb_timely.specs.Starts.{due_number}
-use Rattle.fsb_timely.specs.Wants.{want_of}
-use Rattle.fsb_trace.specs.declared.who.Who.{Who}
-use Rattle.fsb_agent_run.proofs.Interface.{locked-by, want-by}
-use Rattle.fsb_lawful.proofs.Interface.{get-there}
-use Rattle.fsb_bench_view.specs.declared.beginning.Latest.{Latest}
-use Rattle.fsb_bench_view.specs.declared.beginning.Starting.{Starting}
-use Rattle.fsb_bench_view.specs.BenchSteps.{step_decided, step_performed, was_held_at}
-use Rattle.fsb_bench_view.specs.BusDecisions.{want_at}
-use Rattle.fsb_bench_view.specs.BusSample.{pair_driven}
-use Rattle.fsb_bench_view.specs.BusStarting.{is_spaced_by, may_start, starting_for, want_in}
-use Rattle.fsb_bench_view.specs.BusViews.{BenchView, BusView, next_clock_of}
-use Rattle.fsb_bench_run.specs.BenchOf.{IsBenchOf}
 use Rattle.fsb_bench_run.proofs.AgentsTold.{performed-there}
 use Rattle.fsb_bench_run.proofs.BegunStays.{begun-lawful, begun-request, begun-stays}
 use Rattle.fsb_bench_run.proofs.PairWords.{begun-before, lawful-fits, last-at, pair-shown}
@@ -38,7 +15,6 @@ use Rattle.fsb_bench_run.proofs.RunWith.{run_with}
 use Rattle.fsb_bench_run.proofs.SameBus.{same-performed}
 use Rattle.fsb_bench_run.proofs.StepFields.{performed-begun}
 use Rattle.fsb_bench_run.proofs.StepWith.{IsStepWith}
-use Rattle.fsb_phase_run.proofs.Interface.{longer}
 
 agent-there : (v : BenchView) (a : ℕ) → IsBenchOf v → a < 4
     → (w : AgentView) × (slice_get (step_performed v).agents a ≡ Some w)

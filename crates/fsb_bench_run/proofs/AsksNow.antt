@@ -1,39 +1,13 @@
 -- The request lines of the clock are as they must.
-use Rattle.std.proofs.Common.{ℕ, zero, suc, ◌+◌, ◌-◌, ◌<◌, ◌≤◌, ◌≡◌, ◌&&◌, ◌==◌, Bool, true, false, not, is_some}
-use Rattle.std.proofs.Common.{Option, Some, None, List, length, refl, sym, ap, ◌∙◌, arith}
-use Rattle.std.specs.Option.{option_map}
-use Rattle.std.proofs.lemmas.Bool.{and_from, eqb-false, eqb-true, false_from_ne_true}
-use Rattle.fsb_access.specs.declared.log.Done.{Done}
-use Rattle.fsb_agent_view.specs.declared.want.Want.{Want}
-use Rattle.fsb_bridge.specs.declared.deferral.Deferral.{Deferral}
-use Rattle.fsb_bridge.specs.DeferralList.{IsThatOf}
-use Rattle.fsb_count.specs.Clocks.{each_where, last_where}
-use Rattle.fsb_count.specs.Options.{is_some_and}
-use Rattle.fsb_count.proofs.Interface.{each_where-all}
-use Rattle.fsb_bridge_run.specs.RunDeferrals.{ShowsBegun}
-use Rattle.fsb_encode.specs.declared.request.Request.{Request}
-use Rattle.fsb_lawful.specs.Beginning.{KeepsBounds}
-use Rattle.fsb_lawful.proofs.Interface.{want-own}
-use Rattle.fsb_hazard.specs.declared.choice.Choice.{Choice}
-use Rattle.fsb_signal.specs.declared.lines.TheConstants.Lines.{ADS, BPRI, BREQ0, BREQ1, BREQ2, BREQ3}
-use Rattle.fsb_signal.specs.Samples.{line_at}
-use Rattle.fsb_timely.specs.Growth.{GrowsTo}
-use Rattle.fsb_timely.specs.Runs.{Run, past_of, past_to}
-use Rattle.fsb_timely.specs.Timely.{holds_at}
-use Rattle.fsb_timely.specs.Starts.{asks_for_bus, asks_for_priority, began_before, drives_request_lines, due_number}
-use Rattle.fsb_timely.specs.Starts.{reply_before, reply_to, would_begin}
-use Rattle.fsb_timely.specs.Wants.{want_of}
-use Rattle.fsb_trace.specs.At.{Trace, line_back, request_at}
-use Rattle.fsb_trace.specs.Requests.{is_reply, is_reply_kind}
-use Rattle.fsb_trace.specs.Winner.{begins_at, bus_request_of, is_agent, is_same_agent, winner_at}
-use Rattle.fsb_trace.specs.declared.who.Who.{Who}
-use Rattle.fsb_trace.specs.declared.who.Who.TheVariants.{Symmetric, Priority}
-use Rattle.fsb_bench_view.specs.declared.beginning.Latest.{Latest}
-use Rattle.fsb_bench_view.specs.BenchSteps.{step_decided, step_performed}
-use Rattle.fsb_bench_view.specs.BusSample.{began_by, is_asking, is_bridge_asking, is_same_who}
-use Rattle.fsb_bench_view.specs.BusStarting.{want_in}
-use Rattle.fsb_bench_view.specs.BusViews.{BenchView, next_clock_of}
-use Rattle.fsb_bench_run.specs.BenchOf.{IsBegunAt, IsLatestOf}
+use Rattle.fsb_bench_run.proofs.Words
+use Words.{ℕ, zero, suc, ◌+◌, ◌-◌, ◌<◌, ◌≤◌, ◌≡◌, ◌&&◌, ◌==◌, Bool, true, false, not, is_some, Option, Some, None, List}
+use Words.{length, refl, sym, ap, ◌∙◌, arith, option_map, and_from, eqb-false, eqb-true, false_from_ne_true, Done, Want}
+use Words.{Deferral, IsThatOf, each_where, last_where, is_some_and, each_where-all, ShowsBegun, Request, KeepsBounds}
+use Words.{want-own, Choice, ADS, BPRI, BREQ0, BREQ1, BREQ2, BREQ3, line_at, GrowsTo, Run, past_of, past_to, holds_at}
+use Words.{asks_for_bus, asks_for_priority, began_before, drives_request_lines, due_number, reply_before, reply_to}
+use Words.{would_begin, want_of, Trace, line_back, request_at, is_reply, is_reply_kind, begins_at, bus_request_of}
+use Words.{is_agent, is_same_agent, winner_at, Who, Symmetric, Priority, Latest, step_decided, step_performed, began_by}
+use Words.{is_asking, is_bridge_asking, is_same_who, want_in, BenchView, next_clock_of, IsBegunAt, IsLatestOf}
 use Rattle.fsb_bench_run.proofs.AdsGrown.{ads-old}
 use Rattle.fsb_bench_run.proofs.AskedNow.{due-told, shows-now, wants-told}
 use Rattle.fsb_bench_run.proofs.BegunStays.{begun-request, begun-stays}

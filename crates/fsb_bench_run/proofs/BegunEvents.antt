@@ -1,46 +1,16 @@
 -- What a bench tells its agents of the request that begins, and of the one that is cancelled, is what happens to
 -- them in its run.
-use Rattle.std.proofs.Common.{ℕ, ◌+◌, ◌-◌, ◌/◌, ◌<◌, ◌≡◌, ◌&&◌, Bool, true, false, Option, Some, None, List, [], ◌∷◌}
-use Rattle.std.proofs.Common.{fold, length, nat_eq, nat_le, is_some, if◌then◌else◌, refl, sym, ap, subst, ◌∙◌, arith}
-use Rattle.std.proofs.Common.{inl, inr}
-use Rattle.std.specs.List.{find, slice_get}
-use Rattle.std.specs.Option.{option_map, option_map_or}
-use Rattle.std.proofs.lemmas.Bool.{and_parts, eqb-true, le-leb}
-use Rattle.fsb_access.specs.declared.log.Done.{Done}
-use Rattle.fsb_agent_run.specs.AgentClocks.{cancelled_events, given_up_events, sent_events}
-use Rattle.fsb_agent_run.specs.Stages.{IsViewAfterHit, IsViewAfterSent, IsViewBeforeSnoop}
-use Rattle.fsb_agent_run.proofs.Interface.{cancelled-all, sent-all}
-use Rattle.fsb_agent_view.specs.AgentEvents.{AgentEvent, GivenUp, Sent, agent_after}
-use Rattle.fsb_agent_view.specs.AgentViews.{AgentView}
-use Rattle.fsb_coherent.specs.Awaits.{cancelled_in}
-use Rattle.fsb_count.proofs.Interface.{nat_eq-sym}
-use Rattle.fsb_encode.specs.declared.request.Request.{Request}
-use Rattle.fsb_hazard.specs.declared.choice.Choice.{Choice}
-use Rattle.fsb_laws.proofs.Interface.{is_live-ads}
-use Rattle.fsb_lawful.proofs.Interface.{get-there}
-use Rattle.fsb_phase.proofs.Interface.{find-cases, find-off, find-place}
-use Rattle.fsb_phase_run.proofs.Interface.{agree-grown, longer}
-use Rattle.fsb_queue.specs.declared.entry.Entry.{Entry}
-use Rattle.fsb_run_laws.specs.Reaches.{Reaches}
-use Rattle.fsb_signal.specs.declared.lines.TheConstants.Lines.{ADS, AERR}
-use Rattle.fsb_signal.specs.Samples.{line_at}
-use Rattle.fsb_timely.specs.Grants.{begun_at}
-use Rattle.fsb_timely.specs.Moments.{cancelled_at, claim_at, agent_at}
-use Rattle.fsb_timely.specs.Past.{Claim, Past}
-use Rattle.fsb_timely.specs.Runs.{Run, past_of}
-use Rattle.fsb_timely.proofs.Interface.{begun-told, cancelled-told}
-use Rattle.fsb_trace.specs.At.{Trace}
-use Rattle.fsb_trace.specs.Winner.{winner_at}
-use Rattle.fsb_trace.specs.declared.who.Who.{Who}
-use Rattle.fsb_trace.specs.declared.who.Who.TheVariants.{Symmetric, Priority}
-use Rattle.fsb_trace.proofs.Interface.{line_at-agree}
-use Rattle.fsb_bench_view.specs.declared.beginning.Starting.{Starting}
-use Rattle.fsb_bench_view.specs.BenchSteps.{step_cancelled, step_decided, step_performed, step_started}
-use Rattle.fsb_bench_view.specs.BusDecisions.{is_cancelled_by}
-use Rattle.fsb_bench_view.specs.BusEvents.{bus_cancelled, bus_started, cancelled_event, starting_event}
-use Rattle.fsb_bench_view.specs.BusViews.{BenchView, BusView, next_clock_of}
-use Rattle.fsb_bench_view.specs.ToldAgents.{agents_told}
-use Rattle.fsb_bench_run.specs.BenchOf.{IsBegunAt}
+use Rattle.fsb_bench_run.proofs.Words
+use Words.{ℕ, ◌+◌, ◌-◌, ◌/◌, ◌<◌, ◌≡◌, ◌&&◌, Bool, true, false, Option, Some, None, List, [], ◌∷◌, fold, length, nat_eq}
+use Words.{nat_le, is_some, if◌then◌else◌, refl, sym, ap, subst, ◌∙◌, arith, inl, inr, find, slice_get, option_map}
+use Words.{option_map_or, and_parts, eqb-true, le-leb, Done, cancelled_events, given_up_events, sent_events}
+use Words.{IsViewAfterHit, IsViewAfterSent, IsViewBeforeSnoop, cancelled-all, sent-all, AgentEvent, GivenUp, Sent}
+use Words.{agent_after, AgentView, cancelled_in, nat_eq-sym, Request, Choice, is_live-ads, get-there, find-cases}
+use Words.{find-off, find-place, agree-grown, longer, Entry, Reaches, ADS, AERR, line_at, begun_at, cancelled_at}
+use Words.{claim_at, agent_at, Claim, Past, Run, past_of, begun-told, cancelled-told, Trace, winner_at, Who, Symmetric}
+use Words.{Priority, line_at-agree, Starting, step_cancelled, step_decided, step_performed, step_started}
+use Words.{is_cancelled_by, bus_cancelled, bus_started, cancelled_event, starting_event, BenchView, BusView}
+use Words.{next_clock_of, agents_told, IsBegunAt}
 use Rattle.fsb_bench_run.proofs.AgentsTold.{told-at}
 use Rattle.fsb_bench_run.proofs.BegunStays.{begun-stays}
 use Rattle.fsb_bench_run.proofs.DrivenLines.{aerr-driven, line-with}

@@ -1,20 +1,8 @@
 -- The request that began at a clock of a run is decoded there, as soon as its second clock is there; and it stays.
-use Rattle.std.proofs.Common.{ℕ, suc, ◌+◌, ◌<◌, ◌≡◌, true, Some, length, sym, ◌∙◌, arith}
-use Rattle.fsb_encode.specs.declared.request.Request.{Request}
-use Rattle.fsb_encode.specs.Request.{is_lawful_request}
-use Rattle.fsb_signal.specs.declared.lines.TheConstants.Lines.{ADS}
-use Rattle.fsb_trace.specs.At.{request_at}
-use Rattle.fsb_trace.specs.declared.who.Who.{Who}
-use Rattle.fsb_trace.proofs.Interface.{line_at-agree, request_at-agree, winner_at-agree}
-use Rattle.fsb_timely.specs.Growth.{GrowsTo}
-use Rattle.fsb_timely.specs.Runs.{Run, run_to}
-use Rattle.fsb_timely.specs.Starts.{request_begun}
-use Rattle.fsb_timely.specs.Timely.{Timely}
-use Rattle.fsb_timely.proofs.Interface.{run_to-agrees}
-use Rattle.fsb_lawful.specs.Beginning.{KeepsBounds}
-use Rattle.fsb_lawful.proofs.Interface.{begun-decoded, begun_of, wants-lawfully}
-use Rattle.fsb_phase_run.proofs.Interface.{agree-grown}
-use Rattle.fsb_bench_run.specs.BenchOf.{IsBegunAt}
+use Rattle.fsb_bench_run.proofs.Words
+use Words.{ℕ, suc, ◌+◌, ◌<◌, ◌≡◌, true, Some, length, sym, ◌∙◌, arith, Request, is_lawful_request, ADS, request_at, Who}
+use Words.{line_at-agree, request_at-agree, winner_at-agree, GrowsTo, Run, run_to, request_begun, Timely, run_to-agrees}
+use Words.{KeepsBounds, begun-decoded, begun_of, wants-lawfully, agree-grown, IsBegunAt}
 
 -- what began is what the winner would begin
 pub begun-is : (r : Run) (q : ℕ) (who : Who) (request : Request) → q < length r.trace → IsBegunAt r q who request

@@ -1,19 +1,9 @@
 -- A request that has begun stays as a run grows, and is lawful.
-use Rattle.std.proofs.Common.{ℕ, ◌<◌, ◌≡◌, true, Some, length, arith}
-use Rattle.std.proofs.lemmas.List.{take-append-le}
-use Rattle.fsb_encode.specs.declared.request.Request.{Request}
-use Rattle.fsb_encode.specs.Request.{is_lawful_request}
-use Rattle.fsb_lawful.specs.Beginning.{KeepsBounds}
-use Rattle.fsb_lawful.proofs.Interface.{wants-lawfully, run_to-agrees}
-use Rattle.fsb_phase_run.proofs.Interface.{agree-grown}
-use Rattle.fsb_timely.specs.Growth.{GrowsTo, IsWhole}
-use Rattle.fsb_timely.specs.Past.{Past}
-use Rattle.fsb_timely.specs.Runs.{Run, past_of, past_to, run_to}
-use Rattle.fsb_timely.specs.Starts.{due_number, request_begun, would_begin}
-use Rattle.fsb_timely.proofs.Interface.{past-same}
-use Rattle.fsb_trace.specs.declared.who.Who.{Who}
-use Rattle.fsb_trace.proofs.Interface.{line_at-agree, winner_at-agree}
-use Rattle.fsb_bench_run.specs.BenchOf.{IsBegunAt}
+use Rattle.fsb_bench_run.proofs.Words
+use Words.{ℕ, ◌<◌, ◌≡◌, true, Some, length, arith, take-append-le, Request, is_lawful_request, KeepsBounds}
+use Words.{wants-lawfully, agree-grown, GrowsTo, IsWhole, Past, Run, past_of, past_to, run_to, due_number}
+use Words.{request_begun, would_begin, past-same, Who, line_at-agree, winner_at-agree, IsBegunAt}
+use Rattle.fsb_lawful.proofs.Interface.{run_to-agrees}
 
 pub before-growth : (r s : Run) → GrowsTo r s → IsWhole r
 before-growth r s grows = record { one_hold = grows.timely.one_hold; one_choice = grows.timely.one_choice }

@@ -1,10 +1,8 @@
 -- The bench after a clock stands for its longer run, where the agents, the bridge and what is served are those of that
 -- run.
-use Rattle.std.proofs.Common.{Bool}
-use Rattle.fsb_hazard.specs.declared.choice.Choice.{Choice}
-use Rattle.fsb_bench_view.specs.BenchSteps.{bench_stepped, step_entries, step_queue, step_run}
-use Rattle.fsb_bench_view.specs.BusViews.{BenchView}
-use Rattle.fsb_bench_run.specs.BenchOf.{HasAgentsOf, HasBridgeOf, HasServed, IsBenchOf}
+use Rattle.fsb_bench_run.proofs.Words
+use Words.{Bool, Choice, bench_stepped, step_entries, step_queue, step_run, BenchView, HasAgentsOf, HasBridgeOf}
+use Words.{HasServed, IsBenchOf}
 use Rattle.fsb_bench_run.proofs.AskedNow.{shows-now}
 use Rattle.fsb_bench_run.proofs.DeferralsNow.{deferrals-now}
 use Rattle.fsb_bench_run.proofs.EntriesNext.{entries-next}

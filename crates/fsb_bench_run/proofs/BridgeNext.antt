@@ -1,24 +1,11 @@
 -- The bridge after a bench's clock is that of its longer run.
-use Rattle.std.proofs.Common.{ℕ, ◌≡◌, Bool, true, Option, length, is_some, sym, ap, subst, ◌∙◌, arith}
-use Rattle.std.specs.Option.{option_map_or}
-use Rattle.fsb_bridge.specs.Deferrals.{Bridged}
-use Rattle.fsb_bridge_run.specs.DeferralSteps.{after_cancellation, after_clock, after_reply, after_response}
-use Rattle.fsb_bridge_run.specs.DeferralSteps.{after_snoop_end, reply_begun}
-use Rattle.fsb_bridge_run.specs.RunDeferrals.{HasDeferrals}
-use Rattle.fsb_bridge_run.proofs.Interface.{leaves-list, list-grown}
-use Rattle.fsb_hazard.specs.declared.choice.Choice.{Choice}
-use Rattle.fsb_phase_run.proofs.Interface.{longer}
-use Rattle.fsb_queue.specs.declared.entry.Entry.{Entry}
-use Rattle.fsb_bench_view.specs.declared.beginning.Starting.{Starting}
-use Rattle.fsb_bench_view.specs.declared.decided.Ending.{Ending}
-use Rattle.fsb_bench_view.specs.declared.snoop.SnoopSettled.{SnoopSettled}
-use Rattle.fsb_bench_view.specs.BenchSteps.{bench_stepped, step_answered, step_cancelled, step_decided, step_drive}
-use Rattle.fsb_bench_view.specs.BenchSteps.{step_ended, step_ending, step_entries, step_performed, step_run}
-use Rattle.fsb_bench_view.specs.BenchSteps.{step_snooped, step_started}
-use Rattle.fsb_bench_view.specs.BusEvents.{answered_by, bus_answered, bus_cancelled, bus_ended, bus_snooped}
-use Rattle.fsb_bench_view.specs.BusEvents.{bus_started}
-use Rattle.fsb_bench_view.specs.BusViews.{BenchView, BusView, next_clock_of}
-use Rattle.fsb_bench_run.specs.BenchOf.{HasBridgeOf, IsBenchOf}
+use Rattle.fsb_bench_run.proofs.Words
+use Words.{ℕ, ◌≡◌, Bool, true, Option, length, is_some, sym, ap, subst, ◌∙◌, arith, option_map_or, Bridged}
+use Words.{after_cancellation, after_clock, after_reply, after_response, after_snoop_end, reply_begun, HasDeferrals}
+use Words.{leaves-list, list-grown, Choice, longer, Entry, Starting, Ending, SnoopSettled, bench_stepped, step_answered}
+use Words.{step_cancelled, step_decided, step_drive, step_ended, step_ending, step_entries, step_performed, step_run}
+use Words.{step_snooped, step_started, answered_by, bus_answered, bus_cancelled, bus_ended, bus_snooped, bus_started}
+use Words.{BenchView, BusView, next_clock_of, HasBridgeOf, IsBenchOf}
 use Rattle.fsb_bench_run.proofs.BegunEvents.{cancelled-entry, cancelled-now}
 use Rattle.fsb_bench_run.proofs.LogsNow.{reaches-step}
 use Rattle.fsb_bench_run.proofs.NextRun.{grows-to}

@@ -1,13 +1,8 @@
 -- What a bench has before the snoop end of its clock: what was served, and as many deferrals as before.
-use Rattle.std.proofs.Common.{ℕ, ◌≡◌, Bool, Option, length, ap, ◌∙◌, arith}
-use Rattle.std.specs.Option.{option_map_or}
-use Rattle.std.proofs.lemmas.List.{length-map}
-use Rattle.fsb_bridge.specs.Deferrals.{Bridged}
-use Rattle.fsb_queue.specs.declared.entry.Entry.{Entry}
-use Rattle.fsb_bench_view.specs.declared.beginning.Starting.{Starting}
-use Rattle.fsb_bench_view.specs.BenchSteps.{step_cancelled, step_decided, step_performed, step_started}
-use Rattle.fsb_bench_view.specs.BusEvents.{bus_cancelled, bus_started}
-use Rattle.fsb_bench_view.specs.BusViews.{BenchView, BusView, next_clock_of}
+use Rattle.fsb_bench_run.proofs.Words
+use Words.{ℕ, ◌≡◌, Bool, Option, length, ap, ◌∙◌, arith, option_map_or, length-map, Bridged, Entry, Starting}
+use Words.{step_cancelled, step_decided, step_performed, step_started, bus_cancelled, bus_started, BenchView, BusView}
+use Words.{next_clock_of}
 use Rattle.fsb_bench_run.proofs.SameBus.{same-performed}
 
 pub served-cancelled : (v : BenchView) (hold : Bool) → (step_cancelled v hold).served ≡ v.bus.served

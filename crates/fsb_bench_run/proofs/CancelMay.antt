@@ -1,14 +1,8 @@
 -- What a bench cancels may be cancelled: its agent may give it up.
-use Rattle.std.proofs.Common.{◌≡◌, Bool, Some, length, ap, ◌∙◌, arith}
-use Rattle.std.specs.Option.{option_map}
-use Rattle.fsb_agent_run.proofs.Interface.{cancelled-seen}
-use Rattle.fsb_hazard.specs.declared.choice.Choice.{Choice}
-use Rattle.fsb_queue.specs.declared.entry.Entry.{Entry}
-use Rattle.fsb_tied.proofs.Interface.{winner-four}
-use Rattle.fsb_bench_view.specs.BenchSteps.{step_decided, step_entries, step_performed, step_run, step_started}
-use Rattle.fsb_bench_view.specs.BusViews.{BenchView, next_clock_of}
-use Rattle.fsb_bench_view.specs.MaySteps.{MayCancel}
-use Rattle.fsb_bench_run.specs.BenchOf.{IsBenchOf}
+use Rattle.fsb_bench_run.proofs.Words
+use Words.{◌≡◌, Bool, Some, length, ap, ◌∙◌, arith, option_map, cancelled-seen, Choice, Entry, winner-four}
+use Words.{step_decided, step_entries, step_performed, step_run, step_started, BenchView, next_clock_of, MayCancel}
+use Words.{IsBenchOf}
 use Rattle.fsb_bench_run.proofs.AgentsSound.{sound-started, views-started}
 use Rattle.fsb_bench_run.proofs.ArrivalsTold.{started-many}
 use Rattle.fsb_bench_run.proofs.BegunEvents.{begun-claim, cancelled-entry, cancelled-now}

@@ -1,19 +1,10 @@
 -- Completions at a bench's next clock: the entries of the hits are those that the run completes by hits; what is
 -- left is
 -- that the others are those of the arrival.
-use Rattle.std.proofs.Common.{ℕ, ◌≡◌, Bool, true, List, [], ◌∷◌, ◌++◌, map, nat_eq, refl, ap, ◌∙◌}
-use Rattle.std.specs.List.{list_all}
-use Rattle.std.proofs.lemmas.List.{map-append}
-use Rattle.fsb_access.specs.declared.log.Done.{Done}
-use Rattle.fsb_hazard.specs.declared.choice.Choice.{Choice}
-use Rattle.fsb_timely.specs.Completions.{Completed, completed_at, completed_if, entries_at, is_arrival}
-use Rattle.fsb_timely.specs.Completions.{logs_completions, of_all_agents}
-use Rattle.fsb_timely.specs.Past.{Past}
-use Rattle.fsb_timely.specs.Runs.{past_of}
-use Rattle.fsb_timely.specs.Timely.{holds_at}
-use Rattle.fsb_bench_view.specs.BenchSteps.{step_fetched}
-use Rattle.fsb_bench_view.specs.BusViews.{BenchView, next_clock_of}
-use Rattle.fsb_bench_view.specs.ToldAgents.{hit_entries}
+use Rattle.fsb_bench_run.proofs.Words
+use Words.{ℕ, ◌≡◌, Bool, true, List, [], ◌∷◌, ◌++◌, map, nat_eq, refl, ap, ◌∙◌, list_all, map-append, Done, Choice}
+use Words.{Completed, completed_at, completed_if, entries_at, is_arrival, logs_completions, of_all_agents, Past}
+use Words.{past_of, holds_at, step_fetched, BenchView, next_clock_of, hit_entries}
 use Rattle.fsb_bench_run.proofs.EntriesNow.{completed-from, completed_of, entries-there}
 use Rattle.fsb_bench_run.proofs.HitsCompleted.{AgentsFound, hits-completed}
 use Rattle.fsb_bench_run.proofs.RunWith.{run_with}

@@ -1,12 +1,7 @@
 -- The list of deferrals of a bench tells of the next clock of its run what that has.
-use Rattle.std.proofs.Common.{Bool, List}
-use Rattle.fsb_access.specs.declared.log.Done.{Done}
-use Rattle.fsb_bridge_run.specs.RunDeferrals.{ShowsBegun}
-use Rattle.fsb_bridge_run.proofs.Interface.{grown-hit, grown-pending, grown-taken, grown-there}
-use Rattle.fsb_hazard.specs.declared.choice.Choice.{Choice}
-use Rattle.fsb_timely.specs.Growth.{GrowsTo}
-use Rattle.fsb_bench_view.specs.BusViews.{BenchView}
-use Rattle.fsb_bench_run.specs.BenchOf.{IsBenchOf}
+use Rattle.fsb_bench_run.proofs.Words
+use Words.{Bool, List, Done, ShowsBegun, grown-hit, grown-pending, grown-taken, grown-there, Choice, GrowsTo, BenchView}
+use Words.{IsBenchOf}
 use Rattle.fsb_bench_run.proofs.DeferralsTold.{DeferralsTold}
 use Rattle.fsb_bench_run.proofs.RunWith.{run_with}
 

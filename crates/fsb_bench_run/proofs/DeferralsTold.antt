@@ -1,18 +1,8 @@
 -- What the bench's list of deferrals tells of the next clock of its run.
-use Rattle.std.proofs.Common.{ℕ, ◌≡◌, true, false, Some, is_some}
-use Rattle.std.specs.Option.{option_map_or}
-use Rattle.fsb_bridge.specs.Deferrals.{deferral_of_id, is_waited_for}
-use Rattle.fsb_bridge.specs.DeferralList.{IsThatOf}
-use Rattle.fsb_encode.specs.declared.request.Request.{Request}
-use Rattle.fsb_trace.specs.At.{request_at}
-use Rattle.fsb_trace.specs.Deferral.{is_pending}
-use Rattle.fsb_trace.specs.Requests.{is_reply_kind}
-use Rattle.fsb_timely.specs.Grants.{snooped_at}
-use Rattle.fsb_timely.specs.Moments.{turns_in}
-use Rattle.fsb_timely.specs.Past.{SnoopEnd}
-use Rattle.fsb_timely.specs.Runs.{Run, past_of}
-use Rattle.fsb_timely.specs.Snoops.{number_served_at, was_hit_before}
-use Rattle.fsb_bench_view.specs.BusViews.{BenchView, next_clock_of}
+use Rattle.fsb_bench_run.proofs.Words
+use Words.{ℕ, ◌≡◌, true, false, Some, is_some, option_map_or, deferral_of_id, is_waited_for, IsThatOf, Request}
+use Words.{request_at, is_pending, is_reply_kind, snooped_at, turns_in, SnoopEnd, Run, past_of, number_served_at}
+use Words.{was_hit_before, BenchView, next_clock_of}
 
 -- the list tells which lines are pending at the next clock, which deferral a reply takes that has its snoop end
 -- there, and

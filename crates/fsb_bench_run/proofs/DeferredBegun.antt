@@ -1,15 +1,7 @@
 -- A request that is Deferred is one that an agent began, and the reply to it grants its line.
-use Rattle.std.proofs.Common.{ℕ, ◌/◌, ◌≡◌, arith}
-use Rattle.fsb_encode.specs.declared.request.Request.{Request}
-use Rattle.fsb_trace.specs.declared.who.Who.TheVariants.{Symmetric}
-use Rattle.fsb_trace.proofs.Interface.{winner_at-agree}
-use Rattle.fsb_timely.specs.Runs.{Run, past_of, past_to}
-use Rattle.fsb_timely.specs.Starts.{request_begun, would_begin}
-use Rattle.fsb_timely.proofs.Interface.{run_to-agrees}
-use Rattle.fsb_lawful.specs.Beginning.{KeepsBounds}
-use Rattle.fsb_lawful.proofs.Interface.{want-own}
-use Rattle.fsb_bridge_run.proofs.Interface.{IsDeferredAt}
-use Rattle.fsb_bench_run.specs.BenchOf.{IsBegunAt}
+use Rattle.fsb_bench_run.proofs.Words
+use Words.{ℕ, ◌/◌, ◌≡◌, arith, Request, Symmetric, winner_at-agree, Run, past_of, past_to, request_begun, would_begin}
+use Words.{run_to-agrees, KeepsBounds, want-own, IsDeferredAt, IsBegunAt}
 use Rattle.fsb_bench_run.proofs.SnoopResult.{begun-reply-kind}
 
 pub would-own : (r : Run) (q a : ℕ) (request : Request) → KeepsBounds r.plan → IsBegunAt r q (Symmetric a) request

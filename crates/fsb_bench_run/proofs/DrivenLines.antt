@@ -1,23 +1,11 @@
 -- The lines of the sample that a bench makes.
-use Rattle.std.proofs.Common.{ℕ, ◌+◌, ◌*◌, ◌/◌, ◌%◌, ◌^◌, ◌<◌, ◌≤◌, ◌≡◌, Bool, false, not, Option, Some, None, List}
-use Rattle.std.proofs.Common.{[], ◌∷◌, ◌++◌, length, is_some, if◌then◌else◌, eqb, sym, ap, ◌∙◌, arith, subst}
-use Rattle.std.specs.Int.RustNames.{bit_and}
-use Rattle.fsb_encode.specs.declared.request.Pair.{Pair}
-use Rattle.fsb_laws.proofs.Interface.{line_at-new, one_more}
-use Rattle.fsb_signal.specs.Samples.{has_line, line_at, response_of}
-use Rattle.fsb_signal.specs.declared.lines.Lines.{Lines}
-use Rattle.fsb_signal.specs.declared.lines.TheConstants.Lines.{ADS, AERR, AP0, AP1, BNR, BPRI, BREQ0, BREQ1, BREQ2}
-use Rattle.fsb_signal.specs.declared.lines.TheConstants.Lines.{BREQ3, DBSY, DEFER, DRDY, HIT, HITM, LOCK, RP, RS0}
-use Rattle.fsb_signal.specs.declared.lines.TheConstants.Lines.{RS1, RS2, TRDY}
-use Rattle.fsb_access.specs.declared.log.Done.{Done}
-use Rattle.fsb_hazard.specs.declared.choice.Choice.{Choice}
-use Rattle.fsb_timely.specs.Snoops.{is_keep}
-use Rattle.fsb_bench_view.specs.declared.decided.Decided.{Decided}
-use Rattle.fsb_bench_view.specs.declared.snoop.SnoopSettled.{SnoopSettled}
-use Rattle.fsb_bench_view.specs.BenchSteps.{step_run, step_sample}
-use Rattle.fsb_bench_view.specs.BusSample.{bits_driven, bits_of, drive_bits, is_asking, is_bridge_asking}
-use Rattle.fsb_bench_view.specs.BusSample.{is_lock_driven, pair_driven, parity_bits, request_bits, sample_by}
-use Rattle.fsb_bench_view.specs.BusViews.{BenchView, BusView, next_clock_of}
+use Rattle.fsb_bench_run.proofs.Words
+use Words.{ℕ, ◌+◌, ◌*◌, ◌/◌, ◌%◌, ◌^◌, ◌<◌, ◌≤◌, ◌≡◌, Bool, false, not, Option, Some, None, List, [], ◌∷◌, ◌++◌, length}
+use Words.{is_some, if◌then◌else◌, eqb, sym, ap, ◌∙◌, arith, subst, bit_and, Pair, line_at-new, one_more, has_line}
+use Words.{line_at, response_of, Lines, ADS, AERR, AP0, AP1, BNR, BPRI, BREQ0, BREQ1, BREQ2, BREQ3, DBSY, DEFER, DRDY}
+use Words.{HIT, HITM, LOCK, RP, RS0, RS1, RS2, TRDY, Done, Choice, is_keep, Decided, SnoopSettled, step_run}
+use Words.{step_sample, bits_driven, bits_of, drive_bits, is_asking, is_bridge_asking, is_lock_driven, pair_driven}
+use Words.{parity_bits, request_bits, sample_by, BenchView, BusView, next_clock_of}
 use Rattle.fsb_bench_run.proofs.RunWith.{run_with}
 use Rattle.fsb_bench_run.proofs.SampleBits.{bit_in, line-bit}
 

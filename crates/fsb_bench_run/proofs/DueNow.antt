@@ -1,33 +1,17 @@
 -- Where the priority agent wins the bus two clocks after nothing began, a reply is still due.
-use Rattle.std.proofs.Common.{ℕ, suc, ◌+◌, ◌-◌, ◌<◌, ◌≤◌, ◌≡◌, ◌&&◌, ◌||◌, Bool, true, false, not, List, Option, Some}
-use Rattle.std.proofs.Common.{None, is_some, length, nat_le, nat_lt, slice_index, refl, sym, ap, ◌∙◌, arith, inl, inr}
-use Rattle.std.proofs.lemmas.Bool.{and_from, and_parts, cases_lt, false_from_ne_true, le-leb, lt-ltb, or_right}
-use Rattle.fsb_count.specs.Options.{is_before, is_some_and}
-use Rattle.fsb_count.proofs.Interface.{any_where-at, any_where-off, first_where-found, first_where-none}
+use Rattle.fsb_bench_run.proofs.Words
+use Words.{ℕ, suc, ◌+◌, ◌-◌, ◌<◌, ◌≤◌, ◌≡◌, ◌&&◌, ◌||◌, Bool, true, false, not, List, Option, Some, None, is_some}
+use Words.{length, nat_le, nat_lt, slice_index, refl, sym, ap, ◌∙◌, arith, inl, inr, and_from, and_parts, cases_lt}
+use Words.{false_from_ne_true, le-leb, lt-ltb, or_right, is_before, is_some_and, any_where-at, any_where-off}
+use Words.{first_where-found, first_where-none, agree-grown, snooped-same, ADS, AERR, line_at, line_at-past, GrowsTo}
+use Words.{number_of_turn, turns_in, Past, SnoopEnd, Run, past_of, run_to, due_number, settled_of, run_to-agrees}
+use Words.{snoop-tied, Trace, answers, due_at, is_answered, is_due, later_of, has_ended, is_dropped, is_in_flight}
+use Words.{is_reply_to, is_deferral, is_settled_deferred, response_clock_of, have_same_id, is_cancelled, is_live}
+use Words.{is_reply, live_count, snoop_end_of, request_line_of, winner_at, Priority, AgreeTo-sym, line_at-agree}
+use Words.{live_below_count, live_request_of-stays, request_at-agree, response_clock_of-stays, snoop_end_of-clock}
+use Words.{snoop_end_of-stays}
 use Rattle.fsb_lawful.proofs.Interface as lawful
-use Rattle.fsb_phase_run.proofs.Interface.{agree-grown, snooped-same}
-use Rattle.fsb_signal.specs.declared.lines.TheConstants.Lines.{ADS, AERR}
-use Rattle.fsb_signal.specs.Samples.{line_at}
-use Rattle.fsb_signal.proofs.Interface.{line_at-past}
-use Rattle.fsb_timely.specs.Growth.{GrowsTo}
-use Rattle.fsb_timely.specs.Moments.{number_of_turn, turns_in}
-use Rattle.fsb_timely.specs.Past.{Past, SnoopEnd}
-use Rattle.fsb_timely.specs.Runs.{Run, past_of, run_to}
-use Rattle.fsb_timely.specs.Starts.{due_number}
-use Rattle.fsb_timely.specs.Transfers.{settled_of}
-use Rattle.fsb_timely.proofs.Interface.{run_to-agrees, snoop-tied}
 use Rattle.fsb_trace.specs.Agree.{AgreeTo}
-use Rattle.fsb_trace.specs.At.{Trace}
-use Rattle.fsb_trace.specs.Deferral.{answers, due_at, is_answered, is_due, later_of}
-use Rattle.fsb_trace.specs.Flight.{has_ended, is_dropped, is_in_flight, is_reply_to}
-use Rattle.fsb_trace.specs.Outcome.{is_deferral, is_settled_deferred, response_clock_of}
-use Rattle.fsb_trace.specs.Requests.{have_same_id, is_cancelled, is_live, is_reply, live_count}
-use Rattle.fsb_trace.specs.Snoop.{snoop_end_of}
-use Rattle.fsb_trace.specs.Winner.{request_line_of, winner_at}
-use Rattle.fsb_trace.specs.declared.who.Who.TheVariants.{Priority}
-use Rattle.fsb_trace.proofs.Interface.{AgreeTo-sym, line_at-agree, live_below_count, live_request_of-stays}
-use Rattle.fsb_trace.proofs.Interface.{request_at-agree, response_clock_of-stays, snoop_end_of-clock}
-use Rattle.fsb_trace.proofs.Interface.{snoop_end_of-stays}
 use Rattle.fsb_bench_run.proofs.WinnersAsk.{asks-due, winner-asks}
 
 -- the samples up to a clock of the run, and those of the longer run

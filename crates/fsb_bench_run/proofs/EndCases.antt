@@ -1,39 +1,14 @@
 -- The end that a bench hears at its clock, if there is one, is that of its run.
-use Rattle.std.proofs.Common.{ℕ, ◌+◌, ◌<◌, ◌≡◌, ◌⊎◌, Bool, true, false, Option, Some, None, List, [], ◌∷◌, ◌++◌}
-use Rattle.std.proofs.Common.{is_none, length, refl, sym, ap, subst, ◌∙◌, arith, inl, inr}
-use Rattle.std.specs.List.{find, slice_get}
-use Rattle.std.specs.Option.{option_and_then, option_map, option_map_or}
-use Rattle.std.proofs.lemmas.Bool.{both_ways}
-use Rattle.fsb_access.specs.declared.log.Done.{Done}
-use Rattle.fsb_agent_run.specs.Ending.{EndsFor, NothingEndsFor}
-use Rattle.fsb_count.specs.Options.{is_at, is_some_and}
-use Rattle.fsb_hazard.specs.declared.choice.Choice.{Choice}
-use Rattle.fsb_lawful.proofs.Interface.{get-there}
-use Rattle.fsb_phase.specs.Drive.{has_end_at, phased_at}
+use Rattle.fsb_bench_run.proofs.Words
+use Words.{ℕ, ◌+◌, ◌<◌, ◌≡◌, ◌⊎◌, Bool, true, false, Option, Some, None, List, [], ◌∷◌, ◌++◌, is_none, length, refl}
+use Words.{sym, ap, subst, ◌∙◌, arith, inl, inr, find, slice_get, option_and_then, option_map, option_map_or, both_ways}
+use Words.{Done, EndsFor, NothingEndsFor, is_at, is_some_and, Choice, get-there, has_end_at, phased_at, find-cases}
+use Words.{find-off, find-place, ended-now, Entry, Reaches, ended-number, live-at, orderly-whole, HoldsRequests}
+use Words.{is_end_at, GrowsTo, turns_in, SnoopEnd, Run, past_of, requests_below, snoop-tied, is_deferral}
+use Words.{settled_outcome_of, Outcome, Ending, Served, SnoopSettled, step_answered, step_cancelled, step_decided}
+use Words.{step_drive, step_ending, step_phased, step_snooped, answered_by, bus_answered, bus_snooped, ending_by}
+use Words.{BenchView, BusView, next_clock_of, head_outcome, HasServed, IsServed, settled_entries}
 use Rattle.fsb_phase.specs.declared.drive.Phased.{Phased}
-use Rattle.fsb_phase.proofs.Interface.{find-cases, find-off, find-place}
-use Rattle.fsb_phase_run.proofs.Interface.{ended-now}
-use Rattle.fsb_queue.specs.declared.entry.Entry.{Entry}
-use Rattle.fsb_run_laws.specs.Reaches.{Reaches}
-use Rattle.fsb_tied.proofs.Interface.{ended-number, live-at, orderly-whole}
-use Rattle.fsb_phase_run.specs.Holds.{HoldsRequests}
-use Rattle.fsb_timely.specs.Grants.{is_end_at}
-use Rattle.fsb_timely.specs.Growth.{GrowsTo}
-use Rattle.fsb_timely.specs.Moments.{turns_in}
-use Rattle.fsb_timely.specs.Past.{SnoopEnd}
-use Rattle.fsb_timely.specs.Runs.{Run, past_of, requests_below}
-use Rattle.fsb_timely.proofs.Interface.{snoop-tied}
-use Rattle.fsb_trace.specs.Outcome.{is_deferral, settled_outcome_of}
-use Rattle.fsb_trace.specs.declared.outcome.Outcome.{Outcome}
-use Rattle.fsb_bench_view.specs.declared.decided.Ending.{Ending}
-use Rattle.fsb_bench_view.specs.declared.snoop.Served.{Served}
-use Rattle.fsb_bench_view.specs.declared.snoop.SnoopSettled.{SnoopSettled}
-use Rattle.fsb_bench_view.specs.BenchSteps.{step_answered, step_cancelled, step_decided, step_drive, step_ending}
-use Rattle.fsb_bench_view.specs.BenchSteps.{step_phased, step_snooped}
-use Rattle.fsb_bench_view.specs.BusEvents.{answered_by, bus_answered, bus_snooped, ending_by}
-use Rattle.fsb_bench_view.specs.BusViews.{BenchView, BusView, next_clock_of}
-use Rattle.fsb_bench_view.specs.BytesFetched.{head_outcome}
-use Rattle.fsb_bench_run.specs.BenchOf.{HasServed, IsServed, settled_entries}
 use Rattle.fsb_bench_run.proofs.EndHeard.{IsEndHeard, end-heard}
 use Rattle.fsb_bench_run.proofs.EndPlaces.{ending-of, head-ends}
 use Rattle.fsb_bench_run.proofs.RunWith.{run_with}

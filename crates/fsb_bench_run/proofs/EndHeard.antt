@@ -1,36 +1,14 @@
 -- The end of a request that a bench tells its agents is that of its run.
-use Rattle.std.proofs.Common.{ℕ, ◌+◌, ◌≡◌, ◌≢◌, true, false, Option, Some, None, List, length, refl, sym, ap, subst}
-use Rattle.std.proofs.Common.{◌∙◌, arith}
-use Rattle.std.proofs.lemmas.Bool.{both_ways, ne_eqb}
-use Rattle.fsb_agent_run.specs.AgentClocks.{number_asked}
-use Rattle.fsb_agent_run.specs.Ending.{number_claimed, number_left, number_replied}
-use Rattle.fsb_agent_run.proofs.Interface.{own-left, replied-left, served-number}
-use Rattle.fsb_coherent.specs.Awaits.{snoop_end_below}
-use Rattle.fsb_count.specs.Options.{is_some_and}
-use Rattle.fsb_lawful.specs.Beginning.{KeepsBounds}
-use Rattle.fsb_phase_run.proofs.Interface.{snooped-same}
-use Rattle.fsb_queue.specs.declared.entry.Entry.{Entry}
-use Rattle.fsb_run_laws.specs.Reaches.{Reaches}
-use Rattle.fsb_run_laws.proofs.Interface.{ending-served, ending-serves, replied-outstanding, replied-served}
-use Rattle.fsb_run_laws.proofs.Interface.{snoop-below}
-use Rattle.fsb_tied.proofs.Interface.{begun-shown, begun-want, deferred-held, held-plain, live-at, live-request}
-use Rattle.fsb_tied.proofs.Interface.{number-ended, orderly-whole, snooped-by}
-use Rattle.fsb_timely.specs.Grants.{is_end_at, snooped_at}
-use Rattle.fsb_timely.specs.Growth.{GrowsTo}
-use Rattle.fsb_timely.specs.Moments.{claim_at, served_number, turns_in}
-use Rattle.fsb_timely.specs.Past.{Claim, Grant, Past, SnoopEnd}
-use Rattle.fsb_timely.specs.Runs.{Run, past_of}
-use Rattle.fsb_timely.specs.Tied.{IsSnoopOf}
-use Rattle.fsb_timely.proofs.Interface.{going-alike, owed-same, past-goes_on, snoop-tied}
-use Rattle.fsb_trace.specs.At.{Trace, request_at}
-use Rattle.fsb_trace.specs.Outcome.{is_deferral, settled_outcome_of}
-use Rattle.fsb_trace.specs.Requests.{is_reply, live_clock_of, live_number_of, live_request_of}
-use Rattle.fsb_trace.specs.declared.outcome.Outcome.{Outcome}
-use Rattle.fsb_trace.specs.declared.who.Who.{Who}
-use Rattle.fsb_trace.specs.declared.who.Who.TheVariants.{Symmetric, Priority}
-use Rattle.fsb_trace.proofs.Interface.{live_clock_of-rises}
-use Rattle.fsb_bench_view.specs.declared.snoop.Served.{Served}
-use Rattle.fsb_bench_run.specs.BenchOf.{IsBegunAt, IsServed}
+use Rattle.fsb_bench_run.proofs.Words
+use Words.{ℕ, ◌+◌, ◌≡◌, ◌≢◌, true, false, Option, Some, None, List, length, refl, sym, ap, subst, ◌∙◌, arith, both_ways}
+use Words.{ne_eqb, number_asked, number_claimed, number_left, number_replied, own-left, replied-left, served-number}
+use Words.{snoop_end_below, is_some_and, KeepsBounds, snooped-same, Entry, Reaches, ending-served, ending-serves}
+use Words.{replied-outstanding, replied-served, snoop-below, begun-shown, begun-want, deferred-held, held-plain}
+use Words.{live-at, live-request, number-ended, orderly-whole, snooped-by, is_end_at, snooped_at, GrowsTo, claim_at}
+use Words.{served_number, turns_in, Claim, Grant, Past, SnoopEnd, Run, past_of, IsSnoopOf, going-alike, owed-same}
+use Words.{past-goes_on, snoop-tied, Trace, request_at, is_deferral, settled_outcome_of, is_reply, live_clock_of}
+use Words.{live_number_of, live_request_of, Outcome, Who, Symmetric, Priority, live_clock_of-rises, Served, IsBegunAt}
+use Words.{IsServed}
 use Rattle.fsb_bench_run.proofs.BegunEvents.{begun-claim}
 use Rattle.fsb_bench_run.proofs.BegunRequests.{begun-request}
 use Rattle.fsb_bench_run.proofs.BegunStays.{before-growth}

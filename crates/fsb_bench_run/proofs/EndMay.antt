@@ -1,31 +1,11 @@
 -- A bench may take the end that it hears: the agent may hear of it, and the line is one that the scripts name.
-use Rattle.std.proofs.Common.{ℕ, ◌+◌, ◌≡◌, ◌⊎◌, Bool, true, false, Option, Some, None, refl, sym, ap, subst, ◌∙◌, arith}
-use Rattle.std.proofs.Common.{inl, inr}
-use Rattle.fsb_agent_run.specs.Ending.{EndsFor}
-use Rattle.fsb_agent_run.specs.Stages.{IsViewAfterSnoop}
-use Rattle.fsb_agent_run.proofs.Interface.{arrives-seen, given-up-seen, upgrade-seen}
-use Rattle.fsb_agent_view.specs.AgentViews.{AgentView}
-use Rattle.fsb_agent_view.specs.Arriving.{may_arrive, may_give_up}
-use Rattle.fsb_agent_view.specs.Sound.{IsSound}
-use Rattle.fsb_hazard.specs.declared.choice.Choice.{Choice}
-use Rattle.fsb_laws.proofs.Interface.{ads_before_end}
-use Rattle.fsb_run_laws.specs.Reaches.{Reaches}
-use Rattle.fsb_tied.proofs.Interface.{winner-four}
-use Rattle.fsb_timely.specs.Moments.{is_got}
-use Rattle.fsb_timely.specs.Past.{SnoopEnd}
-use Rattle.fsb_timely.specs.Runs.{Run, past_of}
-use Rattle.fsb_trace.specs.Outcome.{is_deferral}
-use Rattle.fsb_trace.specs.declared.outcome.Outcome.{Outcome}
-use Rattle.fsb_trace.specs.declared.outcome.Outcome.TheVariants.{Granted, Handed, Retried, Deferred, Written, Replied}
-use Rattle.fsb_trace.specs.declared.outcome.Outcome.TheVariants.{Failed, Upgraded}
-use Rattle.fsb_trace.specs.declared.who.Who.TheVariants.{Symmetric}
-use Rattle.fsb_bench_view.specs.declared.decided.Ending.{Ending}
-use Rattle.fsb_bench_view.specs.declared.snoop.Served.{Served}
-use Rattle.fsb_bench_view.specs.BenchSteps.{step_answered, step_ending, step_entries, step_run}
-use Rattle.fsb_bench_view.specs.BusViews.{BenchView, next_clock_of}
-use Rattle.fsb_bench_view.specs.FirstBench.{is_named_line}
-use Rattle.fsb_bench_view.specs.MaySteps.{MayEnd, may_end_with}
-use Rattle.fsb_bench_run.specs.BenchOf.{IsBegunAt, IsBenchOf}
+use Rattle.fsb_bench_run.proofs.Words
+use Words.{ℕ, ◌+◌, ◌≡◌, ◌⊎◌, Bool, true, false, Option, Some, None, refl, sym, ap, subst, ◌∙◌, arith, inl, inr, EndsFor}
+use Words.{IsViewAfterSnoop, arrives-seen, given-up-seen, upgrade-seen, AgentView, may_arrive, may_give_up, IsSound}
+use Words.{Choice, ads_before_end, Reaches, winner-four, is_got, SnoopEnd, Run, past_of, is_deferral, Outcome, Granted}
+use Words.{Handed, Retried, Deferred, Written, Replied, Failed, Upgraded, Symmetric, Ending, Served, step_answered}
+use Words.{step_ending, step_entries, step_run, BenchView, next_clock_of, is_named_line, MayEnd, may_end_with}
+use Words.{IsBegunAt, IsBenchOf}
 use Rattle.fsb_bench_run.proofs.AgentsSound.{sound-answered}
 use Rattle.fsb_bench_run.proofs.ArrivalsTold.{answered-four}
 use Rattle.fsb_bench_run.proofs.EndCases.{end-cases, ending-heard}

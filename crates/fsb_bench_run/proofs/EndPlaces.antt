@@ -1,27 +1,12 @@
 -- The request that ends at the next clock is the oldest one in flight.
-use Rattle.std.proofs.Common.{ℕ, zero, suc, ◌+◌, ◌<◌, ◌≤◌, ◌≡◌, ◌&&◌, true, false, not, Option, Some, None, List, []}
-use Rattle.std.proofs.Common.{◌∷◌, length, nat_lt, refl, sym, ap, ◌∙◌, arith}
-use Rattle.std.specs.List.{slice_get}
-use Rattle.std.proofs.lemmas.Bool.{and_parts}
-use Rattle.std.proofs.lemmas.Option.{slice_get-map}
-use Rattle.fsb_count.specs.Clocks.{nth_where}
-use Rattle.fsb_count.proofs.Interface.{is_at-some, is_before-from, nth_where-found}
-use Rattle.fsb_phase.specs.Due.{rank_of}
-use Rattle.fsb_phase.specs.Drive.{has_end_at}
-use Rattle.fsb_phase_run.specs.Holds.{HoldsRequests}
-use Rattle.fsb_phase_run.proofs.Interface.{agree-back, agree-grown, longer}
-use Rattle.fsb_queue.specs.declared.entry.Entry.{Entry}
-use Rattle.fsb_tied.proofs.Interface.{answered, ended-before, live-at, orderly-whole}
-use Rattle.fsb_timely.specs.Growth.{GrowsTo}
-use Rattle.fsb_timely.specs.Runs.{Run}
-use Rattle.fsb_timely.specs.Timely.{Timely}
-use Rattle.fsb_trace.specs.Flight.{has_ended, in_flight, is_in_flight}
-use Rattle.fsb_trace.specs.Outcome.{response_clock_of}
-use Rattle.fsb_trace.specs.Requests.{is_live, live_clock_of, live_number_of}
-use Rattle.fsb_trace.specs.Response.{end_of}
-use Rattle.fsb_trace.specs.Snoop.{snoop_end_of}
-use Rattle.fsb_trace.proofs.Interface.{end_of-response, end_of-stays, live_clock_of-number, live_clock_of-rises}
-use Rattle.fsb_trace.proofs.Interface.{live_clock_of-stays, snoop_end_of-clock, snoop_end_of-stays}
+use Rattle.fsb_bench_run.proofs.Words
+use Words.{ℕ, zero, suc, ◌+◌, ◌<◌, ◌≤◌, ◌≡◌, ◌&&◌, true, false, not, Option, Some, None, List, [], ◌∷◌, length, nat_lt}
+use Words.{refl, sym, ap, ◌∙◌, arith, slice_get, and_parts, slice_get-map, nth_where, is_at-some, is_before-from}
+use Words.{nth_where-found, rank_of, has_end_at, HoldsRequests, agree-back, agree-grown, longer, Entry, answered}
+use Words.{ended-before, live-at, orderly-whole, GrowsTo, Run, Timely, has_ended, in_flight, is_in_flight}
+use Words.{response_clock_of, is_live, live_clock_of, live_number_of, end_of, snoop_end_of, end_of-response}
+use Words.{end_of-stays, live_clock_of-number, live_clock_of-rises, live_clock_of-stays, snoop_end_of-clock}
+use Words.{snoop_end_of-stays}
 use Rattle.fsb_bench_run.proofs.SnoopEntry.{held-here, rank-rises}
 
 -- the entry whose request ends at the next clock, in the run and in the longer one

@@ -1,20 +1,10 @@
 -- Each entry of the queue after a bench's clock is of the request that began at its clock.
-use Rattle.std.proofs.Common.{◌≡◌, Bool, map, slice_get, refl, sym, ap, subst, ◌∙◌, inl, inr, arith}
-use Rattle.std.proofs.lemmas.Option.{slice_get-map}
-use Rattle.fsb_flight.specs.GoesOn.{goes_on, settles, stays_in_flight}
-use Rattle.fsb_flight.specs.Steps.{begun_list}
-use Rattle.fsb_flight.proofs.Interface.{append_from, filter_from, map_from}
-use Rattle.fsb_hazard.specs.declared.choice.Choice.{Choice}
-use Rattle.fsb_queue.specs.declared.entry.Entry.{Entry}
-use Rattle.fsb_signal.specs.declared.sample.Sample.{Sample}
-use Rattle.fsb_timely.specs.Runs.{Run}
-use Rattle.fsb_trace.specs.At.{Trace}
-use Rattle.fsb_trace.specs.declared.outcome.Outcome.{Outcome}
-use Rattle.fsb_bench_view.specs.BenchSteps.{outcome_snooped, step_begun, step_decided, step_entries, step_performed}
-use Rattle.fsb_bench_view.specs.BenchSteps.{step_queue, step_run, step_sample}
-use Rattle.fsb_bench_view.specs.BusEvents.{entry_started}
-use Rattle.fsb_bench_view.specs.BusViews.{BenchView, next_clock_of}
-use Rattle.fsb_bench_run.specs.BenchOf.{HasBegun, IsBegunAt, IsBenchOf}
+use Rattle.fsb_bench_run.proofs.Words
+use Words.{◌≡◌, Bool, map, refl, sym, ap, subst, ◌∙◌, inl, inr, arith, slice_get-map, goes_on, settles, stays_in_flight}
+use Words.{begun_list, append_from, filter_from, map_from, Choice, Entry, Sample, Run, Trace, Outcome, outcome_snooped}
+use Words.{step_begun, step_decided, step_entries, step_performed, step_queue, step_run, step_sample, entry_started}
+use Words.{BenchView, next_clock_of, HasBegun, IsBegunAt, IsBenchOf}
+use Rattle.std.proofs.Common.{slice_get}
 use Rattle.fsb_bench_run.proofs.BegunStays.{begun-stays}
 use Rattle.fsb_bench_run.proofs.NextRun.{grows-to}
 use Rattle.fsb_bench_run.proofs.QueueNext.{begun-entry}

@@ -1,25 +1,11 @@
 -- The entries of a clock, as what is completed there.
-use Rattle.std.proofs.Common.{ℕ, ◌≡◌, Bool, true, false, Option, List, [], ◌∷◌, ◌++◌, map, nat_eq, refl, ◌∙◌, arith}
-use Rattle.std.proofs.Common.{subst}
-use Rattle.std.specs.List.{filter, list_all, slice_get}
-use Rattle.std.specs.Option.{option_map_or}
-use Rattle.std.proofs.lemmas.Bool.{and_from}
-use Rattle.std.proofs.lemmas.Option.{slice_get_past}
-use Rattle.std.proofs.lemmas.List.Elements.{filter-append}
-use Rattle.fsb_access.specs.declared.item.Item.{Item}
-use Rattle.fsb_access.specs.declared.log.Done.{Done}
-use Rattle.fsb_access.specs.ScriptOrder.{Step, step_of}
-use Rattle.fsb_agent_view.specs.AgentViews.{AgentView}
-use Rattle.fsb_agent_view.specs.Completing.{completed_entries, hand_of, is_hit_by, next_steps, performed_entries}
-use Rattle.fsb_agent_view.specs.Completing.{steps_at}
-use Rattle.fsb_agent_view.specs.Serving.{AtHand, entries_at_hand, hand_after}
-use Rattle.fsb_agent_run.specs.RunViews.{place_of}
-use Rattle.fsb_agent_run.specs.Stages.{IsViewOf}
-use Rattle.fsb_timely.specs.Completions.{Completed, are_completed, completed_if, completed_of_item, entries_at}
-use Rattle.fsb_timely.specs.Completions.{is_access, is_completed, is_in_time, is_operand, next_accesses}
-use Rattle.fsb_timely.specs.Hits.{is_hit}
-use Rattle.fsb_timely.specs.Past.{Past}
-use Rattle.fsb_timely.specs.Scripts.{items_of, next_item, next_number}
+use Rattle.fsb_bench_run.proofs.Words
+use Words.{ℕ, ◌≡◌, Bool, true, false, Option, List, [], ◌∷◌, ◌++◌, map, nat_eq, refl, ◌∙◌, arith, subst, filter}
+use Words.{list_all, slice_get, option_map_or, and_from, slice_get_past, filter-append, Item, Done, Step, step_of}
+use Words.{AgentView, completed_entries, hand_of, is_hit_by, next_steps, performed_entries, steps_at, AtHand}
+use Words.{entries_at_hand, hand_after, place_of, IsViewOf, Completed, are_completed, completed_if, completed_of_item}
+use Words.{entries_at, is_access, is_completed, is_in_time, is_operand, next_accesses, is_hit, Past, items_of}
+use Words.{next_item, next_number}
 
 -- an entry without its clock and its value
 abbrev pub completed_of : Done → Completed

@@ -1,38 +1,13 @@
 -- Whose bytes a bench fetches for a response: those of the request that responds, where an agent may give them; and
 -- where it fetches none of an agent, none gives any.
-use Rattle.std.proofs.Common.{ℕ, ◌+◌, ◌≡◌, ◌≢◌, ◌⊎◌, Bool, false, Some, None, refl, sym, ap, subst, ◌∙◌, arith, inl}
-use Rattle.std.proofs.Common.{inr}
-use Rattle.std.specs.List.{slice_get}
-use Rattle.std.specs.Option.{option_and_then, option_map, option_map_or}
-use Rattle.fsb_agent_run.specs.AgentClocks.{giver_after_snoop, giver_of}
-use Rattle.fsb_agent_run.specs.BytesOwed.{is_given_below}
-use Rattle.fsb_agent_run.proofs.Interface.{given-named}
-use Rattle.fsb_agent_view.specs.AgentEvents.{HandedOn}
-use Rattle.fsb_coherent.specs.Awaits.{responded_in, snoop_end_below}
-use Rattle.fsb_coherent.specs.Relation.{giver_at}
-use Rattle.fsb_count.specs.Options.{is_at, is_some_and}
-use Rattle.fsb_hazard.specs.declared.choice.Choice.{Choice}
-use Rattle.fsb_lawful.proofs.Interface.{get-there}
-use Rattle.fsb_phase.specs.Due.{has_response}
-use Rattle.fsb_phase.specs.Drive.{drive_of, settled_code}
-use Rattle.fsb_phase.specs.declared.drive.Drive.{Drive}
-use Rattle.fsb_phase.proofs.Interface.{find-cases, find-off, find-place}
-use Rattle.fsb_phase_run.proofs.Interface.{code-shown, responded-now}
-use Rattle.fsb_queue.specs.declared.entry.Entry.{Entry}
-use Rattle.fsb_run_laws.specs.Reaches.{Reaches}
-use Rattle.fsb_signal.specs.Samples.{response_of}
-use Rattle.fsb_timely.specs.Past.{Past, SnoopEnd}
-use Rattle.fsb_timely.specs.Runs.{Run, past_of}
-use Rattle.fsb_trace.specs.Outcome.{response_code_of}
-use Rattle.fsb_trace.specs.declared.outcome.Outcome.{Outcome}
-use Rattle.fsb_trace.specs.declared.outcome.Outcome.TheVariants.{Granted, Handed, Retried, Deferred, Written, Replied}
-use Rattle.fsb_trace.specs.declared.outcome.Outcome.TheVariants.{Failed, Upgraded}
-use Rattle.fsb_bench_view.specs.declared.snoop.Served.{Served}
-use Rattle.fsb_bench_view.specs.BenchSteps.{step_drive, step_entries, step_fetched, step_run}
-use Rattle.fsb_bench_view.specs.BusViews.{BenchView, BusView, next_clock_of}
-use Rattle.fsb_bench_view.specs.BytesFetched.{bus_fetched, bytes_source, from_for, head_outcome}
-use Rattle.fsb_bench_view.specs.ToldAgents.{agents_told, for_all}
-use Rattle.fsb_bench_run.specs.BenchOf.{IsBenchOf}
+use Rattle.fsb_bench_run.proofs.Words
+use Words.{ℕ, ◌+◌, ◌≡◌, ◌≢◌, ◌⊎◌, Bool, false, Some, None, refl, sym, ap, subst, ◌∙◌, arith, inl, inr, slice_get}
+use Words.{option_and_then, option_map, option_map_or, giver_after_snoop, giver_of, is_given_below, given-named}
+use Words.{HandedOn, responded_in, snoop_end_below, giver_at, is_at, is_some_and, Choice, get-there, has_response}
+use Words.{drive_of, settled_code, Drive, find-cases, find-off, find-place, code-shown, responded-now, Entry, Reaches}
+use Words.{response_of, Past, SnoopEnd, Run, past_of, response_code_of, Outcome, Granted, Handed, Retried, Deferred}
+use Words.{Written, Replied, Failed, Upgraded, Served, step_drive, step_entries, step_fetched, step_run, BenchView}
+use Words.{BusView, next_clock_of, bus_fetched, bytes_source, from_for, head_outcome, agents_told, for_all, IsBenchOf}
 use Rattle.fsb_bench_run.proofs.EndCases.{head-settled}
 use Rattle.fsb_bench_run.proofs.LogsNow.{reaches-step}
 use Rattle.fsb_bench_run.proofs.NextRun.{grows-to}

@@ -1,26 +1,12 @@
 -- At most eight requests are in flight.
-use Rattle.std.proofs.Common.{ℕ, zero, suc, ◌<◌, ◌≤◌, ◌≡◌, Bool, true, false, not, cond, List, [], ◌∷◌, ◌++◌, filter}
-use Rattle.std.proofs.Common.{take, Some, length, refl, sym, ap, subst, ◌∙◌, add-one, arith}
-use Rattle.std.specs.List.{slice_get}
-use Rattle.std.proofs.lemmas.List.{length-append, length-map, take_all}
-use Rattle.std.proofs.lemmas.Option.{get_or_from_slice_get}
+use Rattle.fsb_bench_run.proofs.Words
+use Words.{ℕ, zero, suc, ◌<◌, ◌≤◌, ◌≡◌, Bool, true, false, not, cond, List, [], ◌∷◌, ◌++◌, take, Some, length, refl}
+use Words.{sym, ap, subst, ◌∙◌, add-one, arith, slice_get, length-append, length-map, take_all, get_or_from_slice_get}
+use Words.{all_where, get-there, orderly-at, leaves, OneMore, Orderly, in_flight-more, in_flight-now, line_at-new}
+use Words.{one_more, orderly-empty, HoldsRequests, Entry, ADS, Sample, has_line, line_at, Run, run_to, drives_ads}
+use Words.{has_room, may_begin, starts_requests, Timely, holds_at, holds_in, Trace, in_flight}
+use Rattle.std.proofs.Common.{filter}
 use Rattle.std.proofs.Math.Seq.{take-suc}
-use Rattle.fsb_count.specs.Clocks.{all_where}
-use Rattle.fsb_lawful.proofs.Interface.{get-there, orderly-at}
-use Rattle.fsb_laws.specs.Leaving.{leaves}
-use Rattle.fsb_laws.specs.OneMore.{OneMore}
-use Rattle.fsb_laws.specs.Orderly.{Orderly}
-use Rattle.fsb_laws.proofs.Interface.{in_flight-more, in_flight-now, line_at-new, one_more, orderly-empty}
-use Rattle.fsb_phase_run.specs.Holds.{HoldsRequests}
-use Rattle.fsb_queue.specs.declared.entry.Entry.{Entry}
-use Rattle.fsb_signal.specs.declared.lines.TheConstants.Lines.{ADS}
-use Rattle.fsb_signal.specs.declared.sample.Sample.{Sample}
-use Rattle.fsb_signal.specs.Samples.{has_line, line_at}
-use Rattle.fsb_timely.specs.Runs.{Run, run_to}
-use Rattle.fsb_timely.specs.Starts.{drives_ads, has_room, may_begin, starts_requests}
-use Rattle.fsb_timely.specs.Timely.{Timely, holds_at, holds_in}
-use Rattle.fsb_trace.specs.At.{Trace}
-use Rattle.fsb_trace.specs.Flight.{in_flight}
 
 -- a list that is filtered is no longer, and shorter where an item does not pass
 pub filter-most : {X : Type 0} (test : X → Bool) (xs : List X) → length (filter test xs) ≤ length xs

@@ -1,41 +1,16 @@
 -- The entries of a bench's clock begin with those of the hits, and an agent with a hit has no other ones: it has
 -- completed its
 -- item there, so what ends completes nothing more.
-use Rattle.std.proofs.Common.{ℕ, ◌≡◌, ◌⊎◌, Bool, true, false, nat_eq, Option, Some, None, List, [], ◌∷◌, fold}
-use Rattle.std.proofs.Common.{slice_get, refl, ap, ◌∙◌, arith}
-use Rattle.std.specs.List.{list_any}
-use Rattle.std.specs.Option.{option_map_or}
-use Rattle.std.proofs.lemmas.Bool.{eqb-true}
-use Rattle.fsb_access.specs.ScriptOrder.{Step}
-use Rattle.fsb_agent_view.specs.AgentEvents.{AgentEvent, agent_after}
-use Rattle.fsb_agent_view.specs.AgentViews.{AgentView, is_finished_at}
-use Rattle.fsb_agent_view.specs.Arriving.{met_entries}
-use Rattle.fsb_agent_view.specs.Completing.{is_hit_by, performed}
-use Rattle.fsb_agent_view.specs.Serving.{AtHand, entries_at_hand, hand_after}
-use Rattle.fsb_agent_view.specs.Snooping.{committed}
-use Rattle.fsb_agent_view.specs.declared.want.OwnRequest.{OwnRequest}
-use Rattle.fsb_agent_run.proofs.Interface.{hit-by, placed-at}
-use Rattle.fsb_coherent.specs.Relation.{is_dirty_below}
-use Rattle.fsb_encode.specs.declared.request.Request.{Request}
-use Rattle.fsb_hazard.specs.declared.choice.Choice.{Choice}
-use Rattle.fsb_queue.specs.declared.entry.Entry.{Entry}
-use Rattle.fsb_timely.specs.Hits.{is_hit}
-use Rattle.fsb_timely.specs.Runs.{past_of}
-use Rattle.fsb_timely.specs.Scripts.{is_done_at}
-use Rattle.fsb_trace.specs.declared.outcome.Outcome.{Outcome}
-use Rattle.fsb_bench_view.specs.declared.beginning.Starting.{Starting}
-use Rattle.fsb_bench_view.specs.declared.decided.Decided.{Decided}
-use Rattle.fsb_bench_view.specs.declared.decided.Ending.{Ending}
-use Rattle.fsb_bench_view.specs.declared.snoop.SnoopSettled.{SnoopSettled}
-use Rattle.fsb_bench_view.specs.BenchSteps.{step_answered, step_decided, step_ending, step_entries, step_performed}
-use Rattle.fsb_bench_view.specs.BenchSteps.{step_phased, step_run}
-use Rattle.fsb_bench_view.specs.BusEvents.{answered_by, bus_answered, bus_cancelled, bus_snooped, bus_started}
-use Rattle.fsb_bench_view.specs.BusEvents.{end_entries, heard_answer, heard_cancel, heard_entries, heard_snoop}
-use Rattle.fsb_bench_view.specs.BusEvents.{heard_start}
-use Rattle.fsb_bench_view.specs.BusViews.{BenchView, BusView, next_clock_of}
-use Rattle.fsb_bench_view.specs.ToldAgents.{agents_told}
-use Rattle.fsb_bench_run.specs.BenchOf.{IsBenchOf}
-use Rattle.fsb_bench_run.specs.HitsTold.{HasHitsOf}
+use Rattle.fsb_bench_run.proofs.Words
+use Words.{ℕ, ◌≡◌, ◌⊎◌, Bool, true, false, nat_eq, Option, Some, None, List, [], ◌∷◌, fold, refl, ap, ◌∙◌, arith}
+use Words.{list_any, option_map_or, eqb-true, Step, AgentEvent, agent_after, AgentView, is_finished_at, met_entries}
+use Words.{is_hit_by, performed, AtHand, entries_at_hand, hand_after, committed, OwnRequest, hit-by, placed-at}
+use Words.{is_dirty_below, Request, Choice, Entry, is_hit, past_of, is_done_at, Outcome, Starting, Decided, Ending}
+use Words.{SnoopSettled, step_answered, step_decided, step_ending, step_entries, step_performed, step_phased, step_run}
+use Words.{answered_by, bus_answered, bus_cancelled, bus_snooped, bus_started, end_entries, heard_answer, heard_cancel}
+use Words.{heard_entries, heard_snoop, heard_start, BenchView, BusView, next_clock_of, agents_told, IsBenchOf}
+use Words.{HasHitsOf}
+use Rattle.std.proofs.Common.{slice_get}
 use Rattle.fsb_bench_run.proofs.AgentsTold.{fetched-from, performed-from, told-at}
 use Rattle.fsb_bench_run.proofs.HitEntries.{HasHitsFirst, hits-told}
 use Rattle.fsb_bench_run.proofs.NextRun.{entries-now, grows-to}

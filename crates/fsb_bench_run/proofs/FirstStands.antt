@@ -1,29 +1,13 @@
 -- The first bench of a plan stands for its run, which is empty.
-use Rattle.std.proofs.Common.{ℕ, zero, suc, ◌<◌, ◌≡◌, true, List, [], Option, Some, refl, subst, arith}
-use Rattle.std.specs.List.{list_all, slice_get}
-use Rattle.std.proofs.lemmas.List.{get_or_past}
-use Rattle.fsb_access.specs.ScriptOrder.{script_of}
-use Rattle.fsb_access.specs.declared.item.Item.{Item}
-use Rattle.fsb_agent_run.proofs.Interface.{first-of, first-owed}
-use Rattle.fsb_agent_view.specs.AgentViews.{AgentView}
-use Rattle.fsb_agent_view.proofs.Interface.{sound_first}
-use Rattle.fsb_bridge_run.proofs.Interface.{list-first}
-use Rattle.fsb_count.specs.Clocks.{all_where, count_where, last_where}
-use Rattle.fsb_lawful.proofs.Interface.{all-at}
-use Rattle.fsb_script.specs.Bounds.{is_cache, is_lawful_script}
-use Rattle.fsb_script.specs.Plans.{PlanView}
+use Rattle.fsb_bench_run.proofs.Words
+use Words.{ℕ, zero, suc, ◌<◌, ◌≡◌, true, List, [], Option, Some, refl, subst, arith, list_all, slice_get, get_or_past}
+use Words.{script_of, Item, first-of, first-owed, AgentView, sound_first, list-first, all_where, count_where}
+use Words.{last_where, all-at, is_cache, is_lawful_script, PlanView, is_in_time, turns_in, Run, moments_below, past_of}
+use Words.{requests_below, items_of, Timely, in_flight, first_agent, first_agents, first_bench, IsAgentNext, IsBenchOf}
+use Words.{keeps_into}
 use Rattle.fsb_script.specs.View.{plan_view}
 use Rattle.fsb_script.specs.declared.plan.Plan.{Plan}
-use Rattle.fsb_timely.specs.Completions.{is_in_time}
-use Rattle.fsb_timely.specs.Moments.{turns_in}
-use Rattle.fsb_timely.specs.Runs.{Run, moments_below, past_of, requests_below}
-use Rattle.fsb_timely.specs.Scripts.{items_of}
-use Rattle.fsb_timely.specs.Timely.{Timely}
-use Rattle.fsb_trace.specs.Flight.{in_flight}
-use Rattle.fsb_bench_view.specs.FirstBench.{first_agent, first_agents, first_bench}
-use Rattle.fsb_bench_run.specs.BenchOf.{IsAgentNext, IsBenchOf}
 use Rattle.fsb_bench_run.specs.BenchPlans.{IsBenchPlan}
-use Rattle.fsb_bench_run.specs.LocksHeld.{keeps_into}
 
 -- the run of no clock
 abbrev empty : PlanView → Run

@@ -1,22 +1,11 @@
 -- Where an agent is in its script at a clock stays as its past goes on from that clock.
-use Rattle.std.proofs.Common.{ℕ, zero, suc, ◌+◌, ◌-◌, ◌<◌, ◌≤◌, ◌≡◌, Bool, true, false, ◌&&◌, nat_eq, nat_le, List}
-use Rattle.std.proofs.Common.{[], ◌∷◌, ◌++◌, length, Option, Some, None, slice_get, refl, sym, ap, ◌∙◌, arith}
-use Rattle.std.proofs.lemmas.Bool.{and_parts}
-use Rattle.std.proofs.lemmas.List.{length-append}
-use Rattle.std.proofs.lemmas.List.Folds.{list_any-append}
-use Rattle.std.specs.List.{list_all, list_any}
-use Rattle.std.specs.Option.{option_and_then}
-use Rattle.fsb_access.specs.declared.log.Done.{Done}
-use Rattle.fsb_agent_run.specs.RunViews.{IsPlacedIn}
-use Rattle.fsb_agent_view.specs.AgentViews.{AgentView}
-use Rattle.fsb_count.specs.Clocks.{last_where}
-use Rattle.fsb_count.specs.Options.{is_some_and}
-use Rattle.fsb_count.proofs.Interface.{last_where-failed}
-use Rattle.fsb_signal.proofs.Interface.{slice_get-before}
-use Rattle.fsb_timely.specs.Growth.{GoesOn}
-use Rattle.fsb_timely.specs.Past.{Past}
-use Rattle.fsb_timely.specs.Scripts.{idle_start, is_done_by, is_logged, items_of, last_done, number_after}
-use Rattle.fsb_timely.proofs.Interface.{last-same, last_where-found, next_number-alike}
+use Rattle.fsb_bench_run.proofs.Words
+use Words.{ℕ, zero, suc, ◌+◌, ◌-◌, ◌<◌, ◌≤◌, ◌≡◌, Bool, true, false, ◌&&◌, nat_eq, nat_le, List, [], ◌∷◌, ◌++◌, length}
+use Words.{Option, Some, None, refl, sym, ap, ◌∙◌, arith, and_parts, length-append, list_any-append, list_all, list_any}
+use Words.{option_and_then, Done, IsPlacedIn, AgentView, last_where, is_some_and, last_where-failed, slice_get-before}
+use Words.{GoesOn, Past, idle_start, is_done_by, is_logged, items_of, last_done, number_after, last-same}
+use Words.{last_where-found, next_number-alike}
+use Rattle.std.proofs.Common.{slice_get}
 
 none-logged : (n a c k : ℕ) (entries : List Done) → c ≤ n
     → list_all (λ (done : Done). nat_le n done.clock) entries ≡ true

@@ -1,35 +1,16 @@
 -- The record of an agent is that of the agent also in the run that has grown by a clock.
-use Rattle.std.proofs.Common.{ℕ, zero, suc, ◌<◌, ◌≡◌, Bool, true, false, ◌&&◌, nat_eq, nat_lt, nat_le, List, [], ◌∷◌}
-use Rattle.std.proofs.Common.{map, length, Some, slice_get, refl, sym, ap, subst, ◌∙◌, arith}
-use Rattle.std.proofs.lemmas.Bool.{eq-eqb}
-use Rattle.std.proofs.lemmas.List.Folds.{list_any-append}
-use Rattle.std.specs.List.{filter, list_all, list_any}
-use Rattle.std.specs.Option.{option_and_then}
-use Rattle.fsb_access.specs.ScriptOrder.{script_of}
-use Rattle.fsb_access.specs.declared.log.Done.{Done}
-use Rattle.fsb_agent_run.specs.RunViews.{is_awaited, is_won_below, one_if, owing_by, state_told}
-use Rattle.fsb_agent_run.specs.Stages.{IsViewOf}
-use Rattle.fsb_agent_view.specs.AgentViews.{AgentView}
-use Rattle.fsb_agent_view.specs.declared.want.OwnRequest.{OwnRequest}
-use Rattle.fsb_coherent.specs.Awaits.{snoop_end_below}
-use Rattle.fsb_coherent.specs.Relation.{is_dirty_below, is_stored_below}
+use Rattle.fsb_bench_run.proofs.Words
+use Words.{ℕ, zero, suc, ◌<◌, ◌≡◌, Bool, true, false, ◌&&◌, nat_eq, nat_lt, nat_le, List, [], ◌∷◌, map, length, Some}
+use Words.{refl, sym, ap, subst, ◌∙◌, arith, eq-eqb, list_any-append, filter, list_all, list_any, option_and_then}
+use Words.{script_of, Done, is_awaited, is_won_below, one_if, owing_by, state_told, IsViewOf, AgentView, OwnRequest}
+use Words.{snoop_end_below, is_dirty_below, is_stored_below, any_where-same, first_where-found, first_where-same}
+use Words.{Reaches, owing_begun, begun-wanted, owed-told, ended_requests, is_end_at, is_ended, snooped_at, GoesOn}
+use Words.{GrowsTo, is_store_on, Moment, Owing, Past, Run, past_of, items_of, outstanding_at, owed, Alike, done_below}
+use Words.{going-alike, holds_line-same, is_exclusive-same, latest_grant-same, owed-same, past-goes_on, want_of-alike}
+use Words.{Trace, is_outstanding, outstanding}
+use Rattle.std.proofs.Common.{slice_get}
 use Rattle.fsb_coherent.proofs.Interface as coherent
-use Rattle.fsb_count.proofs.Interface.{any_where-same, first_where-found, first_where-same}
 use Rattle.fsb_lawful.proofs.Interface as lawful
-use Rattle.fsb_run_laws.specs.Reaches.{Reaches}
-use Rattle.fsb_run_laws.specs.RunSteps.{owing_begun}
-use Rattle.fsb_run_laws.proofs.Interface.{begun-wanted, owed-told}
-use Rattle.fsb_timely.specs.Grants.{ended_requests, is_end_at, is_ended, snooped_at}
-use Rattle.fsb_timely.specs.Growth.{GoesOn, GrowsTo}
-use Rattle.fsb_timely.specs.Hits.{is_store_on}
-use Rattle.fsb_timely.specs.Past.{Moment, Owing, Past}
-use Rattle.fsb_timely.specs.Runs.{Run, past_of}
-use Rattle.fsb_timely.specs.Scripts.{items_of}
-use Rattle.fsb_timely.specs.Wants.{outstanding_at, owed}
-use Rattle.fsb_timely.proofs.Interface.{Alike, done_below, going-alike, holds_line-same, is_exclusive-same}
-use Rattle.fsb_timely.proofs.Interface.{latest_grant-same, owed-same, past-goes_on, want_of-alike}
-use Rattle.fsb_trace.specs.At.{Trace}
-use Rattle.fsb_trace.specs.Flight.{is_outstanding, outstanding}
 use Rattle.fsb_bench_run.proofs.GrownPlaces.{placed-alike}
 
 snooped-same : (n : ℕ) (p q : Past) (t : ℕ) → Alike n p q → t < n → snooped_at p t ≡ snooped_at q t

@@ -1,52 +1,19 @@
 -- The hazard lines of a clock are as they must be.
-use Rattle.std.proofs.Common.{ℕ, ◌+◌, ◌-◌, ◌<◌, ◌≤◌, ◌≡◌, ◌&&◌, ◌||◌, Bool, true, false, not, Option, Some, None}
-use Rattle.std.proofs.Common.{List, [], ◌∷◌, ◌++◌, length, is_none, is_some, nat_eq, nat_le, refl, sym, ap, ◌∙◌}
-use Rattle.std.proofs.Common.{arith, inl, inr, subst}
-use Rattle.std.specs.Bool.{beq}
-use Rattle.std.specs.List.{find, slice_get}
-use Rattle.std.specs.Option.{option_and_then, option_map_or}
-use Rattle.std.proofs.lemmas.Bool.{and_from, and_parts, both_ways, eqb-true, false_from_ne_true, le-leb, leb-true}
-use Rattle.fsb_count.specs.Clocks.{any_where}
-use Rattle.fsb_count.specs.Options.{is_some_and}
-use Rattle.fsb_count.proofs.Interface.{slice_get-end}
-use Rattle.fsb_bridge.specs.Deferrals.{Bridged, deferral_of_id, is_covered, is_waited_for}
-use Rattle.fsb_bridge.specs.declared.deferral.Deferral.{Deferral}
-use Rattle.fsb_hazard.specs.Choice.{effective_turn}
-use Rattle.fsb_access.specs.declared.log.Done.{Done}
-use Rattle.fsb_hazard.specs.declared.choice.Choice.{Choice}
-use Rattle.fsb_laws.specs.OneMore.{stalls}
-use Rattle.fsb_laws.specs.Progress.{is_snoop_due}
-use Rattle.fsb_laws.proofs.Interface.{is_live-ads, is_snoop_clock-more, one_more}
-use Rattle.fsb_phase.specs.Due.{has_snoop, rank_of}
-use Rattle.fsb_heads.specs.Heads.{snooped_count}
-use Rattle.fsb_heads.proofs.Interface.{snoops_to}
-use Rattle.fsb_phase.proofs.Interface.{find-cases, find-off, find-place}
-use Rattle.fsb_queue.specs.declared.entry.Entry.{Entry}
-use Rattle.fsb_signal.specs.declared.lines.TheConstants.Lines.{ADS, AERR, BNR, DEFER, HIT, HITM}
-use Rattle.fsb_signal.specs.Samples.{line_at}
-use Rattle.fsb_signal.proofs.Interface.{line_at-past}
-use Rattle.fsb_trace.specs.At.{request_at, stalls_at}
-use Rattle.fsb_trace.specs.Deferral.{is_pending}
-use Rattle.fsb_trace.specs.Requests.{is_cancelled, is_live, live_clock_of, live_count, live_number_of}
-use Rattle.fsb_trace.specs.Snoop.{is_every_second_from, is_snoop_clock, snoop_end_of, snoop_start_of}
-use Rattle.fsb_trace.specs.declared.who.Who.{Who}
-use Rattle.fsb_trace.specs.declared.who.Who.TheVariants.{Symmetric, Priority}
-use Rattle.fsb_trace.proofs.Interface.{line_at-agree, live_clock_of-number, snoop_end_of-clock}
-use Rattle.fsb_timely.specs.Growth.{GrowsTo}
-use Rattle.fsb_timely.specs.Moments.{choice_at, is_in_window, turns_in}
-use Rattle.fsb_timely.specs.Past.{SnoopEnd}
-use Rattle.fsb_timely.specs.Runs.{Run, past_of}
-use Rattle.fsb_timely.specs.Snoops.{drives_aerr, drives_bnr, drives_defer, drives_hazards, drives_stalls}
-use Rattle.fsb_timely.specs.Snoops.{is_bnr_chosen, is_error_chosen, is_keep, is_put_off, is_stall_chosen}
-use Rattle.fsb_timely.specs.Snoops.{keeps_snoop_lines}
-use Rattle.fsb_timely.specs.Timely.{Timely, holds_at}
-use Rattle.fsb_phase_run.specs.Holds.{HoldsRequests}
-use Rattle.fsb_phase_run.proofs.Interface.{agree-grown, choice-same, entry-held, snoops-first, stall-drive}
-use Rattle.fsb_bench_view.specs.BenchSteps.{step_decided, step_drive, step_performed, step_sample}
-use Rattle.fsb_bench_view.specs.BusDecisions.{is_cancelled_by}
-use Rattle.fsb_bench_view.specs.BusSnooping.{snooped_entry, snooped_for, turn_counted}
-use Rattle.fsb_bench_view.specs.BusViews.{BenchView, BusView, next_clock_of}
-use Rattle.fsb_bench_run.specs.BenchOf.{IsBegunAt, IsBenchOf}
+use Rattle.fsb_bench_run.proofs.Words
+use Words.{ℕ, ◌+◌, ◌-◌, ◌<◌, ◌≤◌, ◌≡◌, ◌&&◌, ◌||◌, Bool, true, false, not, Option, Some, None, List, [], ◌∷◌, ◌++◌}
+use Words.{length, is_none, is_some, nat_eq, nat_le, refl, sym, ap, ◌∙◌, arith, inl, inr, subst, beq, find, slice_get}
+use Words.{option_and_then, option_map_or, and_from, and_parts, both_ways, eqb-true, false_from_ne_true, le-leb}
+use Words.{leb-true, any_where, is_some_and, slice_get-end, Bridged, deferral_of_id, is_covered, is_waited_for}
+use Words.{Deferral, effective_turn, Done, Choice, stalls, is_snoop_due, is_live-ads, is_snoop_clock-more, one_more}
+use Words.{has_snoop, rank_of, snooped_count, snoops_to, find-cases, find-off, find-place, Entry, ADS, AERR, BNR, DEFER}
+use Words.{HIT, HITM, line_at, line_at-past, request_at, stalls_at, is_pending, is_cancelled, is_live, live_clock_of}
+use Words.{live_count, live_number_of, is_every_second_from, is_snoop_clock, snoop_end_of, snoop_start_of, Who}
+use Words.{Symmetric, Priority, line_at-agree, live_clock_of-number, snoop_end_of-clock, GrowsTo, choice_at}
+use Words.{is_in_window, turns_in, SnoopEnd, Run, past_of, drives_aerr, drives_bnr, drives_defer, drives_hazards}
+use Words.{drives_stalls, is_bnr_chosen, is_error_chosen, is_keep, is_put_off, is_stall_chosen, keeps_snoop_lines}
+use Words.{Timely, holds_at, HoldsRequests, agree-grown, choice-same, entry-held, snoops-first, stall-drive}
+use Words.{step_decided, step_drive, step_performed, step_sample, is_cancelled_by, snooped_entry, snooped_for}
+use Words.{turn_counted, BenchView, BusView, next_clock_of, IsBegunAt, IsBenchOf}
 use Rattle.fsb_bench_run.proofs.RunWith.{run_with}
 use Rattle.fsb_bench_run.proofs.BegunRequests.{begun-request, request-grown}
 use Rattle.fsb_bench_run.proofs.DeferralsTold.{DeferralsTold}

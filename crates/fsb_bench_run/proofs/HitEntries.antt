@@ -1,45 +1,18 @@
 -- The entries of a clock that begin with those of the hits: each agent with a hit has the accesses of its next item
 -- there,
 -- and so the agents of the bench after the hits are those of the longer run.
-use Rattle.std.proofs.Common.{ℕ, zero, suc, ◌+◌, ◌-◌, ◌<◌, ◌≡◌, Bool, true, false, ◌&&◌, nat_eq, Option, Some, List}
-use Rattle.std.proofs.Common.{[], ◌∷◌, ◌++◌, length, slice_get, refl, sym, ap, subst, ◌∙◌, arith, append-nil}
-use Rattle.std.specs.List.{list_all, list_any}
-use Rattle.std.proofs.lemmas.Bool.{and_parts, eq-eqb, eqb-true, lt-ltb, ne_eqb}
-use Rattle.std.proofs.lemmas.List.{map-append}
-use Rattle.std.proofs.lemmas.List.Elements.{filter-append}
-use Rattle.std.proofs.lemmas.Option.{slice_get_within}
-use Rattle.fsb_access.specs.declared.access.Access.{Access}
-use Rattle.fsb_access.specs.declared.item.Item.{Item}
-use Rattle.fsb_access.specs.declared.item.Item.TheVariants.{One, Locked, Idle}
-use Rattle.fsb_access.specs.declared.log.Done.{Done}
-use Rattle.fsb_access.specs.ScriptOrder.{Step, script_of, steps_from, steps_of, steps_of_item}
-use Rattle.fsb_agent_view.specs.AgentViews.{AgentView}
-use Rattle.fsb_agent_view.specs.Completing.{is_hit_by, next_steps, performed_entries}
-use Rattle.fsb_agent_view.specs.Serving.{AtHand, entries_at_hand, hand_after}
-use Rattle.fsb_agent_run.specs.RunViews.{LogsItem}
-use Rattle.fsb_agent_run.specs.Stages.{IsViewAfterHit, IsViewOf}
-use Rattle.fsb_agent_run.proofs.Interface.{hit-by, performed-logged, placed-at}
-use Rattle.fsb_coherent.specs.Relation.{is_dirty_below}
-use Rattle.fsb_coherent.proofs.Interface.{any-from, any-there, some-there}
-use Rattle.fsb_count.specs.Options.{is_some_and}
-use Rattle.fsb_count.proofs.Interface.{first_where-found}
-use Rattle.fsb_hazard.specs.declared.choice.Choice.{Choice}
-use Rattle.fsb_lawful.proofs.Interface.{all-at}
-use Rattle.fsb_run_laws.specs.Reaches.{Reaches}
-use Rattle.fsb_script.specs.Bounds.{is_lawful_item, is_lawful_script, is_lock_size}
-use Rattle.fsb_timely.specs.Growth.{GoesOn, GrowsTo}
-use Rattle.fsb_timely.specs.Hits.{is_hit}
-use Rattle.fsb_timely.specs.Past.{Past}
-use Rattle.fsb_timely.specs.Runs.{Run, past_of}
-use Rattle.fsb_timely.specs.Scripts.{is_done_at, is_done_by, is_idle, is_logged_at, is_to_do, items_of, last_done}
-use Rattle.fsb_timely.specs.Scripts.{next_item, next_number}
-use Rattle.fsb_timely.proofs.Interface.{at, is_hit-alike, last_where-found, last_where-from, next_number-alike}
-use Rattle.fsb_timely.proofs.Interface.{not-behind, past-goes_on}
-use Rattle.fsb_bench_view.specs.BenchSteps.{step_fetched}
-use Rattle.fsb_bench_view.specs.BusViews.{BenchView, next_clock_of}
-use Rattle.fsb_bench_view.specs.ToldAgents.{hit_entries}
-use Rattle.fsb_bench_run.specs.BenchOf.{IsBenchOf}
-use Rattle.fsb_bench_run.specs.HitsTold.{HasHitsOf}
+use Rattle.fsb_bench_run.proofs.Words
+use Words.{ℕ, zero, suc, ◌+◌, ◌-◌, ◌<◌, ◌≡◌, Bool, true, false, ◌&&◌, nat_eq, Option, Some, List, [], ◌∷◌, ◌++◌, length}
+use Words.{refl, sym, ap, subst, ◌∙◌, arith, append-nil, list_all, list_any, and_parts, eq-eqb, eqb-true, lt-ltb}
+use Words.{ne_eqb, map-append, filter-append, slice_get_within, Access, Item, One, Locked, Idle, Done, Step, script_of}
+use Words.{steps_from, steps_of, steps_of_item, AgentView, is_hit_by, next_steps, performed_entries, AtHand}
+use Words.{entries_at_hand, hand_after, LogsItem, IsViewAfterHit, IsViewOf, hit-by, performed-logged, placed-at}
+use Words.{is_dirty_below, any-from, any-there, some-there, is_some_and, first_where-found, Choice, all-at, Reaches}
+use Words.{is_lawful_item, is_lawful_script, is_lock_size, GoesOn, GrowsTo, is_hit, Past, Run, past_of, is_done_at}
+use Words.{is_done_by, is_idle, is_logged_at, is_to_do, items_of, last_done, next_item, next_number, at, is_hit-alike}
+use Words.{last_where-found, last_where-from, next_number-alike, not-behind, past-goes_on, step_fetched, BenchView}
+use Words.{next_clock_of, hit_entries, IsBenchOf, HasHitsOf}
+use Rattle.std.proofs.Common.{slice_get}
 use Rattle.fsb_bench_run.proofs.AgentsNow.{fetched-four}
 use Rattle.fsb_bench_run.proofs.AgentsTold.{fetched-from, performed-from}
 use Rattle.fsb_bench_run.proofs.EntriesNow.{new-on, old-off}

@@ -1,18 +1,8 @@
 -- The entries of a clock's hits are what the run completes by them there.
-use Rattle.std.proofs.Common.{ℕ, ◌≡◌, Some, List, ◌++◌, length, map, append-nil, append_assoc, arith}
-use Rattle.std.specs.List.{slice_get}
-use Rattle.std.proofs.lemmas.List.{map-append}
-use Rattle.fsb_agent_view.specs.AgentViews.{AgentView}
-use Rattle.fsb_agent_view.specs.Completing.{performed_entries}
-use Rattle.fsb_agent_run.specs.Stages.{IsViewOf}
-use Rattle.fsb_agent_run.proofs.Interface.{hit-by, placed-at}
-use Rattle.fsb_coherent.specs.Relation.{is_dirty_below}
-use Rattle.fsb_timely.specs.Completions.{Completed, completed_if, of_all_agents}
-use Rattle.fsb_timely.specs.Hits.{is_hit}
-use Rattle.fsb_timely.specs.Runs.{Run, past_of}
-use Rattle.fsb_bench_view.specs.BenchSteps.{step_fetched}
-use Rattle.fsb_bench_view.specs.BusViews.{BenchView, next_clock_of}
-use Rattle.fsb_bench_view.specs.ToldAgents.{hit_entries}
+use Rattle.fsb_bench_run.proofs.Words
+use Words.{ℕ, ◌≡◌, Some, List, ◌++◌, length, map, append-nil, append_assoc, arith, slice_get, map-append, AgentView}
+use Words.{performed_entries, IsViewOf, hit-by, placed-at, is_dirty_below, Completed, completed_if, of_all_agents}
+use Words.{is_hit, Run, past_of, step_fetched, BenchView, next_clock_of, hit_entries}
 use Rattle.fsb_bench_run.proofs.EntriesNow.{completed_of, hit-completes}
 use Rattle.fsb_bench_run.proofs.SnoopAnswers.{is-four}
 

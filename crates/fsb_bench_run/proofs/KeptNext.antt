@@ -1,46 +1,17 @@
 -- Which agents keep the bus locked after a bench's clock, where its longer run is timely.
-use Rattle.std.proofs.Common.{ℕ, suc, ◌+◌, ◌<◌, ◌≡◌, ◌&&◌, ◌||◌, Bool, true, false, not, if◌then◌else◌, is_some}
-use Rattle.std.proofs.Common.{nat_eq, List, [], ◌∷◌, Option, Some, None, length, slice_get, refl, sym, ap, subst, ◌∙◌}
-use Rattle.std.proofs.Common.{inl, inr, arith}
-use Rattle.std.specs.List.{find, list_any}
-use Rattle.std.specs.Option.{option_and_then, option_map}
-use Rattle.std.proofs.lemmas.Bool.{and_parts, both_ways, cases_Bool, eq-eqb, eqb-true, false_from_ne_true}
-use Rattle.std.proofs.lemmas.List.Folds.{list_any-append}
-use Rattle.std.proofs.lemmas.Option.{slice_get-map, slice_get_within}
-use Rattle.fsb_access.specs.declared.log.Done.{Done}
-use Rattle.fsb_count.specs.Clocks.{all_where, count_where, nth_where}
-use Rattle.fsb_count.specs.Options.{is_some_and}
-use Rattle.fsb_count.proofs.Interface.{nth_where-at}
-use Rattle.fsb_encode.specs.declared.request.Request.{Request}
-use Rattle.fsb_hazard.specs.declared.choice.Choice.{Choice}
-use Rattle.fsb_phase.proofs.Interface.{find-cases, find-off, find-place}
-use Rattle.fsb_phase_run.proofs.Interface.{code-shown, longer, responded-now, retried-now}
-use Rattle.fsb_queue.specs.declared.entry.Entry.{Entry}
-use Rattle.fsb_signal.specs.declared.lines.TheConstants.Lines.{ADS, AERR}
-use Rattle.fsb_signal.specs.Samples.{line_at, response_of}
-use Rattle.fsb_signal.proofs.Interface.{slice_get-before}
-use Rattle.fsb_timely.specs.BusLock.{ends_locked_item, is_begun_by, is_lock_cancelled, is_lock_retried}
-use Rattle.fsb_timely.specs.BusLock.{is_locked_request, is_release, keeps_lock}
-use Rattle.fsb_timely.specs.Completions.{is_in_time}
-use Rattle.fsb_timely.specs.Moments.{cancelled_at}
-use Rattle.fsb_timely.specs.Past.{Past}
-use Rattle.fsb_timely.specs.Runs.{Run, past_of, requests_below}
-use Rattle.fsb_timely.specs.Scripts.{items_of}
-use Rattle.fsb_timely.specs.Timely.{Timely}
-use Rattle.fsb_timely.proofs.Interface.{cancelled-told}
-use Rattle.fsb_trace.specs.At.{Trace}
-use Rattle.fsb_trace.specs.declared.who.Who.{Who}
-use Rattle.fsb_trace.specs.declared.who.Who.TheVariants.{Symmetric}
-use Rattle.fsb_bench_view.specs.declared.beginning.Started.{Started}
-use Rattle.fsb_bench_view.specs.declared.beginning.Starting.{Starting}
-use Rattle.fsb_bench_view.specs.BenchSteps.{bench_stepped, step_decided, step_drive, step_ended, step_entries}
-use Rattle.fsb_bench_view.specs.BenchSteps.{step_performed, step_releases, step_run}
-use Rattle.fsb_bench_view.specs.BusDecisions.{is_cancelled_by}
-use Rattle.fsb_bench_view.specs.BusLocking.{completes_lock, is_locked_of, is_locked_start, is_locking, is_of}
-use Rattle.fsb_bench_view.specs.BusLocking.{is_released, is_retry, keeps_after, keeps_in, retried_by}
-use Rattle.fsb_bench_view.specs.BusViews.{BenchView, next_clock_of}
-use Rattle.fsb_bench_run.specs.BenchOf.{IsBegunAt, IsBenchOf}
-use Rattle.fsb_bench_run.specs.LocksHeld.{keeps_into, kept_into}
+use Rattle.fsb_bench_run.proofs.Words
+use Words.{ℕ, suc, ◌+◌, ◌<◌, ◌≡◌, ◌&&◌, ◌||◌, Bool, true, false, not, if◌then◌else◌, is_some, nat_eq, List, [], ◌∷◌}
+use Words.{Option, Some, None, length, refl, sym, ap, subst, ◌∙◌, inl, inr, arith, find, list_any, option_and_then}
+use Words.{option_map, and_parts, both_ways, cases_Bool, eq-eqb, eqb-true, false_from_ne_true, list_any-append}
+use Words.{slice_get-map, slice_get_within, Done, all_where, count_where, nth_where, is_some_and, nth_where-at, Request}
+use Words.{Choice, find-cases, find-off, find-place, code-shown, longer, responded-now, retried-now, Entry, ADS, AERR}
+use Words.{line_at, response_of, slice_get-before, ends_locked_item, is_begun_by, is_lock_cancelled, is_lock_retried}
+use Words.{is_locked_request, is_release, keeps_lock, is_in_time, cancelled_at, Past, Run, past_of, requests_below}
+use Words.{items_of, Timely, cancelled-told, Trace, Who, Symmetric, Started, Starting, bench_stepped, step_decided}
+use Words.{step_drive, step_ended, step_entries, step_performed, step_releases, step_run, is_cancelled_by}
+use Words.{completes_lock, is_locked_of, is_locked_start, is_locking, is_of, is_released, is_retry, keeps_after}
+use Words.{keeps_in, retried_by, BenchView, next_clock_of, IsBegunAt, IsBenchOf, keeps_into, kept_into}
+use Rattle.std.proofs.Common.{slice_get}
 use Rattle.fsb_bench_run.proofs.AdsGrown.{ads-old, size-suc}
 use Rattle.fsb_bench_run.proofs.BegunStays.{begun-stays}
 use Rattle.fsb_bench_run.proofs.DrivenLines.{aerr-driven, line-with}

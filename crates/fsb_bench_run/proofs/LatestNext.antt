@@ -1,17 +1,8 @@
 -- The request that began last, and those that have begun, after the clock.
-use Rattle.std.proofs.Common.{◌≡◌, Bool, true, false, Option, Some, None, is_some, length, refl, sym, subst, ◌∙◌}
-use Rattle.std.proofs.Common.{arith}
-use Rattle.fsb_count.specs.Clocks.{last_where}
-use Rattle.fsb_hazard.specs.declared.choice.Choice.{Choice}
-use Rattle.fsb_signal.specs.declared.lines.TheConstants.Lines.{ADS}
-use Rattle.fsb_signal.specs.Samples.{line_at}
-use Rattle.fsb_timely.specs.Growth.{GrowsTo}
-use Rattle.fsb_timely.specs.Runs.{Run}
-use Rattle.fsb_bench_view.specs.declared.beginning.Latest.{Latest}
-use Rattle.fsb_bench_view.specs.declared.beginning.Starting.{Starting}
-use Rattle.fsb_bench_view.specs.BenchSteps.{bench_stepped, step_decided, step_entries, step_run}
-use Rattle.fsb_bench_view.specs.BusViews.{BenchView}
-use Rattle.fsb_bench_run.specs.BenchOf.{IsBegunAt, IsBenchOf, IsLatestOf}
+use Rattle.fsb_bench_run.proofs.Words
+use Words.{◌≡◌, Bool, true, false, Option, Some, None, is_some, length, refl, sym, subst, ◌∙◌, arith, last_where}
+use Words.{Choice, ADS, line_at, GrowsTo, Run, Latest, Starting, bench_stepped, step_decided, step_entries, step_run}
+use Words.{BenchView, IsBegunAt, IsBenchOf, IsLatestOf}
 use Rattle.fsb_bench_run.proofs.AdsGrown.{last-below, last-more}
 use Rattle.fsb_bench_run.proofs.BegunStays.{begun-stays}
 use Rattle.fsb_bench_run.proofs.NextRun.{begins-now, grows-to}

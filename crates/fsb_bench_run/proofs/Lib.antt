@@ -1,3 +1,4 @@
+pub mod Words
 pub mod Interface
 pub mod SampleBits
 pub mod RunWith

@@ -1,45 +1,18 @@
 -- LOCK# of the clock, and which agents keep the bus locked into it.
-use Rattle.std.proofs.Common.{ℕ, zero, suc, ◌+◌, ◌<◌, ◌≡◌, ◌&&◌, ◌||◌, Bool, true, false, not, Option, Some, List}
-use Rattle.std.proofs.Common.{is_some, length, refl, sym, ap, subst, ◌∙◌, arith, inl, inr}
-use Rattle.std.specs.Bool.{beq}
-use Rattle.std.specs.List.{list_any}
-use Rattle.std.proofs.lemmas.Bool.{or_cases, or_left, or_right}
-use Rattle.fsb_count.specs.Clocks.{any_where, holds_since, last_where}
-use Rattle.fsb_count.specs.Options.{is_some_and}
-use Rattle.fsb_count.proofs.Interface.{any_where-at, any_where-found, holds_since-more}
-use Rattle.fsb_hazard.specs.declared.choice.Choice.{Choice}
-use Rattle.fsb_lawful.proofs.Interface.{get-there}
-use Rattle.fsb_phase_run.proofs.Interface.{longer}
-use Rattle.fsb_signal.specs.declared.lines.TheConstants.Lines.{ADS, LOCK}
-use Rattle.fsb_signal.specs.Samples.{line_at}
-use Rattle.fsb_tied.proofs.Interface.{winner-four}
-use Rattle.fsb_timely.specs.BusLock.{drives_lock, is_begun_by, is_locked_request, is_release, is_released_before}
-use Rattle.fsb_timely.specs.BusLock.{keeps_lock}
-use Rattle.fsb_timely.specs.Moments.{agent_at, claim_at}
-use Rattle.fsb_timely.specs.Past.{Past}
-use Rattle.fsb_timely.specs.Runs.{Run, past_of}
-use Rattle.fsb_timely.specs.Timely.{holds_at}
-use Rattle.fsb_timely.proofs.Interface.{begun-told}
-use Rattle.fsb_trace.specs.Requests.{line_of}
-use Rattle.fsb_trace.specs.Winner.{winner_at}
-use Rattle.fsb_trace.specs.declared.who.Who.{Who}
-use Rattle.fsb_trace.specs.declared.who.Who.TheVariants.{Symmetric}
-use Rattle.fsb_encode.specs.declared.request.Request.{Request}
-use Rattle.fsb_bench_view.specs.declared.beginning.Starting.{Starting}
-use Rattle.fsb_bench_view.specs.BenchSteps.{step_decided, step_performed, was_held_at}
-use Rattle.fsb_bench_view.specs.BusDecisions.{asked_by}
-use Rattle.fsb_bench_view.specs.BusSample.{is_lock_driven}
-use Rattle.fsb_bench_view.specs.BusStarting.{starting_for}
-use Rattle.fsb_bench_view.specs.BusViews.{BenchView, next_clock_of}
-use Rattle.fsb_bench_run.specs.BenchOf.{IsBegunAt, IsBenchOf}
-use Rattle.fsb_bench_run.specs.LocksHeld.{keeps_into, kept_into}
+use Rattle.fsb_bench_run.proofs.Words
+use Words.{ℕ, zero, suc, ◌+◌, ◌<◌, ◌≡◌, ◌&&◌, ◌||◌, Bool, true, false, not, Option, Some, List, is_some, length, refl}
+use Words.{sym, ap, subst, ◌∙◌, arith, inl, inr, beq, list_any, or_cases, or_left, or_right, any_where, holds_since}
+use Words.{last_where, is_some_and, any_where-at, any_where-found, holds_since-more, Choice, get-there, longer, ADS}
+use Words.{LOCK, line_at, winner-four, drives_lock, is_begun_by, is_locked_request, is_release, is_released_before}
+use Words.{keeps_lock, agent_at, claim_at, Past, Run, past_of, holds_at, begun-told, line_of, winner_at, Who, Symmetric}
+use Words.{Request, Starting, step_decided, step_performed, was_held_at, asked_by, is_lock_driven, starting_for}
+use Words.{BenchView, next_clock_of, IsBegunAt, IsBenchOf, keeps_into, kept_into, Done}
 use Rattle.fsb_bench_run.proofs.DrivenLines.{line-with, lock-driven}
 use Rattle.fsb_bench_run.proofs.LockedStarts.{locked-start}
 use Rattle.fsb_bench_run.proofs.LocksStay.{keeps_into-grown}
 use Rattle.fsb_bench_run.proofs.StartingNow.{starting-begins, starting-parts}
 use Rattle.fsb_bench_run.proofs.StepFields.{performed-begun}
 use Rattle.fsb_bench_run.proofs.ThisClock.{holds-now}
-use Rattle.fsb_access.specs.declared.log.Done.{Done}
 use Rattle.fsb_bench_run.proofs.RunWith.{run_with}
 use Rattle.fsb_bench_run.proofs.StepWith.{IsStepWith, begins-with}
 

@@ -1,32 +1,13 @@
 -- The request that begins at the clock is a locked one exactly where the run says so.
-use Rattle.std.proofs.Common.{ℕ, ◌<◌, ◌≡◌, Bool, true, nat_eq, Option, Some, None, length, if◌then◌else◌, sym, ap}
-use Rattle.std.proofs.Common.{◌∙◌, arith, List}
-use Rattle.fsb_agent_view.specs.declared.want.Want.{Want}
-use Rattle.fsb_count.specs.Options.{is_some_and}
-use Rattle.fsb_hazard.specs.declared.choice.Choice.{Choice}
-use Rattle.fsb_phase_run.proofs.Interface.{longer}
-use Rattle.fsb_signal.specs.declared.lines.TheConstants.Lines.{ADS}
-use Rattle.fsb_signal.specs.Samples.{line_at}
-use Rattle.fsb_tied.proofs.Interface.{winner-four}
-use Rattle.fsb_timely.specs.BusLock.{is_begun_by, is_locked_request, wants_lock}
-use Rattle.fsb_timely.specs.Grants.{begun_at}
-use Rattle.fsb_timely.specs.Moments.{agent_at, claim_at}
-use Rattle.fsb_timely.specs.Past.{Claim, Past}
-use Rattle.fsb_timely.specs.Runs.{Run, past_of, past_to}
-use Rattle.fsb_timely.proofs.Interface.{begun-told}
-use Rattle.fsb_trace.specs.At.{Trace}
-use Rattle.fsb_trace.specs.Winner.{winner_at}
-use Rattle.fsb_trace.specs.declared.who.Who.{Who}
-use Rattle.fsb_trace.specs.declared.who.Who.TheVariants.{Symmetric, Priority}
-use Rattle.fsb_bench_view.specs.declared.beginning.Starting.{Starting}
-use Rattle.fsb_bench_view.specs.BenchSteps.{step_decided, step_performed, was_held_at}
-use Rattle.fsb_bench_view.specs.BusDecisions.{asked_by}
-use Rattle.fsb_bench_view.specs.BusStarting.{starting_for, want_in}
-use Rattle.fsb_bench_view.specs.BusViews.{BenchView, next_clock_of}
+use Rattle.fsb_bench_run.proofs.Words
+use Words.{ℕ, ◌<◌, ◌≡◌, Bool, true, nat_eq, Option, Some, None, length, if◌then◌else◌, sym, ap, ◌∙◌, arith, List, Want}
+use Words.{is_some_and, Choice, longer, ADS, line_at, winner-four, is_begun_by, is_locked_request, wants_lock, begun_at}
+use Words.{agent_at, claim_at, Claim, Past, Run, past_of, past_to, begun-told, Trace, winner_at, Who, Symmetric}
+use Words.{Priority, Starting, step_decided, step_performed, was_held_at, asked_by, starting_for, want_in, BenchView}
+use Words.{next_clock_of, Done}
 use Rattle.fsb_bench_run.proofs.AskedNow.{locked-told}
 use Rattle.fsb_bench_run.proofs.StartingNow.{starting-parts, wanted-parts, winner-grown}
 use Rattle.fsb_bench_run.proofs.ThisClock.{past-now}
-use Rattle.fsb_access.specs.declared.log.Done.{Done}
 use Rattle.fsb_bench_run.proofs.RunWith.{run_with}
 use Rattle.fsb_bench_run.proofs.StepWith.{IsStepWith}
 

@@ -1,26 +1,13 @@
 -- Which agents keep the bus locked into a clock stays as a run grows.
-use Rattle.std.proofs.Common.{ℕ, ◌-◌, ◌<◌, ◌≤◌, ◌≡◌, ◌&&◌, ◌||◌, Bool, true, false, nat_eq, nat_le, Option, Some}
-use Rattle.std.proofs.Common.{None, List, [], ◌∷◌, ◌++◌, length, slice_get, refl, ap, ◌∙◌, arith}
-use Rattle.std.specs.List.{list_all, list_any}
-use Rattle.fsb_access.specs.declared.log.Done.{Done}
-use Rattle.fsb_count.specs.Clocks.{count_where, from_clock, holds_since}
-use Rattle.fsb_count.specs.Options.{is_some_and}
-use Rattle.fsb_count.proofs.Interface.{any_where-same, nth_where-found}
-use Rattle.fsb_lawful.proofs.Interface.{length-cut}
-use Rattle.fsb_signal.proofs.Interface.{slice_get-before}
-use Rattle.fsb_timely.specs.BusLock.{ends_locked_item, is_lock_cancelled, is_lock_retried, is_release}
-use Rattle.fsb_timely.specs.BusLock.{is_released_before, keeps_lock}
-use Rattle.fsb_timely.specs.Growth.{GrowsTo}
-use Rattle.fsb_timely.specs.Moments.{cancelled_at, moment_at, responded_at, retried_at}
-use Rattle.fsb_timely.specs.Past.{Past}
-use Rattle.fsb_timely.specs.Runs.{Run, past_of}
-use Rattle.fsb_timely.specs.Scripts.{items_of}
-use Rattle.fsb_timely.proofs.Interface.{cancelled-told, length-moments, moment-at, moments-grow}
-use Rattle.fsb_trace.specs.At.{Trace, responds_at, response_code_at}
-use Rattle.fsb_trace.specs.Outcome.{response_code_of}
-use Rattle.fsb_trace.specs.declared.outcome.Outcome.TheVariants.{Retried}
-use Rattle.fsb_trace.specs.Requests.{is_live, live_clock_of}
-use Rattle.fsb_bench_run.specs.LocksHeld.{keeps_into}
+use Rattle.fsb_bench_run.proofs.Words
+use Words.{ℕ, ◌-◌, ◌<◌, ◌≤◌, ◌≡◌, ◌&&◌, ◌||◌, Bool, true, false, nat_eq, nat_le, Option, Some, None, List, [], ◌∷◌}
+use Words.{◌++◌, length, refl, ap, ◌∙◌, arith, list_all, list_any, Done, count_where, from_clock, holds_since}
+use Words.{is_some_and, any_where-same, nth_where-found, length-cut, slice_get-before, ends_locked_item}
+use Words.{is_lock_cancelled, is_lock_retried, is_release, is_released_before, keeps_lock, GrowsTo, cancelled_at}
+use Words.{moment_at, responded_at, retried_at, Past, Run, past_of, items_of, cancelled-told, length-moments, moment-at}
+use Words.{moments-grow, Trace, responds_at, response_code_at, response_code_of, Retried, is_live, live_clock_of}
+use Words.{keeps_into}
+use Rattle.std.proofs.Common.{slice_get}
 use Rattle.fsb_bench_run.proofs.AdsGrown.{last-same}
 use Rattle.fsb_bench_run.proofs.StartedNext.{locked-same}
 

@@ -1,19 +1,10 @@
 -- What the moment of a clock has, and what arrivals bring there, rests on the moments, and not on the log.
-use Rattle.std.proofs.Common.{ℕ, ◌≡◌, List, refl}
-use Rattle.fsb_access.specs.declared.log.Done.{Done}
-use Rattle.fsb_hazard.specs.declared.choice.Choice.{Choice}
-use Rattle.fsb_script.specs.Plans.{PlanView}
-use Rattle.fsb_trace.specs.At.{Trace}
-use Rattle.fsb_timely.specs.Completions.{brings_at, is_brought, is_there}
-use Rattle.fsb_timely.specs.Grants.{begun_at, ended_requests, grant_at, has_arrived, holds_line, is_end_at, is_ended}
-use Rattle.fsb_timely.specs.Grants.{is_evicted, is_exclusive, is_granted, is_lost, is_named_by_other, is_rival}
-use Rattle.fsb_timely.specs.Grants.{is_taken_away, is_written_back, latest_grant, set_of, snooped_at}
-use Rattle.fsb_timely.specs.Hits.{is_met}
-use Rattle.fsb_timely.specs.Moments.{begun_with, gives_line, grant_of, is_unsnooped, moment_at, owing_at, owing_for}
-use Rattle.fsb_timely.specs.Moments.{snoop_at, snoop_end_for, snoop_end_if_begun, snoop_end_with, wins_race}
-use Rattle.fsb_timely.specs.Past.{Moment}
-use Rattle.fsb_timely.specs.Scripts.{Need}
-use Rattle.fsb_timely.specs.Wants.{outstanding_at, owed}
+use Rattle.fsb_bench_run.proofs.Words
+use Words.{ℕ, ◌≡◌, List, refl, Done, Choice, PlanView, Trace, brings_at, is_brought, is_there, begun_at, ended_requests}
+use Words.{grant_at, has_arrived, holds_line, is_end_at, is_ended, is_evicted, is_exclusive, is_granted, is_lost}
+use Words.{is_named_by_other, is_rival, is_taken_away, is_written_back, latest_grant, set_of, snooped_at, is_met}
+use Words.{begun_with, gives_line, grant_of, is_unsnooped, moment_at, owing_at, owing_for, snoop_at, snoop_end_for}
+use Words.{snoop_end_if_begun, snoop_end_with, wins_race, Moment, Need, outstanding_at, owed}
 
 pub moment-same : (plan : PlanView) (moments : List Moment) (old new : List Done) (choices : List Choice)
     (w : Trace) (c : ℕ)

@@ -1,34 +1,14 @@
 -- The log of a bench's clock has what is completed there. What the end of the clock completes is told of a timely run:
 -- so of the run with the accesses of the arrivals as its entries, in which the end is the same, and so are the
 -- arrivals.
-use Rattle.std.proofs.Common.{ℕ, ◌+◌, ◌≡◌, ◌||◌, Bool, true, false, nat_eq, Option, Some, None, List, [], ◌∷◌, ◌++◌}
-use Rattle.std.proofs.Common.{map, refl, sym, ap, ◌∙◌, inl, inr, arith}
-use Rattle.std.specs.List.{list_any}
-use Rattle.std.specs.Option.{option_map_or}
-use Rattle.std.proofs.lemmas.Bool.{both_ways, cases_Bool, eqb-true, false_from_ne_true}
-use Rattle.std.proofs.lemmas.List.{map-append}
-use Rattle.std.proofs.lemmas.List.Folds.{list_any-append}
-use Rattle.fsb_access.specs.declared.item.Item.{Item}
-use Rattle.fsb_access.specs.declared.log.Done.{Done}
-use Rattle.fsb_access.specs.ScriptOrder.{Step, steps_of_item}
-use Rattle.fsb_hazard.specs.declared.choice.Choice.{Choice}
-use Rattle.fsb_run_laws.specs.Reaches.{Reaches}
-use Rattle.fsb_timely.specs.Completions.{Completed, completed_if, completed_of_item, is_arrival, logs_completions}
-use Rattle.fsb_timely.specs.Completions.{next_accesses, of_all_agents}
-use Rattle.fsb_timely.specs.Growth.{GrowsTo}
-use Rattle.fsb_timely.specs.Hits.{is_hit}
-use Rattle.fsb_timely.specs.Past.{Past}
-use Rattle.fsb_timely.specs.Runs.{past_of}
-use Rattle.fsb_timely.specs.Scripts.{is_done_at, next_item, next_number}
-use Rattle.fsb_timely.specs.Timely.{Timely, holds_at}
-use Rattle.fsb_timely.proofs.Interface.{is_hit-alike, past-goes_on}
-use Rattle.fsb_bench_view.specs.declared.beginning.Starting.{Starting}
-use Rattle.fsb_bench_view.specs.BenchSteps.{step_answered, step_decided, step_ending, step_entries, step_fetched}
-use Rattle.fsb_bench_view.specs.BenchSteps.{step_run, step_sample}
-use Rattle.fsb_bench_view.specs.BusEvents.{end_entries}
-use Rattle.fsb_bench_view.specs.BusViews.{BenchView, next_clock_of}
-use Rattle.fsb_bench_view.specs.ToldAgents.{hit_entries}
-use Rattle.fsb_bench_run.specs.BenchOf.{IsBenchOf}
+use Rattle.fsb_bench_run.proofs.Words
+use Words.{ℕ, ◌+◌, ◌≡◌, ◌||◌, Bool, true, false, nat_eq, Option, Some, None, List, [], ◌∷◌, ◌++◌, map, refl, sym, ap}
+use Words.{◌∙◌, inl, inr, arith, list_any, option_map_or, both_ways, cases_Bool, eqb-true, false_from_ne_true}
+use Words.{map-append, list_any-append, Item, Done, Step, steps_of_item, Choice, Reaches, Completed, completed_if}
+use Words.{completed_of_item, is_arrival, logs_completions, next_accesses, of_all_agents, GrowsTo, is_hit, Past}
+use Words.{past_of, is_done_at, next_item, next_number, Timely, holds_at, is_hit-alike, past-goes_on, Starting}
+use Words.{step_answered, step_decided, step_ending, step_entries, step_fetched, step_run, step_sample, end_entries}
+use Words.{BenchView, next_clock_of, hit_entries, IsBenchOf}
 use Rattle.fsb_bench_run.proofs.ArrivalMade.{arrival-unhit}
 use Rattle.fsb_bench_run.proofs.ArrivalsAlike.{arrivals-same, whole-before}
 use Rattle.fsb_bench_run.proofs.ArrivalsTold.{arrivals-told}

@@ -1,11 +1,6 @@
 -- A bench that stands for its run may take its next clock.
-use Rattle.std.proofs.Common.{Bool}
-use Rattle.fsb_hazard.specs.declared.choice.Choice.{Choice}
-use Rattle.fsb_bench_view.specs.BenchSteps.{step_entries}
-use Rattle.fsb_bench_view.specs.BusViews.{BenchView}
-use Rattle.fsb_bench_view.specs.FirstBench.{is_named_line}
-use Rattle.fsb_bench_view.specs.MaySteps.{MayStep}
-use Rattle.fsb_bench_run.specs.BenchOf.{IsBenchOf}
+use Rattle.fsb_bench_run.proofs.Words
+use Words.{Bool, Choice, step_entries, BenchView, is_named_line, MayStep, IsBenchOf}
 use Rattle.fsb_bench_run.proofs.CancelMay.{cancel-may}
 use Rattle.fsb_bench_run.proofs.EndMay.{end-may}
 use Rattle.fsb_bench_run.proofs.LogsNow.{reaches-step}

@@ -1,33 +1,12 @@
 -- The run with one more clock of a bench goes on from the run.
-use Rattle.std.proofs.Common.{ℕ, if◌then◌else◌, ◌+◌, ◌≡◌, Bool, true, false, nat_eq, is_some, Option, Some, None}
-use Rattle.std.proofs.Common.{List, [], ◌∷◌, ◌++◌, length, refl, sym, ap, ◌∙◌, arith}
-use Rattle.std.specs.List.{list_all}
-use Rattle.std.specs.Option.{option_map_or}
-use Rattle.std.proofs.lemmas.Bool.{eq-eqb}
-use Rattle.std.proofs.lemmas.List.{length-append}
-use Rattle.fsb_access.specs.ScriptOrder.{Step}
-use Rattle.fsb_access.specs.declared.log.Done.{Done}
-use Rattle.fsb_agent_view.specs.AgentViews.{AgentView}
-use Rattle.fsb_agent_view.specs.Arriving.{is_arrival_by, met_entries, with_bytes}
-use Rattle.fsb_agent_view.specs.Completing.{completed_entries}
-use Rattle.fsb_agent_view.specs.Serving.{AtHand, entries_at_hand, hand_after}
-use Rattle.fsb_agent_view.specs.declared.want.OwnRequest.{OwnRequest}
-use Rattle.fsb_count.specs.Clocks.{count_where}
-use Rattle.fsb_count.proofs.Interface.{count_where-failed, count_where-passed, count_where-same}
-use Rattle.fsb_hazard.specs.declared.choice.Choice.{Choice}
-use Rattle.fsb_laws.proofs.Interface.{line_at-old, one_more}
-use Rattle.fsb_signal.specs.declared.lines.TheConstants.Lines.{ADS}
-use Rattle.fsb_signal.specs.Samples.{line_at}
-use Rattle.fsb_timely.specs.Growth.{GrowsTo, IsNext, IsWhole}
-use Rattle.fsb_timely.specs.Runs.{requests_below}
-use Rattle.fsb_trace.specs.At.{Trace}
-use Rattle.fsb_trace.specs.declared.outcome.Outcome.{Outcome}
-use Rattle.fsb_bench_view.specs.declared.beginning.Starting.{Starting}
-use Rattle.fsb_bench_view.specs.BenchSteps.{step_decided, step_entries, step_performed, step_run, step_sample}
-use Rattle.fsb_bench_view.specs.BusEvents.{end_event, entries_ended, entries_of_event}
-use Rattle.fsb_bench_view.specs.BusViews.{BenchView, next_clock_of}
-use Rattle.fsb_bench_view.specs.ToldAgents.{hit_entries}
-use Rattle.fsb_bench_run.specs.BenchOf.{IsBenchOf}
+use Rattle.fsb_bench_run.proofs.Words
+use Words.{ℕ, if◌then◌else◌, ◌+◌, ◌≡◌, Bool, true, false, nat_eq, is_some, Option, Some, None, List, [], ◌∷◌, ◌++◌}
+use Words.{length, refl, sym, ap, ◌∙◌, arith, list_all, option_map_or, eq-eqb, length-append, Step, Done, AgentView}
+use Words.{is_arrival_by, met_entries, with_bytes, completed_entries, AtHand, entries_at_hand, hand_after, OwnRequest}
+use Words.{count_where, count_where-failed, count_where-passed, count_where-same, Choice, line_at-old, one_more, ADS}
+use Words.{line_at, GrowsTo, IsNext, IsWhole, requests_below, Trace, Outcome, Starting, step_decided, step_entries}
+use Words.{step_performed, step_run, step_sample, end_event, entries_ended, entries_of_event, BenchView, next_clock_of}
+use Words.{hit_entries, IsBenchOf}
 use Rattle.fsb_bench_run.proofs.DrivenLines.{ads-driven, line-new}
 
 -- all of these entries are of this clock

@@ -1,46 +1,16 @@
 -- Which requests of others are open at a bench's clock: those of the queue that have no outcome.
-use Rattle.std.proofs.Common.{ℕ, zero, suc, ◌+◌, ◌/◌, ◌<◌, ◌≤◌, ◌≡◌, ◌&&◌, ◌||◌, Bool, true, false, not, is_none}
-use Rattle.std.proofs.Common.{is_some, nat_eq, List, [], ◌∷◌, Option, Some, None, length, map, slice_get, refl, sym}
-use Rattle.std.proofs.Common.{ap, ◌∙◌, arith}
-use Rattle.std.specs.List.{filter, filter_map, list_any}
-use Rattle.std.specs.Option.{option_and_then, option_map}
-use Rattle.std.proofs.lemmas.Bool.{eq-eqb, eqb-true}
-use Rattle.std.proofs.lemmas.List.{take_all}
-use Rattle.std.proofs.lemmas.List.Folds.{list_any-append}
-use Rattle.fsb_access.specs.declared.log.Done.{Done}
-use Rattle.fsb_coherent.proofs.Interface.{any-from, any-there, some-there}
-use Rattle.fsb_count.specs.Clocks.{all_where}
-use Rattle.fsb_count.specs.Options.{is_some_and}
-use Rattle.fsb_count.proofs.Interface.{nth_where-found}
-use Rattle.fsb_encode.specs.declared.request.Request.{Request}
-use Rattle.fsb_hazard.specs.declared.choice.Choice.{Choice}
-use Rattle.fsb_lawful.proofs.Interface.{and-then, get-there}
-use Rattle.fsb_phase.specs.Due.{rank_of}
-use Rattle.fsb_phase_run.specs.Holds.{HoldsRequests}
-use Rattle.fsb_queue.specs.declared.entry.Entry.{Entry}
-use Rattle.fsb_run_laws.specs.Reaches.{Reaches}
-use Rattle.fsb_run_laws.specs.RunSteps.{owing_begun}
-use Rattle.fsb_run_laws.proofs.Interface.{begun-wanted}
-use Rattle.fsb_timely.specs.Grants.{begun_at, is_claim_of_other, snooped_at}
-use Rattle.fsb_timely.specs.Growth.{GrowsTo}
-use Rattle.fsb_timely.specs.Moments.{agent_at, claim_at, is_snoop_of, is_snooped_in, is_unsnooped, moment_at}
-use Rattle.fsb_timely.specs.Past.{Claim, Moment, Owing, Past, SnoopEnd}
-use Rattle.fsb_timely.specs.Runs.{Run, moments_below, past_of, past_to, run_to}
-use Rattle.fsb_timely.specs.Starts.{would_begin}
-use Rattle.fsb_timely.specs.Wants.{is_open_to_other, unsnooped_at}
-use Rattle.fsb_timely.proofs.Interface.{begun-told, below_le, done_below, moment-at, past-begins, snoop-tied}
-use Rattle.fsb_timely.proofs.Interface.{tied-snoop, want_of-alike}
-use Rattle.fsb_trace.specs.At.{Trace}
-use Rattle.fsb_trace.specs.Flight.{in_flight}
-use Rattle.fsb_trace.specs.Requests.{is_live, line_of, live_clock_of}
-use Rattle.fsb_trace.specs.Snoop.{snoop_end_of}
-use Rattle.fsb_trace.specs.Winner.{winner_at}
-use Rattle.fsb_trace.specs.declared.who.Who.{Who}
-use Rattle.fsb_trace.specs.declared.who.Who.TheVariants.{Symmetric, Priority}
-use Rattle.fsb_bench_view.specs.BenchSteps.{step_performed}
-use Rattle.fsb_bench_view.specs.BusStarting.{is_of_other, is_open_of_other}
-use Rattle.fsb_bench_view.specs.BusViews.{BenchView, next_clock_of}
-use Rattle.fsb_bench_run.specs.BenchOf.{IsBegunAt}
+use Rattle.fsb_bench_run.proofs.Words
+use Words.{ℕ, zero, suc, ◌+◌, ◌/◌, ◌<◌, ◌≤◌, ◌≡◌, ◌&&◌, ◌||◌, Bool, true, false, not, is_none, is_some, nat_eq, List}
+use Words.{[], ◌∷◌, Option, Some, None, length, map, refl, sym, ap, ◌∙◌, arith, filter, filter_map, list_any}
+use Words.{option_and_then, option_map, eq-eqb, eqb-true, take_all, list_any-append, Done, any-from, any-there}
+use Words.{some-there, all_where, is_some_and, nth_where-found, Request, Choice, and-then, get-there, rank_of}
+use Words.{HoldsRequests, Entry, Reaches, owing_begun, begun-wanted, begun_at, is_claim_of_other, snooped_at, GrowsTo}
+use Words.{agent_at, claim_at, is_snoop_of, is_snooped_in, is_unsnooped, moment_at, Claim, Moment, Owing, Past}
+use Words.{SnoopEnd, Run, moments_below, past_of, past_to, run_to, would_begin, is_open_to_other, unsnooped_at}
+use Words.{begun-told, below_le, done_below, moment-at, past-begins, snoop-tied, tied-snoop, want_of-alike, Trace}
+use Words.{in_flight, is_live, line_of, live_clock_of, snoop_end_of, winner_at, Who, Symmetric, Priority}
+use Words.{step_performed, is_of_other, is_open_of_other, BenchView, next_clock_of, IsBegunAt}
+use Rattle.std.proofs.Common.{slice_get}
 use Rattle.fsb_bench_run.proofs.LocksStay.{moments-old}
 use Rattle.fsb_bench_run.proofs.RunWith.{run_with}
 use Rattle.fsb_bench_run.proofs.SameBus.{same-performed}

@@ -1,25 +1,14 @@
 -- What an agent owes rests on its buffers alone: so it stays by each event that leaves them, and where an agent is told
 -- to hand on bytes that it does not have.
-use Rattle.std.proofs.Common.{ℕ, ◌+◌, ◌≡◌, false, cond, if◌then◌else◌, List, [], ◌∷◌, Some, fold, refl, sym, ap}
-use Rattle.std.proofs.Common.{subst, ◌∙◌, inl, inr, arith}
+use Rattle.fsb_bench_run.proofs.Words
+use Words.{ℕ, ◌+◌, ◌≡◌, false, cond, if◌then◌else◌, List, [], ◌∷◌, Some, fold, refl, sym, ap, subst, ◌∙◌, inl, inr}
+use Words.{arith, cases_Bool, HasBytesOwed, is_given_below, is_pushed, IsViewAfterSnoop, IsViewOf, handed-owed}
+use Words.{kept-at-response, line-owed, agent_after, AgentView, handed_on, performed, responded_in, Reaches, Past, Run}
+use Words.{past_of, Who, cancelled_event, starting_event}
 use Rattle.std.specs.Prelude.{◌==◌, count_by}
-use Rattle.std.proofs.lemmas.Bool.{cases_Bool}
 use Rattle.std.proofs.lemmas.List.Sums.{sum_by-cons}
-use Rattle.fsb_agent_run.specs.BytesOwed.{HasBytesOwed, is_given_below, is_pushed}
-use Rattle.fsb_agent_run.specs.Stages.{IsViewAfterSnoop, IsViewOf}
-use Rattle.fsb_agent_run.proofs.Interface.{handed-owed, kept-at-response, line-owed}
-use Rattle.fsb_agent_view.specs.AgentEvents.{agent_after}
-use Rattle.fsb_agent_view.specs.AgentViews.{AgentView}
-use Rattle.fsb_agent_view.specs.Arriving.{handed_on}
-use Rattle.fsb_agent_view.specs.Completing.{performed}
-use Rattle.fsb_coherent.specs.Awaits.{responded_in}
 use Rattle.fsb_linebuf.specs.Buffers.{is_fill_on, is_push_for, pushes_without}
 use Rattle.fsb_linebuf.specs.declared.entry.Push.{Push}
-use Rattle.fsb_run_laws.specs.Reaches.{Reaches}
-use Rattle.fsb_timely.specs.Past.{Past}
-use Rattle.fsb_timely.specs.Runs.{Run, past_of}
-use Rattle.fsb_trace.specs.declared.who.Who.{Who}
-use Rattle.fsb_bench_view.specs.BusEvents.{cancelled_event, starting_event}
 
 -- an agent with the same buffers owes the same
 pub owed-alike : (p : Past) (a n r c : ℕ) (v w : AgentView) → w.buffers ≡ v.buffers → HasBytesOwed p a n r c v

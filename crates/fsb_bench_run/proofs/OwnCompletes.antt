@@ -1,29 +1,12 @@
 -- What an agent completes where its request ends is what the run completes by an arrival there.
-use Rattle.std.proofs.Common.{ℕ, ◌+◌, ◌<◌, ◌≡◌, ◌≢◌, ◌⊎◌, true, false, Option, Some, None, List, [], map, refl, sym}
-use Rattle.std.proofs.Common.{ap, arith, inl, inr}
-use Rattle.fsb_agent_run.specs.Ending.{EndsFor, NothingEndsFor, number_left}
-use Rattle.fsb_agent_run.specs.Stages.{IsViewAfterSnoop}
-use Rattle.fsb_agent_run.proofs.Interface.{IsSettledAs, arrived-entries, settled-as, ungranted, ungranted-arrival}
-use Rattle.fsb_agent_run.proofs.Interface.{upgrade-entries}
-use Rattle.fsb_agent_view.specs.AgentViews.{AgentView}
-use Rattle.fsb_agent_view.specs.Arriving.{arrived_entries}
-use Rattle.fsb_coherent.specs.Awaits.{snoop_end_below}
+use Rattle.fsb_bench_run.proofs.Words
+use Words.{ℕ, ◌+◌, ◌<◌, ◌≡◌, ◌≢◌, ◌⊎◌, true, false, Option, Some, None, List, [], map, refl, sym, ap, arith, inl, inr}
+use Words.{EndsFor, NothingEndsFor, number_left, IsViewAfterSnoop, IsSettledAs, arrived-entries, settled-as, ungranted}
+use Words.{ungranted-arrival, upgrade-entries, AgentView, arrived_entries, snoop_end_below, first_where-found, Reaches}
+use Words.{replied-on, ended-number, one-ends, orderly-whole, completed_if, is_arrival, is_end_at, snooped_at, is_got}
+use Words.{makes_grant, Claim, Grant, Past, SnoopEnd, Run, past_of, is_deferral, Outcome, Granted, Handed, Retried}
+use Words.{Deferred, Written, Replied, Failed, Upgraded, Served, entries_ended}
 use Rattle.fsb_coherent.specs.Fitting.{fits_getting, fits_kind, fits_upgrade, fits_write_back}
-use Rattle.fsb_count.proofs.Interface.{first_where-found}
-use Rattle.fsb_run_laws.specs.Reaches.{Reaches}
-use Rattle.fsb_run_laws.proofs.Interface.{replied-on}
-use Rattle.fsb_tied.proofs.Interface.{ended-number, one-ends, orderly-whole}
-use Rattle.fsb_timely.specs.Completions.{completed_if, is_arrival}
-use Rattle.fsb_timely.specs.Grants.{is_end_at, snooped_at}
-use Rattle.fsb_timely.specs.Moments.{is_got, makes_grant}
-use Rattle.fsb_timely.specs.Past.{Claim, Grant, Past, SnoopEnd}
-use Rattle.fsb_timely.specs.Runs.{Run, past_of}
-use Rattle.fsb_trace.specs.Outcome.{is_deferral}
-use Rattle.fsb_trace.specs.declared.outcome.Outcome.{Outcome}
-use Rattle.fsb_trace.specs.declared.outcome.Outcome.TheVariants.{Granted, Handed, Retried, Deferred, Written, Replied}
-use Rattle.fsb_trace.specs.declared.outcome.Outcome.TheVariants.{Failed, Upgraded}
-use Rattle.fsb_bench_view.specs.declared.snoop.Served.{Served}
-use Rattle.fsb_bench_view.specs.BusEvents.{entries_ended}
 use Rattle.fsb_bench_run.proofs.ArrivalsNow.{quiet-completes}
 use Rattle.fsb_bench_run.proofs.EndHeard.{IsEndHeard}
 use Rattle.fsb_bench_run.proofs.EntriesNow.{completed_of}

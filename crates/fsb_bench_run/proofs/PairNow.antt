@@ -1,19 +1,11 @@
 -- The address and REQ words of the clock are those that are due.
-use Rattle.std.proofs.Common.{ℕ, ◌≡◌, Bool, true, Some, List, refl, sym, subst, arith}
-use Rattle.fsb_count.specs.Options.{is_some_and}
+use Rattle.fsb_bench_run.proofs.Words
+use Words.{ℕ, ◌≡◌, Bool, true, Some, List, refl, sym, subst, arith, is_some_and, Pair, Choice, Run, past_of}
+use Words.{drives_pair, pair_due, known_pair_at, step_decided, pair_driven, BenchView, next_clock_of, Done}
 use Rattle.fsb_encode.specs.Decoded.{is_pair}
-use Rattle.fsb_encode.specs.declared.request.Pair.{Pair}
-use Rattle.fsb_hazard.specs.declared.choice.Choice.{Choice}
-use Rattle.fsb_timely.specs.Runs.{Run, past_of}
-use Rattle.fsb_timely.specs.Starts.{drives_pair, pair_due}
-use Rattle.fsb_trace.specs.At.{known_pair_at}
-use Rattle.fsb_bench_view.specs.BenchSteps.{step_decided}
-use Rattle.fsb_bench_view.specs.BusSample.{pair_driven}
-use Rattle.fsb_bench_view.specs.BusViews.{BenchView, next_clock_of}
 use Rattle.fsb_bench_run.proofs.PairWords.{IsPairDue, pair-due-by, pair-shown, step_pair}
 use Rattle.fsb_bench_run.proofs.StartingNow.{starting-begins}
 use Rattle.fsb_bench_run.proofs.StepFields.{performed-begun}
-use Rattle.fsb_access.specs.declared.log.Done.{Done}
 use Rattle.fsb_bench_run.proofs.RunWith.{run_with}
 use Rattle.fsb_bench_run.proofs.StepWith.{IsStepWith, begins-with}
 

@@ -1,36 +1,15 @@
 -- The words that are due at a clock, and those that a bench shows there.
-use Rattle.std.proofs.Common.{ℕ, suc, ◌+◌, ◌-◌, ◌%◌, ◌^◌, ◌<◌, ◌≤◌, ◌≡◌, ◌==◌, Bool, true, false, Option, Some, None}
-use Rattle.std.proofs.Common.{List, is_some, length, if◌then◌else◌, refl, sym, ap, ◌∙◌, arith}
-use Rattle.std.specs.Option.{option_and_then, option_map}
-use Rattle.std.proofs.lemmas.Bool.{eqb-false, eqb-true, false_from_ne_true}
-use Rattle.std.proofs.Math.Nat.{mod-eq_of_lt}
-use Rattle.fsb_count.specs.Clocks.{last_where}
-use Rattle.fsb_encode.specs.Request.{are_lawful_fields, clocks, den_bit, high_bit, is_lawful_request, pairs_of}
-use Rattle.fsb_encode.specs.Request.{row_of}
-use Rattle.fsb_encode.specs.declared.request.Pair.{Pair}
-use Rattle.fsb_encode.specs.declared.request.Request.{Request}
-use Rattle.fsb_lawful.specs.Beginning.{KeepsBounds}
-use Rattle.fsb_hazard.specs.declared.choice.Choice.{Choice}
-use Rattle.fsb_laws.proofs.Interface.{one_more}
-use Rattle.fsb_phase_run.proofs.Interface.{longer}
-use Rattle.fsb_signal.specs.declared.lines.TheConstants.Lines.{ADS}
-use Rattle.fsb_signal.specs.declared.sample.Sample.{Sample}
-use Rattle.fsb_signal.specs.Samples.{line_at}
-use Rattle.fsb_timely.specs.Growth.{GrowsTo}
-use Rattle.fsb_timely.specs.Runs.{Run, past_of, past_to, run_to}
-use Rattle.fsb_timely.specs.Starts.{no_pair, pair_due, request_begun, request_begun_before}
-use Rattle.fsb_timely.proofs.Interface.{run-ends}
-use Rattle.fsb_trace.specs.At.{known_pair, known_pair_at, line_back}
-use Rattle.fsb_bench_view.specs.declared.beginning.Latest.{Latest}
-use Rattle.fsb_bench_view.specs.declared.beginning.Starting.{Starting}
-use Rattle.fsb_bench_view.specs.BenchSteps.{step_decided, step_performed, step_sample}
-use Rattle.fsb_bench_view.specs.BusSample.{pair_driven}
-use Rattle.fsb_bench_view.specs.BusViews.{BenchView, next_clock_of}
-use Rattle.fsb_bench_run.specs.BenchOf.{IsBegunAt, IsLatestOf}
+use Rattle.fsb_bench_run.proofs.Words
+use Words.{ℕ, suc, ◌+◌, ◌-◌, ◌%◌, ◌^◌, ◌<◌, ◌≤◌, ◌≡◌, ◌==◌, Bool, true, false, Option, Some, None, List, is_some}
+use Words.{length, if◌then◌else◌, refl, sym, ap, ◌∙◌, arith, option_and_then, option_map, eqb-false, eqb-true}
+use Words.{false_from_ne_true, mod-eq_of_lt, last_where, are_lawful_fields, clocks, den_bit, high_bit}
+use Words.{is_lawful_request, pairs_of, row_of, Pair, Request, KeepsBounds, Choice, one_more, longer, ADS, Sample}
+use Words.{line_at, GrowsTo, Run, past_of, past_to, run_to, no_pair, pair_due, request_begun, request_begun_before}
+use Words.{run-ends, known_pair, known_pair_at, line_back, Latest, Starting, step_decided, step_performed, step_sample}
+use Words.{pair_driven, BenchView, next_clock_of, IsBegunAt, IsLatestOf, Done}
 use Rattle.fsb_bench_run.proofs.BegunStays.{begun-lawful, begun-request, begun-stays}
 use Rattle.fsb_bench_run.proofs.AdsGrown.{ads-old}
 use Rattle.fsb_bench_run.proofs.ThisClock.{past-now}
-use Rattle.fsb_access.specs.declared.log.Done.{Done}
 use Rattle.fsb_bench_run.proofs.RunWith.{run_with}
 
 -- the words have their bits

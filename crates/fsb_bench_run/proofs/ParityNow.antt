@@ -1,28 +1,16 @@
 -- The parity lines of the clock are as they must.
-use Rattle.std.proofs.Common.{ℕ, ◌+◌, ◌/◌, ◌%◌, ◌^◌, ◌≡◌, Bool, true, false, not, nat_eq, Some, List, is_some}
-use Rattle.std.proofs.Common.{if◌then◌else◌, slice_get, refl, arith}
-use Rattle.std.specs.Int.RustNames.{count_ones}
-use Rattle.std.proofs.Math.Nat.{mod-eq_of_lt}
-use Rattle.fsb_count.specs.Options.{is_some_and}
-use Rattle.fsb_encode.specs.declared.request.Pair.{Pair}
-use Rattle.fsb_hazard.specs.declared.choice.Choice.{Choice}
-use Rattle.fsb_laws.proofs.Interface.{one_more}
-use Rattle.fsb_signal.specs.declared.lines.TheConstants.Lines.{ADS, AP0, AP1, RP}
-use Rattle.fsb_signal.specs.declared.sample.Sample.{Sample}
+use Rattle.fsb_bench_run.proofs.Words
+use Words.{ℕ, ◌+◌, ◌/◌, ◌%◌, ◌^◌, ◌≡◌, Bool, true, false, not, nat_eq, Some, List, is_some, if◌then◌else◌, refl, arith}
+use Words.{count_ones, mod-eq_of_lt, is_some_and, Pair, Choice, one_more, ADS, AP0, AP1, RP, Sample, has_line, Run}
+use Words.{past_of, holds_at, step_decided, step_performed, step_sample, parity_bits, BenchView, next_clock_of, Done}
+use Rattle.std.proofs.Common.{slice_get}
 use Rattle.fsb_signal.specs.Parity.{has_no_parity, is_even}
-use Rattle.fsb_signal.specs.Samples.{has_line}
 use Rattle.fsb_timely.specs.ParityLines.{drives_parity, is_even_sample}
-use Rattle.fsb_timely.specs.Runs.{Run, past_of}
-use Rattle.fsb_timely.specs.Timely.{holds_at}
-use Rattle.fsb_bench_view.specs.BenchSteps.{step_decided, step_performed, step_sample}
-use Rattle.fsb_bench_view.specs.BusSample.{parity_bits}
-use Rattle.fsb_bench_view.specs.BusViews.{BenchView, next_clock_of}
 use Rattle.fsb_bench_run.proofs.DrivenLines.{ads-driven, ap0-driven, ap1-driven, rp-driven}
 use Rattle.fsb_bench_run.proofs.PairNow.{pair-due-now}
 use Rattle.fsb_bench_run.proofs.PairWords.{step_pair}
 use Rattle.fsb_bench_run.proofs.SampleBits.{bit_in}
 use Rattle.fsb_bench_run.proofs.ThisClock.{holds-now}
-use Rattle.fsb_access.specs.declared.log.Done.{Done}
 use Rattle.fsb_bench_run.proofs.RunWith.{run_with}
 use Rattle.fsb_bench_run.proofs.StepWith.{IsStepWith}
 

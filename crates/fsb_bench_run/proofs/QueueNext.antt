@@ -1,47 +1,17 @@
 -- The queue after a clock of a bench.
-use Rattle.std.proofs.Common.{ℕ, ◌≡◌, Bool, Option, Some, None, List, [], ◌∷◌, ◌++◌, length, map, is_some}
-use Rattle.std.proofs.Common.{if◌then◌else◌, refl, sym, ap, ◌∙◌, arith, inl, inr, subst}
-use Rattle.std.specs.List.{slice_get}
-use Rattle.std.specs.Option.{option_map, option_map_or}
-use Rattle.std.proofs.lemmas.List.{length-map}
-use Rattle.fsb_count.specs.Clocks.{count_where}
-use Rattle.fsb_count.proofs.Interface.{count_where-above, count_where-same, length-all_where, slice_get-end}
-use Rattle.fsb_flight.specs.GoesOn.{IsLater, TakesTurn, goes_on}
-use Rattle.fsb_flight.specs.Steps.{begun_list}
-use Rattle.fsb_flight.proofs.Interface.{goes_on-holds, rising-goes_on}
-use Rattle.fsb_hazard.specs.declared.choice.Choice.{Choice}
-use Rattle.fsb_laws.specs.Orderly.{Orderly}
-use Rattle.fsb_laws.proofs.Interface.{is_live-ads, orderly-empty}
-use Rattle.fsb_phase.specs.FitQueue.{HoldsInFlight}
-use Rattle.fsb_heads.specs.Heads.{last_snoop_end, snooped_count}
+use Rattle.fsb_bench_run.proofs.Words
+use Words.{ℕ, ◌≡◌, Bool, Option, Some, None, List, [], ◌∷◌, ◌++◌, length, map, is_some, if◌then◌else◌, refl, sym, ap}
+use Words.{◌∙◌, arith, inl, inr, subst, slice_get, option_map, option_map_or, length-map, count_where}
+use Words.{count_where-above, count_where-same, length-all_where, slice_get-end, IsLater, TakesTurn, goes_on}
+use Words.{begun_list, goes_on-holds, rising-goes_on, Choice, Orderly, is_live-ads, orderly-empty, HoldsInFlight}
+use Words.{last_snoop_end, snooped_count, response_count, transfer_of, Entry, ADS, line_at, Trace, answer_from}
+use Words.{ready_clock_of, Failed, line_at-agree, snooped_at, GrowsTo, choice_at, turns_in, SnoopEnd, Run, past_of}
+use Words.{requests_below, Timely, snoop-tied, orderly-whole, AreRequestsOf, HoldsRequests, agree-grown}
+use Words.{outcome-settled, queue-goes-on, turn-same, write-back-kept, Starting, SnoopSettled, outcome_snooped}
+use Words.{step_begun, step_decided, step_entries, step_performed, step_queue, step_run, step_sample, entry_started}
+use Words.{BenchView, BusView, next_clock_of, HasFlightOf, MaySample, IsBenchOf}
 use Rattle.fsb_phase.specs.Phases.{MayTake, Stands, last_response}
 use Rattle.fsb_phase.specs.declared.phases.Phases.{Phases}
-use Rattle.fsb_laws.specs.Progress.{response_count, transfer_of}
-use Rattle.fsb_queue.specs.declared.entry.Entry.{Entry}
-use Rattle.fsb_signal.specs.declared.lines.TheConstants.Lines.{ADS}
-use Rattle.fsb_signal.specs.Samples.{line_at}
-use Rattle.fsb_trace.specs.At.{Trace}
-use Rattle.fsb_trace.specs.Response.{answer_from, ready_clock_of}
-use Rattle.fsb_trace.specs.declared.outcome.Outcome.TheVariants.{Failed}
-use Rattle.fsb_trace.proofs.Interface.{line_at-agree}
-use Rattle.fsb_timely.specs.Grants.{snooped_at}
-use Rattle.fsb_timely.specs.Growth.{GrowsTo}
-use Rattle.fsb_timely.specs.Moments.{choice_at, turns_in}
-use Rattle.fsb_timely.specs.Past.{SnoopEnd}
-use Rattle.fsb_timely.specs.Runs.{Run, past_of, requests_below}
-use Rattle.fsb_timely.specs.Timely.{Timely}
-use Rattle.fsb_timely.proofs.Interface.{snoop-tied}
-use Rattle.fsb_tied.proofs.Interface.{orderly-whole}
-use Rattle.fsb_phase_run.specs.Holds.{AreRequestsOf, HoldsRequests}
-use Rattle.fsb_phase_run.proofs.Interface.{agree-grown, outcome-settled, queue-goes-on, turn-same, write-back-kept}
-use Rattle.fsb_bench_view.specs.declared.beginning.Starting.{Starting}
-use Rattle.fsb_bench_view.specs.declared.snoop.SnoopSettled.{SnoopSettled}
-use Rattle.fsb_bench_view.specs.BenchSteps.{outcome_snooped, step_begun, step_decided, step_entries, step_performed}
-use Rattle.fsb_bench_view.specs.BenchSteps.{step_queue, step_run, step_sample}
-use Rattle.fsb_bench_view.specs.BusEvents.{entry_started}
-use Rattle.fsb_bench_view.specs.BusViews.{BenchView, BusView, next_clock_of}
-use Rattle.fsb_bench_view.specs.MaySteps.{HasFlightOf, MaySample}
-use Rattle.fsb_bench_run.specs.BenchOf.{IsBenchOf}
 use Rattle.fsb_bench_run.proofs.DeferralsTold.{DeferralsTold}
 use Rattle.fsb_bench_run.proofs.DrivenLines.{ads-driven}
 use Rattle.fsb_bench_run.proofs.ResponsesDriven.{code-now, sample-grown}

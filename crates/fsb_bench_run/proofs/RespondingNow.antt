@@ -1,33 +1,12 @@
 -- The request that responds at the next clock: its snoop end, and what it serves.
-use Rattle.std.proofs.Common.{ℕ, ◌+◌, ◌≤◌, ◌≡◌, ◌≢◌, Some, List, length, sym, ap, subst, ◌∙◌, arith}
-use Rattle.std.specs.List.{slice_get}
-use Rattle.std.specs.Option.{option_and_then}
-use Rattle.fsb_coherent.specs.Awaits.{responded_in, snoop_end_below}
-use Rattle.fsb_count.specs.Options.{is_some_and}
-use Rattle.fsb_lawful.specs.Beginning.{KeepsBounds}
-use Rattle.fsb_phase_run.specs.Holds.{HoldsRequests}
-use Rattle.fsb_phase_run.proofs.Interface.{agree-back, longer, snooped-same}
-use Rattle.fsb_queue.specs.declared.entry.Entry.{Entry}
-use Rattle.fsb_run_laws.specs.Reaches.{Reaches}
-use Rattle.fsb_run_laws.proofs.Interface.{replied-on, snoop-below}
-use Rattle.fsb_tied.proofs.Interface.{answered, begun-shown, begun-want, live-at, live-request, orderly-whole}
-use Rattle.fsb_tied.proofs.Interface.{responded-number}
-use Rattle.fsb_timely.specs.Growth.{GrowsTo}
-use Rattle.fsb_timely.specs.Moments.{served_number, turns_in}
-use Rattle.fsb_timely.specs.Past.{SnoopEnd}
-use Rattle.fsb_timely.specs.Runs.{Run, past_of}
-use Rattle.fsb_timely.specs.Tied.{IsSnoopOf}
-use Rattle.fsb_timely.proofs.Interface.{snoop-tied}
-use Rattle.fsb_trace.specs.At.{request_at}
-use Rattle.fsb_trace.specs.Requests.{is_reply, live_clock_of, live_number_of}
-use Rattle.fsb_trace.specs.Snoop.{snoop_end_of}
-use Rattle.fsb_trace.specs.declared.outcome.Outcome.TheVariants.{Replied}
-use Rattle.fsb_trace.specs.declared.who.Who.{Who}
-use Rattle.fsb_trace.specs.declared.who.Who.TheVariants.{Symmetric, Priority}
-use Rattle.fsb_trace.proofs.Interface.{live_clock_of-rises, live_clock_of-stays, snoop_end_of-clock}
-use Rattle.fsb_trace.proofs.Interface.{snoop_end_of-stays}
-use Rattle.fsb_bench_view.specs.declared.snoop.Served.{Served}
-use Rattle.fsb_bench_run.specs.BenchOf.{IsBegunAt, IsServed}
+use Rattle.fsb_bench_run.proofs.Words
+use Words.{ℕ, ◌+◌, ◌≤◌, ◌≡◌, ◌≢◌, Some, List, length, sym, ap, subst, ◌∙◌, arith, slice_get, option_and_then}
+use Words.{responded_in, snoop_end_below, is_some_and, KeepsBounds, HoldsRequests, agree-back, longer, snooped-same}
+use Words.{Entry, Reaches, replied-on, snoop-below, answered, begun-shown, begun-want, live-at, live-request}
+use Words.{orderly-whole, responded-number, GrowsTo, served_number, turns_in, SnoopEnd, Run, past_of, IsSnoopOf}
+use Words.{snoop-tied, request_at, is_reply, live_clock_of, live_number_of, snoop_end_of, Replied, Who, Symmetric}
+use Words.{Priority, live_clock_of-rises, live_clock_of-stays, snoop_end_of-clock, snoop_end_of-stays, Served}
+use Words.{IsBegunAt, IsServed}
 use Rattle.fsb_bench_run.proofs.BegunEvents.{begun-claim}
 use Rattle.fsb_bench_run.proofs.BegunRequests.{begun-request}
 use Rattle.fsb_bench_run.proofs.EndHeard.{itself-served}

@@ -1,34 +1,15 @@
 -- The request that responds at a clock of a timely run is the oldest one in flight.
-use Rattle.std.proofs.Common.{ℕ, zero, suc, ◌<◌, ◌≡◌, Bool, true, false, if◌then◌else◌, nat_eq, List, Option, Some}
-use Rattle.std.proofs.Common.{None, length, slice_get, refl, sym, ap, ◌∙◌, inl, inr, arith}
-use Rattle.std.specs.List.{find}
-use Rattle.std.specs.Option.{option_and_then, option_map, option_map_or}
-use Rattle.std.proofs.lemmas.Bool.{lt-ltb}
-use Rattle.std.proofs.lemmas.Option.{slice_get_within}
-use Rattle.fsb_count.specs.Options.{is_before, is_some_and}
-use Rattle.fsb_count.proofs.Interface.{nth_where-found, nth_where-rises}
-use Rattle.fsb_coherent.specs.Awaits.{responded_in}
-use Rattle.fsb_lawful.proofs.Interface.{get-there}
-use Rattle.fsb_laws.proofs.Interface.{is_in_flight-end}
-use Rattle.fsb_phase.specs.Due.{has_response, rank_of}
-use Rattle.fsb_phase.specs.Drive.{drive_of, settled_code}
-use Rattle.fsb_phase.proofs.Interface.{find-cases, find-off, find-place}
-use Rattle.fsb_phase_run.specs.Holds.{HoldsRequests}
+use Rattle.fsb_bench_run.proofs.Words
+use Words.{ℕ, zero, suc, ◌<◌, ◌≡◌, Bool, true, false, if◌then◌else◌, nat_eq, List, Option, Some, None, length, refl}
+use Words.{sym, ap, ◌∙◌, inl, inr, arith, find, option_and_then, option_map, option_map_or, lt-ltb, slice_get_within}
+use Words.{is_before, is_some_and, nth_where-found, nth_where-rises, responded_in, get-there, is_in_flight-end}
+use Words.{has_response, rank_of, drive_of, settled_code, find-cases, find-off, find-place, HoldsRequests, agree-back}
+use Words.{agree-grown, longer, Entry, answered, ended-before, responded-number, GrowsTo, Run, past_of, Timely, Trace}
+use Words.{is_in_flight, response_code_of, end_of, Outcome, end_of-response, end_of-stays, live_clock_of-stays}
+use Words.{snoop_end_of-clock, is_retry}
+use Rattle.std.proofs.Common.{slice_get}
 use Rattle.fsb_phase_run.specs.Responding.{retried_of}
-use Rattle.fsb_phase_run.proofs.Interface.{agree-back, agree-grown, longer}
-use Rattle.fsb_queue.specs.declared.entry.Entry.{Entry}
-use Rattle.fsb_tied.proofs.Interface.{answered, ended-before, responded-number}
-use Rattle.fsb_timely.specs.Growth.{GrowsTo}
-use Rattle.fsb_timely.specs.Runs.{Run, past_of}
-use Rattle.fsb_timely.specs.Timely.{Timely}
-use Rattle.fsb_trace.specs.At.{Trace}
-use Rattle.fsb_trace.specs.Flight.{is_in_flight}
-use Rattle.fsb_trace.specs.Outcome.{response_code_of}
-use Rattle.fsb_trace.specs.Response.{end_of}
-use Rattle.fsb_trace.specs.declared.outcome.Outcome.{Outcome}
 use Rattle.fsb_trace.specs.declared.outcome.Outcome.TheVariants as outcomes
-use Rattle.fsb_trace.proofs.Interface.{end_of-response, end_of-stays, live_clock_of-stays, snoop_end_of-clock}
-use Rattle.fsb_bench_view.specs.BusLocking.{is_retry}
 use Rattle.fsb_bench_run.proofs.OpenNow.{one-number}
 use Rattle.fsb_bench_run.proofs.QueueNext.{orderly-run}
 use Rattle.fsb_bench_run.proofs.SnoopEntry.{clock-there, held-here, rank-rises}

@@ -1,33 +1,12 @@
 -- Responses and data of a clock are as they are due.
-use Rattle.std.proofs.Common.{ℕ, ◌<◌, ◌≡◌, ◌&&◌, ◌||◌, Bool, true, Option, List, [], ◌∷◌, ◌++◌, is_some, nat_eq, refl}
-use Rattle.std.proofs.Common.{sym, ap, ◌∙◌, arith}
-use Rattle.std.specs.Bool.{beq}
-use Rattle.std.specs.Option.{option_map_or}
-use Rattle.std.specs.List.{find}
-use Rattle.std.proofs.lemmas.Bool.{eq-eqb}
-use Rattle.fsb_count.specs.Clocks.{any_where}
-use Rattle.fsb_access.specs.declared.log.Done.{Done}
-use Rattle.fsb_hazard.specs.declared.choice.Choice.{Choice}
-use Rattle.fsb_laws.proofs.Interface.{one_more, response_code_at-new}
-use Rattle.fsb_phase.specs.Due.{has_response}
-use Rattle.fsb_phase.specs.Drive.{drive_of, settled_code}
-use Rattle.fsb_phase.specs.declared.drive.Drive.{Drive}
-use Rattle.fsb_queue.specs.declared.entry.Entry.{Entry}
-use Rattle.fsb_signal.specs.declared.lines.TheConstants.Lines.{DBSY, DRDY, TRDY}
-use Rattle.fsb_signal.specs.declared.sample.Sample.{Sample}
-use Rattle.fsb_signal.specs.Samples.{data_at, known_word, line_at, response_of}
-use Rattle.fsb_trace.specs.At.{Trace, response_code_at}
-use Rattle.fsb_trace.specs.Outcome.{response_code_of}
-use Rattle.fsb_trace.specs.Requests.{live_count}
-use Rattle.fsb_timely.specs.Growth.{GrowsTo}
-use Rattle.fsb_timely.specs.Runs.{past_of}
-use Rattle.fsb_timely.specs.Transfers.{code_due, drives_code, drives_data_busy, drives_data_ready, drives_ready}
-use Rattle.fsb_timely.specs.Transfers.{drives_responses, has_data_at, is_busy_at, is_ready_due, keeps_data_quiet}
-use Rattle.fsb_phase_run.specs.Holds.{HoldsRequests}
-use Rattle.fsb_phase_run.proofs.Interface.{busy-drive, chunk-drive, code-drive, code-shown, ready-drive}
-use Rattle.fsb_bench_view.specs.BenchSteps.{step_decided, step_drive, step_performed, step_sample}
-use Rattle.fsb_bench_view.specs.BusViews.{BenchView, BusView, next_clock_of}
-use Rattle.fsb_bench_view.specs.BytesFetched.{data_driven}
+use Rattle.fsb_bench_run.proofs.Words
+use Words.{ℕ, ◌<◌, ◌≡◌, ◌&&◌, ◌||◌, Bool, true, Option, List, [], ◌∷◌, ◌++◌, is_some, nat_eq, refl, sym, ap, ◌∙◌, arith}
+use Words.{beq, option_map_or, find, eq-eqb, any_where, Done, Choice, one_more, response_code_at-new, has_response}
+use Words.{drive_of, settled_code, Drive, Entry, DBSY, DRDY, TRDY, Sample, data_at, known_word, line_at, response_of}
+use Words.{Trace, response_code_at, response_code_of, live_count, GrowsTo, past_of, code_due, drives_code}
+use Words.{drives_data_busy, drives_data_ready, drives_ready, drives_responses, has_data_at, is_busy_at, is_ready_due}
+use Words.{keeps_data_quiet, HoldsRequests, busy-drive, chunk-drive, code-drive, code-shown, ready-drive, step_decided}
+use Words.{step_drive, step_performed, step_sample, BenchView, BusView, next_clock_of, data_driven}
 use Rattle.fsb_bench_run.proofs.RunWith.{run_with}
 use Rattle.fsb_bench_run.proofs.DrivenLines.{code-driven, dbsy-driven, drdy-driven, line-with, trdy-driven}
 use Rattle.fsb_bench_run.proofs.ThisClock.{holds-now}

@@ -1,11 +1,6 @@
 -- The run with one more clock of a bench, where these entries are logged there.
-use Rattle.std.proofs.Common.{Bool, List, [], ◌∷◌, ◌++◌}
-use Rattle.std.specs.Option.{option_map_or}
-use Rattle.fsb_access.specs.declared.log.Done.{Done}
-use Rattle.fsb_hazard.specs.declared.choice.Choice.{Choice}
-use Rattle.fsb_timely.specs.Runs.{Run}
-use Rattle.fsb_bench_view.specs.BenchSteps.{step_decided, step_sample}
-use Rattle.fsb_bench_view.specs.BusViews.{BenchView}
+use Rattle.fsb_bench_run.proofs.Words
+use Words.{Bool, List, [], ◌∷◌, ◌++◌, option_map_or, Done, Choice, Run, step_decided, step_sample, BenchView}
 
 -- the run with one more clock, whatever entries are logged there: with those of the step it is the run of the step
 abbrev pub run_with : BenchView → Bool → Choice → List Done → Run

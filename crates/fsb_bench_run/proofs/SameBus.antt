@@ -1,7 +1,6 @@
 -- What the hits of a clock leave as it is on the bus.
-use Rattle.std.proofs.Common.{◌≡◌, arith}
-use Rattle.fsb_bench_view.specs.BusViews.{BenchView, BusView}
-use Rattle.fsb_bench_view.specs.BenchSteps.{step_performed}
+use Rattle.fsb_bench_run.proofs.Words
+use Words.{◌≡◌, arith, BenchView, BusView, step_performed}
 
 -- a bus has the same as another one beside its agents and its bytes
 pub record IsSameBus (bus other : BusView) : Type 0 where

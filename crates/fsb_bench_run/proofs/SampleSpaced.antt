@@ -1,21 +1,9 @@
 -- The sample of a bench's clock may be the next: RS# is what is driven, and requests keep their distance.
-use Rattle.std.proofs.Common.{ℕ, ◌+◌, ◌-◌, ◌<◌, ◌≤◌, ◌≡◌, ◌&&◌, ◌||◌, Bool, true, false, Option, Some, is_some}
-use Rattle.std.proofs.Common.{length, nat_le, refl, ap, ◌∙◌, arith}
-use Rattle.std.specs.Option.{option_map}
-use Rattle.std.proofs.lemmas.Bool.{and_parts, leb-true}
-use Rattle.fsb_count.specs.Clocks.{last_where}
-use Rattle.fsb_phase.specs.FitQueue.{is_too_soon}
-use Rattle.fsb_signal.specs.declared.lines.TheConstants.Lines.{ADS}
-use Rattle.fsb_signal.specs.Samples.{line_at}
-use Rattle.fsb_timely.proofs.Interface.{last_where-from}
-use Rattle.fsb_trace.specs.At.{Trace, line_back}
-use Rattle.fsb_bench_view.specs.declared.beginning.Latest.{Latest}
-use Rattle.fsb_bench_view.specs.declared.beginning.Starting.{Starting}
-use Rattle.fsb_bench_view.specs.BenchSteps.{step_decided, step_performed}
-use Rattle.fsb_bench_view.specs.BusStarting.{is_spaced_by}
-use Rattle.fsb_bench_view.specs.BusViews.{BenchView, next_clock_of}
-use Rattle.fsb_bench_view.specs.MaySteps.{MaySample}
-use Rattle.fsb_bench_run.specs.BenchOf.{IsBenchOf}
+use Rattle.fsb_bench_run.proofs.Words
+use Words.{ℕ, ◌+◌, ◌-◌, ◌<◌, ◌≤◌, ◌≡◌, ◌&&◌, ◌||◌, Bool, true, false, Option, Some, is_some, length, nat_le, refl, ap}
+use Words.{◌∙◌, arith, option_map, and_parts, leb-true, last_where, is_too_soon, ADS, line_at, last_where-from, Trace}
+use Words.{line_back, Latest, Starting, step_decided, step_performed, is_spaced_by, BenchView, next_clock_of, MaySample}
+use Words.{IsBenchOf}
 use Rattle.fsb_bench_run.proofs.DrivenLines.{ads-driven}
 use Rattle.fsb_bench_run.proofs.ResponsesDriven.{code-now}
 

@@ -1,44 +1,15 @@
 -- What requests serve, after a bench's clock: that of the longer run.
-use Rattle.std.proofs.Common.{ℕ, zero, suc, ◌+◌, ◌<◌, ◌≤◌, ◌≡◌, Bool, true, false, Option, Some, None, List, [], ◌∷◌}
-use Rattle.std.proofs.Common.{◌++◌, append-nil, drop, is_none, is_some, length, map, refl, sym, ap, subst, ◌∙◌, ◌⊎◌}
-use Rattle.std.proofs.Common.{arith, inl, inr}
-use Rattle.std.specs.List.{filter, slice_get}
-use Rattle.std.specs.Option.{option_map, option_map_or}
-use Rattle.std.proofs.lemmas.Bool.{both_ways, false_from_ne_true}
-use Rattle.std.proofs.lemmas.List.Elements.{filter-append}
-use Rattle.fsb_flight.specs.GoesOn.{goes_on, settles, stays_in_flight}
-use Rattle.fsb_flight.specs.Steps.{begun_list}
-use Rattle.fsb_hazard.specs.declared.choice.Choice.{Choice}
-use Rattle.fsb_laws.specs.Leaving.{leaves}
-use Rattle.fsb_laws.specs.OneMore.{cancels}
-use Rattle.fsb_phase.specs.Due.{rank_of}
-use Rattle.fsb_phase.specs.Drive.{ends_snoop_at, has_end_at}
-use Rattle.fsb_heads.specs.Heads.{snooped_count}
-use Rattle.fsb_heads.proofs.Interface.{snoops_to}
-use Rattle.fsb_phase.proofs.Interface.{not_reached_from}
-use Rattle.fsb_phase_run.specs.Holds.{HoldsRequests}
-use Rattle.fsb_queue.specs.declared.entry.Entry.{Entry}
+use Rattle.fsb_bench_run.proofs.Words
+use Words.{ℕ, zero, suc, ◌+◌, ◌<◌, ◌≤◌, ◌≡◌, Bool, true, false, Option, Some, None, List, [], ◌∷◌, ◌++◌, append-nil}
+use Words.{drop, is_none, is_some, length, map, refl, sym, ap, subst, ◌∙◌, ◌⊎◌, arith, inl, inr, filter, slice_get}
+use Words.{option_map, option_map_or, both_ways, false_from_ne_true, filter-append, goes_on, settles, stays_in_flight}
+use Words.{begun_list, Choice, leaves, cancels, rank_of, ends_snoop_at, has_end_at, snooped_count, snoops_to}
+use Words.{not_reached_from, HoldsRequests, Entry, Sample, snooped_at, GrowsTo, SnoopEnd, Run, past_of, Timely}
+use Words.{snoop-tied, Trace, live_number_of, snoop_end_of, Outcome, snoop_end_of-clock, Starting, Served}
+use Words.{bench_stepped, outcome_snooped, step_answered, step_begun, step_cancelled, step_decided, step_ended}
+use Words.{step_entries, step_performed, step_queue, step_run, step_sample, bus_ended, bus_snooped, entry_started}
+use Words.{BenchView, BusView, next_clock_of, HasServed, IsBenchOf, IsServed, clock_served, settled_entries}
 use Rattle.fsb_queue.specs.Entries.{with_outcome}
-use Rattle.fsb_signal.specs.declared.sample.Sample.{Sample}
-use Rattle.fsb_timely.specs.Grants.{snooped_at}
-use Rattle.fsb_timely.specs.Growth.{GrowsTo}
-use Rattle.fsb_timely.specs.Past.{SnoopEnd}
-use Rattle.fsb_timely.specs.Runs.{Run, past_of}
-use Rattle.fsb_timely.specs.Timely.{Timely}
-use Rattle.fsb_timely.proofs.Interface.{snoop-tied}
-use Rattle.fsb_trace.specs.At.{Trace}
-use Rattle.fsb_trace.specs.Requests.{live_number_of}
-use Rattle.fsb_trace.specs.Snoop.{snoop_end_of}
-use Rattle.fsb_trace.specs.declared.outcome.Outcome.{Outcome}
-use Rattle.fsb_trace.proofs.Interface.{snoop_end_of-clock}
-use Rattle.fsb_bench_view.specs.declared.beginning.Starting.{Starting}
-use Rattle.fsb_bench_view.specs.declared.snoop.Served.{Served}
-use Rattle.fsb_bench_view.specs.BenchSteps.{bench_stepped, outcome_snooped, step_answered, step_begun, step_cancelled}
-use Rattle.fsb_bench_view.specs.BenchSteps.{step_decided, step_ended, step_entries, step_performed, step_queue}
-use Rattle.fsb_bench_view.specs.BenchSteps.{step_run, step_sample}
-use Rattle.fsb_bench_view.specs.BusEvents.{bus_ended, bus_snooped, entry_started}
-use Rattle.fsb_bench_view.specs.BusViews.{BenchView, BusView, next_clock_of}
-use Rattle.fsb_bench_run.specs.BenchOf.{HasServed, IsBenchOf, IsServed, clock_served, settled_entries}
 use Rattle.fsb_bench_run.proofs.EndCases.{EndsHere, EndsNone, end-cases, served-cancelled, served-unanswered}
 use Rattle.fsb_bench_run.proofs.EndPlaces.{head-ends}
 use Rattle.fsb_bench_run.proofs.LogsNow.{reaches-step}

@@ -1,33 +1,12 @@
 -- What a request serves that has its snoop end: it stays as the run grows, and it is what the bench hears of a new one.
-use Rattle.std.proofs.Common.{ℕ, ◌+◌, ◌<◌, ◌≡◌, false, Some, None, length, sym, ap, ◌∙◌, arith}
-use Rattle.std.specs.Option.{option_and_then}
-use Rattle.fsb_agent_run.specs.AgentClocks.{number_asked}
-use Rattle.fsb_agent_run.proofs.Interface.{served-number}
-use Rattle.fsb_count.specs.Options.{is_some_and}
-use Rattle.fsb_encode.specs.declared.request.Request.{Request}
-use Rattle.fsb_lawful.specs.Beginning.{KeepsBounds}
-use Rattle.fsb_phase_run.proofs.Interface.{agree-grown, longer, snooped-same}
-use Rattle.fsb_queue.specs.declared.entry.Entry.{Entry}
-use Rattle.fsb_run_laws.specs.Reaches.{Reaches}
-use Rattle.fsb_run_laws.proofs.Interface.{replied-outstanding, replied-served}
-use Rattle.fsb_tied.proofs.Interface.{begun-want, live-at, live-request}
-use Rattle.fsb_timely.specs.Grants.{snooped_at}
-use Rattle.fsb_timely.specs.Growth.{GrowsTo}
-use Rattle.fsb_timely.specs.Moments.{served_number, turns_in}
-use Rattle.fsb_timely.specs.Past.{Grant, SnoopEnd}
-use Rattle.fsb_timely.specs.Runs.{Run, past_of}
-use Rattle.fsb_timely.specs.Tied.{IsSnoopOf}
-use Rattle.fsb_timely.proofs.Interface.{going-alike, owed-same, past-goes_on}
-use Rattle.fsb_trace.specs.At.{request_at}
-use Rattle.fsb_trace.specs.Requests.{is_reply, is_reply_kind, live_clock_of, live_number_of}
-use Rattle.fsb_trace.specs.Snoop.{snoop_end_of}
-use Rattle.fsb_trace.specs.declared.who.Who.{Who}
-use Rattle.fsb_trace.specs.declared.who.Who.TheVariants.{Symmetric, Priority}
-use Rattle.fsb_trace.proofs.Interface.{live_clock_of-rises, live_clock_of-stays, snoop_end_of-clock}
-use Rattle.fsb_trace.proofs.Interface.{snoop_end_of-stays}
-use Rattle.fsb_bench_view.specs.declared.snoop.Served.{Served}
-use Rattle.fsb_bench_view.specs.declared.snoop.SnoopSettled.{SnoopSettled}
-use Rattle.fsb_bench_run.specs.BenchOf.{IsBegunAt, IsServed, clock_served}
+use Rattle.fsb_bench_run.proofs.Words
+use Words.{ℕ, ◌+◌, ◌<◌, ◌≡◌, false, Some, None, length, sym, ap, ◌∙◌, arith, option_and_then, number_asked}
+use Words.{served-number, is_some_and, Request, KeepsBounds, agree-grown, longer, snooped-same, Entry, Reaches}
+use Words.{replied-outstanding, replied-served, begun-want, live-at, live-request, snooped_at, GrowsTo, served_number}
+use Words.{turns_in, Grant, SnoopEnd, Run, past_of, IsSnoopOf, going-alike, owed-same, past-goes_on, request_at}
+use Words.{is_reply, is_reply_kind, live_clock_of, live_number_of, snoop_end_of, Who, Symmetric, Priority}
+use Words.{live_clock_of-rises, live_clock_of-stays, snoop_end_of-clock, snoop_end_of-stays, Served, SnoopSettled}
+use Words.{IsBegunAt, IsServed, clock_served}
 use Rattle.fsb_bench_run.proofs.BegunEvents.{begun-claim}
 use Rattle.fsb_bench_run.proofs.BegunRequests.{begun-is, begun-request, request-grown}
 use Rattle.fsb_bench_run.proofs.BegunStays.{before-growth, begun-stays}

@@ -1,19 +1,11 @@
 -- What four agents answer together at a snoop end.
-use Rattle.std.proofs.Common.{ℕ, ◌≡◌, ◌&&◌, ◌||◌, Bool, true, false, not, Some, List, [], ◌∷◌, length, nat_eq}
-use Rattle.std.proofs.Common.{if◌then◌else◌, refl, sym, ap, ◌∙◌, arith}
-use Rattle.std.specs.List.{slice_get}
-use Rattle.fsb_agent_view.specs.AgentViews.{AgentView, answer_by}
-use Rattle.fsb_count.specs.Clocks.{any_where}
-use Rattle.fsb_count.proofs.Interface.{any_where-more, any_where-off}
+use Rattle.fsb_bench_run.proofs.Words
+use Words.{ℕ, ◌≡◌, ◌&&◌, ◌||◌, Bool, true, false, not, Some, List, [], ◌∷◌, length, nat_eq, if◌then◌else◌, refl, sym}
+use Words.{ap, ◌∙◌, arith, slice_get, AgentView, answer_by, any_where, any_where-more, any_where-off, holds_line}
+use Words.{is_dirty, Run, past_of, is_dirty_elsewhere, is_held_elsewhere, step_performed, answer_besides, is_hit_answer}
+use Words.{is_modified_answer, stronger, BenchView, next_clock_of}
 use Rattle.fsb_line.specs.declared.state.Answer.{Answer}
 use Rattle.fsb_line.specs.declared.state.Answer.TheVariants as answers
-use Rattle.fsb_timely.specs.Grants.{holds_line}
-use Rattle.fsb_timely.specs.Hits.{is_dirty}
-use Rattle.fsb_timely.specs.Runs.{Run, past_of}
-use Rattle.fsb_timely.specs.Snoops.{is_dirty_elsewhere, is_held_elsewhere}
-use Rattle.fsb_bench_view.specs.BenchSteps.{step_performed}
-use Rattle.fsb_bench_view.specs.BusSnooping.{answer_besides, is_hit_answer, is_modified_answer, stronger}
-use Rattle.fsb_bench_view.specs.BusViews.{BenchView, next_clock_of}
 
 -- the answer of an agent that is dirty on a line or not, and holds it or not
 abbrev pub answer_told : Bool → Bool → Answer

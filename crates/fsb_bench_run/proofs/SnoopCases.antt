@@ -1,19 +1,9 @@
 -- The snoop end of a clock, as the bench decides it and as the moment of the run has it.
-use Rattle.std.proofs.Common.{◌≡◌, ◌&&◌, ◌||◌, Bool, true, false, not, None, List, is_none, ap, ◌∙◌, ◌⊎◌, inl, inr}
-use Rattle.std.proofs.Common.{arith}
-use Rattle.std.proofs.lemmas.Bool.{and_left, and_right, cases_Bool}
-use Rattle.fsb_access.specs.declared.log.Done.{Done}
-use Rattle.fsb_hazard.specs.declared.choice.Choice.{Choice}
-use Rattle.fsb_phase.specs.Due.{has_snoop}
-use Rattle.fsb_phase.specs.Drive.{ends_snoop_at}
-use Rattle.fsb_phase.proofs.Interface.{find-cases}
-use Rattle.fsb_timely.specs.Grants.{snooped_at}
-use Rattle.fsb_timely.specs.Growth.{GrowsTo}
-use Rattle.fsb_timely.specs.Runs.{past_of}
-use Rattle.fsb_phase_run.specs.Holds.{HoldsRequests}
-use Rattle.fsb_bench_view.specs.BenchSteps.{step_decided, step_drive, step_performed, step_sample}
-use Rattle.fsb_bench_view.specs.BusSnooping.{first_open, snooped_entry}
-use Rattle.fsb_bench_view.specs.BusViews.{BenchView, next_clock_of}
+use Rattle.fsb_bench_run.proofs.Words
+use Words.{◌≡◌, ◌&&◌, ◌||◌, Bool, true, false, not, None, List, is_none, ap, ◌∙◌, ◌⊎◌, inl, inr, arith, and_left}
+use Words.{and_right, cases_Bool, Done, Choice, has_snoop, ends_snoop_at, find-cases, snooped_at, GrowsTo, past_of}
+use Words.{HoldsRequests, step_decided, step_drive, step_performed, step_sample, first_open, snooped_entry, BenchView}
+use Words.{next_clock_of}
 use Rattle.fsb_bench_run.proofs.RunWith.{run_with}
 use Rattle.fsb_bench_run.proofs.SameBus.{same-performed}
 use Rattle.fsb_bench_run.proofs.SnoopDriven.{no-snoop, snooped-open, snooped-shut, some-snoop, stalls-driven}

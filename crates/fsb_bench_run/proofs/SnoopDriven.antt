@@ -1,18 +1,9 @@
 -- What a bench decides of the snoop end of a clock.
-use Rattle.std.proofs.Common.{ℕ, ◌≡◌, ◌||◌, Bool, true, false, Some, None, List, is_some, is_none, refl, ap, arith}
-use Rattle.std.specs.Option.{option_map}
-use Rattle.std.specs.List.{find, slice_get}
-use Rattle.std.proofs.lemmas.Bool.{and_left}
-use Rattle.fsb_laws.specs.OneMore.{stalls}
-use Rattle.fsb_phase.specs.Due.{has_snoop, is_stalled}
-use Rattle.fsb_phase.specs.Drive.{drive_of}
-use Rattle.fsb_phase.specs.declared.drive.Drive.{Drive}
-use Rattle.fsb_phase.proofs.Interface.{find-off}
-use Rattle.fsb_queue.specs.declared.entry.Entry.{Entry}
-use Rattle.fsb_trace.specs.At.{Trace}
-use Rattle.fsb_bench_view.specs.BenchSteps.{step_decided, step_drive, step_performed, step_sample}
-use Rattle.fsb_bench_view.specs.BusSnooping.{first_open, snooping_by, snooped_entry}
-use Rattle.fsb_bench_view.specs.BusViews.{BenchView, BusView, next_clock_of}
+use Rattle.fsb_bench_run.proofs.Words
+use Words.{ℕ, ◌≡◌, ◌||◌, Bool, true, false, Some, None, List, is_some, is_none, refl, ap, arith, option_map, find}
+use Words.{slice_get, and_left, stalls, has_snoop, is_stalled, drive_of, Drive, find-off, Entry, Trace, step_decided}
+use Words.{step_drive, step_performed, step_sample, first_open, snooping_by, snooped_entry, BenchView, BusView}
+use Words.{next_clock_of}
 use Rattle.fsb_bench_run.proofs.DrivenLines.{hit-driven, hitm-driven}
 
 pub stalls-driven : (v : BenchView) (hold : Bool) → stalls (step_sample v hold) ≡ (step_drive v).stall

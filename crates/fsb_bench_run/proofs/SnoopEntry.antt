@@ -1,38 +1,14 @@
 -- The entry whose snoop clock the next clock is: the oldest one without a snoop end.
-use Rattle.std.proofs.Common.{ℕ, ◌+◌, ◌<◌, ◌≡◌, ◌&&◌, true, false, not, Option, Some, None, List, [], ◌∷◌, ◌++◌}
-use Rattle.std.proofs.Common.{length, is_none, refl, sym, ap, ◌∙◌, arith, inl, inr}
-use Rattle.std.specs.List.{find, slice_get}
-use Rattle.std.specs.Option.{option_map}
-use Rattle.std.proofs.lemmas.Bool.{and_parts, both_ways, cases_order}
-use Rattle.std.proofs.lemmas.Option.{slice_get-map}
-use Rattle.fsb_count.specs.Clocks.{count_where}
-use Rattle.fsb_count.proofs.Interface.{count_where-above, is_at-some, nth_where-found, nth_where-rises}
-use Rattle.fsb_laws.specs.OneMore.{stalls}
-use Rattle.fsb_laws.specs.Orderly.{Spaced}
-use Rattle.fsb_laws.proofs.Interface.{one_more}
-use Rattle.fsb_queue.specs.declared.entry.Entry.{Entry}
-use Rattle.fsb_phase.specs.Due.{has_snoop, rank_of}
-use Rattle.fsb_phase.specs.Drive.{ends_snoop_at, phased_at}
-use Rattle.fsb_heads.specs.Heads.{snooped_count}
-use Rattle.fsb_heads.proofs.Interface.{snoops_to}
-use Rattle.fsb_phase.proofs.Interface.{Found, Placed, ends_entry, find-off, find-place, has_snoop-at, held}
-use Rattle.fsb_phase.proofs.Interface.{not_reached_from, outcome_reached, reached_before, snoop_at, snoop_elsewhere}
-use Rattle.fsb_signal.specs.declared.sample.Sample.{Sample}
-use Rattle.fsb_trace.specs.Flight.{in_flight, is_in_flight}
-use Rattle.fsb_trace.specs.Requests.{is_live, live_clock_of, live_number_of}
-use Rattle.fsb_trace.specs.Snoop.{snoop_end_of}
-use Rattle.fsb_trace.proofs.Interface.{live_clock_of-number}
-use Rattle.fsb_timely.specs.Grants.{snooped_at}
-use Rattle.fsb_timely.specs.Growth.{GrowsTo}
-use Rattle.fsb_timely.specs.Past.{SnoopEnd}
-use Rattle.fsb_timely.specs.Runs.{Run, past_of, requests_below}
-use Rattle.fsb_timely.specs.Tied.{IsSnoopOf}
-use Rattle.fsb_timely.specs.Timely.{Timely}
-use Rattle.fsb_timely.proofs.Interface.{snoop-tied}
-use Rattle.fsb_tied.proofs.Interface.{orderly-whole}
-use Rattle.fsb_phase_run.specs.Holds.{HoldsRequests}
-use Rattle.fsb_phase_run.proofs.Interface.{longer, number-held, snooped-now}
-use Rattle.fsb_bench_view.specs.BusSnooping.{first_open}
+use Rattle.fsb_bench_run.proofs.Words
+use Words.{ℕ, ◌+◌, ◌<◌, ◌≡◌, ◌&&◌, true, false, not, Option, Some, None, List, [], ◌∷◌, ◌++◌, length, is_none, refl}
+use Words.{sym, ap, ◌∙◌, arith, inl, inr, find, slice_get, option_map, and_parts, both_ways, cases_order, slice_get-map}
+use Words.{count_where, count_where-above, is_at-some, nth_where-found, nth_where-rises, stalls, Spaced, one_more}
+use Words.{Entry, has_snoop, rank_of, ends_snoop_at, phased_at, snooped_count, snoops_to, Found, Placed, ends_entry}
+use Words.{find-off, find-place, has_snoop-at, held, not_reached_from, outcome_reached, reached_before, snoop_elsewhere}
+use Words.{Sample, in_flight, is_in_flight, is_live, live_clock_of, live_number_of, snoop_end_of, live_clock_of-number}
+use Words.{snooped_at, GrowsTo, SnoopEnd, Run, past_of, requests_below, IsSnoopOf, Timely, snoop-tied, orderly-whole}
+use Words.{HoldsRequests, longer, number-held, snooped-now, first_open}
+use Rattle.fsb_phase.proofs.Interface.{snoop_at}
 
 -- the clock of each entry
 pub clock-there : (r : Run) (queue : List Entry) (k : ℕ) (e : Entry) → HoldsRequests queue r

@@ -1,49 +1,15 @@
 -- The snoop end that a bench tells its agents is that of its run.
-use Rattle.std.proofs.Common.{ℕ, ◌+◌, ◌/◌, ◌<◌, ◌≡◌, ◌||◌, ◌⊎◌, Bool, true, false, Option, Some, None, List, length}
-use Rattle.std.proofs.Common.{is_some, refl, sym, ap, subst, ◌∙◌, arith, inl, inr}
-use Rattle.std.specs.List.{slice_get}
-use Rattle.std.specs.Option.{option_and_then}
-use Rattle.fsb_access.specs.declared.log.Done.{Done}
-use Rattle.fsb_agent_run.specs.AgentClocks.{number_asked}
-use Rattle.fsb_agent_run.proofs.Interface.{served-number}
-use Rattle.fsb_bridge.specs.Deferrals.{Bridged, deferral_of_id}
-use Rattle.fsb_bridge.specs.DeferralList.{IsThatOf}
-use Rattle.fsb_bridge.specs.declared.deferral.Deferral.{Deferral}
-use Rattle.fsb_bridge_run.proofs.Interface.{deferred-at}
-use Rattle.fsb_count.specs.Options.{is_some_and}
-use Rattle.fsb_count.proofs.Interface.{first_where-found, is_at-some}
-use Rattle.fsb_encode.specs.declared.request.Request.{Request}
-use Rattle.fsb_hazard.specs.declared.choice.Choice.{Choice}
-use Rattle.fsb_lawful.proofs.Interface.{wants-lawfully}
-use Rattle.fsb_phase.specs.Due.{rank_of}
-use Rattle.fsb_phase_run.proofs.Interface.{longer}
-use Rattle.fsb_run_laws.specs.Reaches.{Reaches}
-use Rattle.fsb_run_laws.proofs.Interface.{replied-outstanding, replied-served}
-use Rattle.fsb_signal.specs.declared.lines.TheConstants.Lines.{ADS, HIT}
-use Rattle.fsb_signal.specs.Samples.{line_at}
-use Rattle.fsb_tied.proofs.Interface.{IsPutOff, begun-want, live-request, reply-grants}
-use Rattle.fsb_timely.specs.Grants.{begun_at, snooped_at}
-use Rattle.fsb_timely.specs.Tied.{IsSnoopOf}
-use Rattle.fsb_timely.specs.Moments.{claim_at, grant_for, grant_of, grant_to, is_answered_by, is_owner_request}
-use Rattle.fsb_timely.specs.Moments.{is_shared_at, served_number, turns_in}
-use Rattle.fsb_timely.specs.Past.{Claim, Grant, Past, SnoopEnd}
-use Rattle.fsb_timely.specs.Runs.{Run, past_of}
-use Rattle.fsb_timely.specs.Snoops.{number_served_at}
-use Rattle.fsb_timely.specs.Wants.{want_of}
-use Rattle.fsb_timely.proofs.Interface.{begun-told, number-found}
-use Rattle.fsb_trace.specs.At.{Trace, request_at}
-use Rattle.fsb_trace.specs.Flight.{reply_number_of}
-use Rattle.fsb_trace.specs.Outcome.{is_settled_deferred}
-use Rattle.fsb_trace.specs.Requests.{is_reply, is_reply_kind, live_clock_of, live_request_of}
-use Rattle.fsb_trace.specs.declared.outcome.Outcome.{Outcome}
-use Rattle.fsb_trace.specs.declared.who.Who.{Who}
-use Rattle.fsb_trace.specs.declared.who.Who.TheVariants.{Symmetric, Priority}
-use Rattle.fsb_trace.proofs.Interface.{snoop_end_of-rises}
-use Rattle.fsb_bench_view.specs.declared.snoop.SnoopSettled.{SnoopSettled}
-use Rattle.fsb_bench_view.specs.BenchSteps.{step_decided, step_performed}
-use Rattle.fsb_bench_view.specs.BusSnooping.{snooped_entry, snooped_reply, snooping_of}
-use Rattle.fsb_bench_view.specs.BusViews.{BenchView, next_clock_of}
-use Rattle.fsb_bench_run.specs.BenchOf.{IsBegunAt}
+use Rattle.fsb_bench_run.proofs.Words
+use Words.{ℕ, ◌+◌, ◌/◌, ◌<◌, ◌≡◌, ◌||◌, ◌⊎◌, Bool, true, false, Option, Some, None, List, length, is_some, refl, sym}
+use Words.{ap, subst, ◌∙◌, arith, inl, inr, slice_get, option_and_then, Done, number_asked, served-number, Bridged}
+use Words.{deferral_of_id, IsThatOf, Deferral, deferred-at, is_some_and, first_where-found, is_at-some, Request, Choice}
+use Words.{wants-lawfully, rank_of, longer, Reaches, replied-outstanding, replied-served, ADS, HIT, line_at, IsPutOff}
+use Words.{begun-want, live-request, reply-grants, begun_at, snooped_at, IsSnoopOf, claim_at, grant_for, grant_of}
+use Words.{grant_to, is_answered_by, is_owner_request, is_shared_at, served_number, turns_in, Claim, Grant, Past}
+use Words.{SnoopEnd, Run, past_of, number_served_at, want_of, begun-told, number-found, Trace, request_at}
+use Words.{reply_number_of, is_settled_deferred, is_reply, is_reply_kind, live_clock_of, live_request_of, Outcome, Who}
+use Words.{Symmetric, Priority, snoop_end_of-rises, SnoopSettled, step_decided, step_performed, snooped_entry}
+use Words.{snooped_reply, snooping_of, BenchView, next_clock_of, IsBegunAt}
 use Rattle.fsb_bench_run.proofs.BegunEvents.{begun-claim}
 use Rattle.fsb_bench_run.proofs.BegunRequests.{begun-is}
 use Rattle.fsb_bench_run.proofs.BegunStays.{begun-stays}

@@ -1,23 +1,9 @@
 -- A bench may take the snoop end that it decides: each agent may see it, and there is room.
-use Rattle.std.proofs.Common.{ℕ, ◌+◌, ◌<◌, ◌≡◌, Bool, true, false, Option, Some, None, length, is_none, is_some}
-use Rattle.std.proofs.Common.{nat_eq, refl, sym, ap, subst, ◌∙◌, arith, inl, inr}
-use Rattle.fsb_bridge_run.proofs.Interface.{grown-room}
-use Rattle.fsb_encode.specs.declared.request.Request.{Request}
-use Rattle.fsb_hazard.specs.declared.choice.Choice.{Choice}
-use Rattle.fsb_queue.specs.declared.entry.Entry.{Entry}
-use Rattle.fsb_run_laws.specs.Reaches.{Reaches}
-use Rattle.fsb_run_laws.proofs.Interface.{replied-on}
-use Rattle.fsb_timely.specs.Runs.{Run}
-use Rattle.fsb_timely.proofs.Interface.{find-passes}
-use Rattle.fsb_trace.specs.At.{request_at}
-use Rattle.fsb_trace.specs.Requests.{is_reply_kind}
-use Rattle.fsb_trace.specs.declared.outcome.Outcome.{Outcome}
-use Rattle.fsb_trace.specs.declared.outcome.Outcome.TheVariants.{Deferred, Replied}
-use Rattle.fsb_bench_view.specs.declared.snoop.SnoopSettled.{SnoopSettled}
-use Rattle.fsb_bench_view.specs.BenchSteps.{step_cancelled, step_decided, step_entries, step_run}
-use Rattle.fsb_bench_view.specs.BusViews.{BenchView, next_clock_of}
-use Rattle.fsb_bench_view.specs.MaySteps.{MaySnoop}
-use Rattle.fsb_bench_run.specs.BenchOf.{IsBenchOf, settled_entries}
+use Rattle.fsb_bench_run.proofs.Words
+use Words.{ℕ, ◌+◌, ◌<◌, ◌≡◌, Bool, true, false, Option, Some, None, length, is_none, is_some, nat_eq, refl, sym, ap}
+use Words.{subst, ◌∙◌, arith, inl, inr, grown-room, Request, Choice, Entry, Reaches, replied-on, Run, find-passes}
+use Words.{request_at, is_reply_kind, Outcome, Deferred, Replied, SnoopSettled, step_cancelled, step_decided}
+use Words.{step_entries, step_run, BenchView, next_clock_of, MaySnoop, IsBenchOf, settled_entries}
 use Rattle.fsb_bench_run.proofs.AgentsSound as sound
 use Rattle.fsb_bench_run.proofs.BusKept.{served-cancelled, waiting-cancelled}
 use Rattle.fsb_bench_run.proofs.FewFlying.{few-held, filter-less}

@@ -1,47 +1,16 @@
 -- The result of the snoop end of a clock is right.
-use Rattle.std.proofs.Common.{ℕ, ◌/◌, ◌<◌, ◌≤◌, ◌≡◌, ◌&&◌, Bool, true, false, not, Option, Some, None, List, length}
-use Rattle.std.proofs.Common.{if◌then◌else◌, refl, sym, ap, ◌∙◌, arith, inl, inr, subst}
-use Rattle.std.specs.List.{slice_get}
-use Rattle.std.specs.Option.{option_and_then, option_map, option_map_or}
-use Rattle.std.proofs.lemmas.Option.{slice_get-map, slice_get_cases}
-use Rattle.fsb_access.specs.declared.log.Done.{Done}
-use Rattle.fsb_bridge.specs.Deferrals.{Bridged, deferral_of_id}
-use Rattle.fsb_bridge.specs.DeferralList.{IsDeferralOf, IsThatOf, request_number_of}
-use Rattle.fsb_bridge.specs.declared.deferral.Deferral.{Deferral}
-use Rattle.fsb_count.specs.Clocks.{count_where, nth_where}
-use Rattle.fsb_count.specs.Options.{is_some_and}
-use Rattle.fsb_count.proofs.Interface.{count_where-same, first_where-found, nth_where-at, nth_where-found}
-use Rattle.fsb_encode.specs.declared.request.Request.{Request}
-use Rattle.fsb_hazard.specs.declared.choice.Choice.{Choice}
-use Rattle.fsb_laws.proofs.Interface.{is_live-ads}
-use Rattle.fsb_phase.specs.Due.{rank_of}
-use Rattle.fsb_queue.specs.declared.entry.Entry.{Entry}
-use Rattle.fsb_signal.specs.declared.lines.TheConstants.Lines.{ADS, HIT, HITM}
-use Rattle.fsb_signal.specs.Samples.{line_at}
-use Rattle.fsb_signal.specs.declared.sample.Sample.{Sample}
-use Rattle.fsb_trace.specs.At.{Trace, request_at}
-use Rattle.fsb_trace.specs.Winner.{winner_at}
-use Rattle.fsb_trace.specs.Requests.{is_live, is_reply_kind, line_of, live_clock_of}
-use Rattle.fsb_trace.specs.declared.who.Who.{Who}
-use Rattle.fsb_trace.specs.declared.who.Who.TheVariants.{Symmetric, Priority}
-use Rattle.fsb_trace.proofs.Interface.{line_at-agree, live_clock_of-rises, snoop_end_of-clock}
-use Rattle.fsb_timely.specs.Grants.{snooped_at}
-use Rattle.fsb_timely.specs.Growth.{GrowsTo}
-use Rattle.fsb_timely.specs.Moments.{agent_at, claim_at, served_number, turns_in}
-use Rattle.fsb_timely.specs.Past.{Claim, Past, SnoopEnd}
-use Rattle.fsb_timely.specs.Starts.{reply_to, would_begin}
-use Rattle.fsb_timely.specs.Runs.{Run, past_of}
-use Rattle.fsb_timely.specs.Snoops.{has_right_result, has_snoop_result, is_dirty_elsewhere, is_dirty_for}
-use Rattle.fsb_timely.specs.Snoops.{is_held_elsewhere, is_held_for, is_reply_end, number_served_at, was_hit_before}
-use Rattle.fsb_timely.specs.Timely.{holds_at}
-use Rattle.fsb_timely.proofs.Interface.{begun-told, claim_at-agree, number-found}
-use Rattle.fsb_tied.proofs.Interface.{begun-want}
-use Rattle.fsb_phase_run.proofs.Interface.{agree-grown}
-use Rattle.fsb_bench_view.specs.declared.beginning.Started.{Started}
-use Rattle.fsb_bench_view.specs.BenchSteps.{step_decided, step_performed}
-use Rattle.fsb_bench_view.specs.BusSnooping.{snooped_entry, snooped_for}
-use Rattle.fsb_bench_view.specs.BusViews.{BenchView, BusView, next_clock_of}
-use Rattle.fsb_bench_run.specs.BenchOf.{IsBegunAt, IsBenchOf}
+use Rattle.fsb_bench_run.proofs.Words
+use Words.{ℕ, ◌/◌, ◌<◌, ◌≤◌, ◌≡◌, ◌&&◌, Bool, true, false, not, Option, Some, None, List, length, if◌then◌else◌, refl}
+use Words.{sym, ap, ◌∙◌, arith, inl, inr, subst, slice_get, option_and_then, option_map, option_map_or, slice_get-map}
+use Words.{slice_get_cases, Done, Bridged, deferral_of_id, IsDeferralOf, IsThatOf, request_number_of, Deferral}
+use Words.{count_where, nth_where, is_some_and, count_where-same, first_where-found, nth_where-at, nth_where-found}
+use Words.{Request, Choice, is_live-ads, rank_of, Entry, ADS, HIT, HITM, line_at, Sample, Trace, request_at, winner_at}
+use Words.{is_live, is_reply_kind, line_of, live_clock_of, Who, Symmetric, Priority, line_at-agree, live_clock_of-rises}
+use Words.{snoop_end_of-clock, snooped_at, GrowsTo, agent_at, claim_at, served_number, turns_in, Claim, Past, SnoopEnd}
+use Words.{reply_to, would_begin, Run, past_of, has_right_result, has_snoop_result, is_dirty_elsewhere, is_dirty_for}
+use Words.{is_held_elsewhere, is_held_for, is_reply_end, number_served_at, was_hit_before, holds_at, begun-told}
+use Words.{claim_at-agree, number-found, begun-want, agree-grown, Started, step_decided, step_performed, snooped_entry}
+use Words.{snooped_for, BenchView, BusView, next_clock_of, IsBegunAt, IsBenchOf}
 use Rattle.fsb_bench_run.proofs.BegunRequests.{begun-is}
 use Rattle.fsb_bench_run.proofs.DeferralsTold.{DeferralsTold}
 use Rattle.fsb_bench_run.proofs.DrivenLines.{hit-driven, hit_driven, hitm-driven, hitm_driven, line-with}

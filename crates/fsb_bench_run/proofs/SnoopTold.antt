@@ -1,37 +1,13 @@
 -- The snoop end that a bench decides is the one that the moment of the clock has.
-use Rattle.std.proofs.Common.{◌≡◌, Bool, true, false, Option, Some, List, is_some, refl, ap, ◌∙◌, subst, arith}
-use Rattle.std.specs.List.{slice_get}
-use Rattle.std.specs.Option.{option_and_then, option_map}
-use Rattle.fsb_access.specs.declared.log.Done.{Done}
-use Rattle.fsb_bridge.specs.Deferrals.{Bridged, deferral_of_id}
-use Rattle.fsb_bridge.specs.DeferralList.{IsThatOf}
-use Rattle.fsb_bridge.specs.declared.deferral.Deferral.{Deferral}
+use Rattle.fsb_bench_run.proofs.Words
+use Words.{◌≡◌, Bool, true, false, Option, Some, List, is_some, refl, ap, ◌∙◌, subst, arith, slice_get, option_and_then}
+use Words.{option_map, Done, Bridged, deferral_of_id, IsThatOf, Deferral, outcome-made, Request, Choice, Turn, Keep}
+use Words.{HITM, line_at, request_at, outcome_by_kind, is_reply_kind, Replied, Who, Symmetric, Priority, GrowsTo}
+use Words.{choice_at, is_in_window, turns_in, past_of, number_served_at, is_pending, SnoopSettled, step_decided}
+use Words.{step_performed, answer_besides, is_modified_answer, snoop_outcome, snooped_entry, snooped_for, snooping_of}
+use Words.{snooped_reply, BenchView, next_clock_of, IsBegunAt, IsBenchOf}
 use Rattle.fsb_coherent.specs.Settled.{outcome_by_turn, outcome_under}
-use Rattle.fsb_coherent.proofs.Interface.{outcome-made}
 use Rattle.fsb_encode.specs.declared.request.Kind.{Kind}
-use Rattle.fsb_encode.specs.declared.request.Request.{Request}
-use Rattle.fsb_hazard.specs.declared.choice.Choice.{Choice}
-use Rattle.fsb_hazard.specs.declared.choice.Turn.{Turn}
-use Rattle.fsb_hazard.specs.declared.choice.Turn.TheVariants.{Keep}
-use Rattle.fsb_signal.specs.declared.lines.TheConstants.Lines.{HITM}
-use Rattle.fsb_signal.specs.Samples.{line_at}
-use Rattle.fsb_trace.specs.At.{request_at}
-use Rattle.fsb_trace.specs.Outcome.{outcome_by_kind}
-use Rattle.fsb_trace.specs.Requests.{is_reply_kind}
-use Rattle.fsb_trace.specs.declared.outcome.Outcome.TheVariants.{Replied}
-use Rattle.fsb_trace.specs.declared.who.Who.{Who}
-use Rattle.fsb_trace.specs.declared.who.Who.TheVariants.{Symmetric, Priority}
-use Rattle.fsb_timely.specs.Growth.{GrowsTo}
-use Rattle.fsb_timely.specs.Moments.{choice_at, is_in_window, turns_in}
-use Rattle.fsb_timely.specs.Runs.{past_of}
-use Rattle.fsb_timely.specs.Snoops.{number_served_at}
-use Rattle.fsb_trace.specs.Deferral.{is_pending}
-use Rattle.fsb_bench_view.specs.declared.snoop.SnoopSettled.{SnoopSettled}
-use Rattle.fsb_bench_view.specs.BenchSteps.{step_decided, step_performed}
-use Rattle.fsb_bench_view.specs.BusSnooping.{answer_besides, is_modified_answer, snoop_outcome, snooped_entry}
-use Rattle.fsb_bench_view.specs.BusSnooping.{snooped_for, snooping_of, snooped_reply}
-use Rattle.fsb_bench_view.specs.BusViews.{BenchView, next_clock_of}
-use Rattle.fsb_bench_run.specs.BenchOf.{IsBegunAt, IsBenchOf}
 use Rattle.fsb_bench_run.proofs.DeferralsTold.{DeferralsTold}
 use Rattle.fsb_bench_run.proofs.DrivenLines.{hitm_driven}
 use Rattle.fsb_bench_run.proofs.HazardsDriven.{decoded-now, turn-now}

@@ -1,30 +1,11 @@
 -- The agents of a bench after the snoop end of its clock are as its run says.
-use Rattle.std.proofs.Common.{ℕ, ◌+◌, ◌<◌, ◌≡◌, ◌||◌, Bool, true, false, Option, Some, None, List, fold, nat_eq, refl}
-use Rattle.std.proofs.Common.{sym, subst, ◌∙◌, arith, inl, inr}
-use Rattle.std.specs.Option.{option_map_or}
-use Rattle.std.proofs.lemmas.Bool.{both_ways, eq-eqb, eqb-true}
-use Rattle.fsb_access.specs.declared.log.Done.{Done}
-use Rattle.fsb_agent_run.specs.AgentClocks.{number_asked}
-use Rattle.fsb_agent_run.specs.Stages.{IsViewAfterSnoop, IsViewBeforeSnoop}
-use Rattle.fsb_agent_run.proofs.Interface.{other-claimed, other-replied, own-claimed, own-replied, quiet-view}
-use Rattle.fsb_agent_view.specs.AgentEvents.{agent_after}
-use Rattle.fsb_agent_view.specs.AgentViews.{AgentView}
-use Rattle.fsb_agent_view.specs.Snooping.{committed}
-use Rattle.fsb_hazard.specs.declared.choice.Choice.{Choice}
-use Rattle.fsb_lawful.proofs.Interface.{get-there}
-use Rattle.fsb_phase_run.proofs.Interface.{longer}
-use Rattle.fsb_queue.specs.declared.entry.Entry.{Entry}
-use Rattle.fsb_run_laws.specs.Reaches.{Reaches}
-use Rattle.fsb_timely.specs.Grants.{snooped_at}
-use Rattle.fsb_timely.specs.Past.{SnoopEnd}
-use Rattle.fsb_timely.specs.Runs.{Run, past_of}
-use Rattle.fsb_timely.specs.Timely.{Timely}
-use Rattle.fsb_trace.specs.declared.who.Who.TheVariants.{Symmetric}
-use Rattle.fsb_bench_view.specs.declared.snoop.SnoopSettled.{SnoopSettled}
-use Rattle.fsb_bench_view.specs.BenchSteps.{step_answered, step_cancelled, step_decided, step_drive, step_snooped}
-use Rattle.fsb_bench_view.specs.BusEvents.{answered_by, bus_answered, bus_snooped, snooped_event}
-use Rattle.fsb_bench_view.specs.BusViews.{BenchView, BusView, next_clock_of}
-use Rattle.fsb_bench_run.specs.BenchOf.{IsBegunAt, IsBenchOf}
+use Rattle.fsb_bench_run.proofs.Words
+use Words.{ℕ, ◌+◌, ◌<◌, ◌≡◌, ◌||◌, Bool, true, false, Option, Some, None, List, fold, nat_eq, refl, sym, subst, ◌∙◌}
+use Words.{arith, inl, inr, option_map_or, both_ways, eq-eqb, eqb-true, Done, number_asked, IsViewAfterSnoop}
+use Words.{IsViewBeforeSnoop, other-claimed, other-replied, own-claimed, own-replied, quiet-view, agent_after}
+use Words.{AgentView, committed, Choice, get-there, longer, Entry, Reaches, snooped_at, SnoopEnd, Run, past_of, Timely}
+use Words.{Symmetric, SnoopSettled, step_answered, step_cancelled, step_decided, step_drive, step_snooped, answered_by}
+use Words.{bus_answered, bus_snooped, snooped_event, BenchView, BusView, next_clock_of, IsBegunAt, IsBenchOf}
 use Rattle.fsb_bench_run.proofs.BegunEvents.{AgentsAre, told-each, views-cancelled}
 use Rattle.fsb_bench_run.proofs.RunWith.{run_with}
 use Rattle.fsb_bench_run.proofs.SnoopCases.{snoop-cases}

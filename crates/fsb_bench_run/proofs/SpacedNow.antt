@@ -1,32 +1,13 @@
 -- Whether a request may begin at a bench's clock: the distance, the room in the queue, and BNR# two clocks before.
-use Rattle.std.proofs.Common.{ℕ, ◌+◌, ◌-◌, ◌<◌, ◌≤◌, ◌≡◌, ◌&&◌, Bool, true, false, not, List, Option, length, nat_le}
-use Rattle.std.proofs.Common.{nat_lt, slice_get, sym, ap, ◌∙◌, arith}
-use Rattle.std.specs.Option.{option_map, option_map_or}
-use Rattle.std.proofs.lemmas.Bool.{and_parts, leb-true}
-use Rattle.std.proofs.lemmas.List.{length-map}
-use Rattle.fsb_access.specs.declared.log.Done.{Done}
-use Rattle.fsb_count.specs.Clocks.{last_where}
-use Rattle.fsb_hazard.specs.declared.choice.Choice.{Choice}
+use Rattle.fsb_bench_run.proofs.Words
+use Words.{ℕ, ◌+◌, ◌-◌, ◌<◌, ◌≤◌, ◌≡◌, ◌&&◌, Bool, true, false, not, List, Option, length, nat_le, nat_lt, sym, ap, ◌∙◌}
+use Words.{arith, option_map, option_map_or, and_parts, leb-true, length-map, Done, last_where, Choice, in_flight-now}
+use Words.{one_more, agree-back, Lines, ADS, BNR, line_at, GrowsTo, Run, past_of, past_to, run_to, drives_aerr}
+use Words.{drives_bnr, drives_defer, drives_hazards, drives_stalls, is_bnr_chosen, keeps_snoop_lines, has_room}
+use Words.{is_spaced, Timely, holds_at, holds_in, last_where-found, run_to-agrees, Trace, line_back, in_flight}
+use Words.{line_at-agree, Latest, step_performed, step_sample, was_held_at, is_spaced_by, BenchView, next_clock_of}
+use Rattle.std.proofs.Common.{slice_get}
 use Rattle.fsb_lawful.proofs.Interface as lawful
-use Rattle.fsb_laws.proofs.Interface.{in_flight-now, one_more}
-use Rattle.fsb_phase_run.proofs.Interface.{agree-back}
-use Rattle.fsb_signal.specs.declared.lines.Lines.{Lines}
-use Rattle.fsb_signal.specs.declared.lines.TheConstants.Lines.{ADS, BNR}
-use Rattle.fsb_signal.specs.Samples.{line_at}
-use Rattle.fsb_timely.specs.Growth.{GrowsTo}
-use Rattle.fsb_timely.specs.Runs.{Run, past_of, past_to, run_to}
-use Rattle.fsb_timely.specs.Snoops.{drives_aerr, drives_bnr, drives_defer, drives_hazards, drives_stalls}
-use Rattle.fsb_timely.specs.Snoops.{is_bnr_chosen, keeps_snoop_lines}
-use Rattle.fsb_timely.specs.Starts.{has_room, is_spaced}
-use Rattle.fsb_timely.specs.Timely.{Timely, holds_at, holds_in}
-use Rattle.fsb_timely.proofs.Interface.{last_where-found, run_to-agrees}
-use Rattle.fsb_trace.specs.At.{Trace, line_back}
-use Rattle.fsb_trace.specs.Flight.{in_flight}
-use Rattle.fsb_trace.proofs.Interface.{line_at-agree}
-use Rattle.fsb_bench_view.specs.declared.beginning.Latest.{Latest}
-use Rattle.fsb_bench_view.specs.BenchSteps.{step_performed, step_sample, was_held_at}
-use Rattle.fsb_bench_view.specs.BusStarting.{is_spaced_by}
-use Rattle.fsb_bench_view.specs.BusViews.{BenchView, next_clock_of}
 use Rattle.fsb_bench_run.proofs.QueueNext.{orderly-run}
 use Rattle.fsb_bench_run.proofs.RunWith.{run_with}
 use Rattle.fsb_bench_run.proofs.SameBus.{same-performed}

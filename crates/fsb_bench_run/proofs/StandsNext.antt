@@ -1,9 +1,6 @@
 -- The bench after a clock stands for its longer run.
-use Rattle.std.proofs.Common.{Bool}
-use Rattle.fsb_hazard.specs.declared.choice.Choice.{Choice}
-use Rattle.fsb_bench_view.specs.BenchSteps.{bench_stepped}
-use Rattle.fsb_bench_view.specs.BusViews.{BenchView}
-use Rattle.fsb_bench_run.specs.BenchOf.{IsBenchOf}
+use Rattle.fsb_bench_run.proofs.Words
+use Words.{Bool, Choice, bench_stepped, BenchView, IsBenchOf}
 use Rattle.fsb_bench_run.proofs.AgentsNext.{agents-next}
 use Rattle.fsb_bench_run.proofs.BenchNext.{bench-next}
 use Rattle.fsb_bench_run.proofs.BridgeNext.{bridge-next}

@@ -1,29 +1,16 @@
 -- The requests that have begun, after the clock.
-use Rattle.std.proofs.Common.{ℕ, ◌<◌, ◌≡◌, Bool, true, false, Option, Some, None, List, [], ◌∷◌, ◌++◌, is_some}
-use Rattle.std.proofs.Common.{length, map, slice_get, append-nil, refl, sym, ap, subst, ◌∙◌, arith, inl, inr}
-use Rattle.std.proofs.lemmas.Option.{slice_get-map}
-use Rattle.fsb_count.specs.Clocks.{nth_where}
-use Rattle.fsb_count.proofs.Interface.{nth_where-found, slice_get-push}
-use Rattle.fsb_hazard.specs.declared.choice.Choice.{Choice}
-use Rattle.fsb_signal.specs.declared.lines.TheConstants.Lines.{ADS}
-use Rattle.fsb_signal.specs.Samples.{line_at}
-use Rattle.fsb_timely.specs.BusLock.{is_begun_by, is_locked_request}
-use Rattle.fsb_timely.specs.Grants.{begun_at}
-use Rattle.fsb_timely.specs.Growth.{GrowsTo}
-use Rattle.fsb_timely.specs.Runs.{Run, past_of}
-use Rattle.fsb_timely.proofs.Interface.{begun-told, claim_at-agree, past-same}
-use Rattle.fsb_trace.proofs.Interface.{line_at-agree}
-use Rattle.fsb_bench_view.specs.declared.beginning.Started.{Started}
-use Rattle.fsb_bench_view.specs.declared.beginning.Starting.{Starting}
-use Rattle.fsb_bench_view.specs.BenchSteps.{bench_stepped, step_decided, step_entries, step_run}
-use Rattle.fsb_bench_view.specs.BusViews.{BenchView}
-use Rattle.fsb_bench_run.specs.BenchOf.{HasStarted, IsBenchOf}
+use Rattle.fsb_bench_run.proofs.Words
+use Words.{ℕ, ◌<◌, ◌≡◌, Bool, true, false, Option, Some, None, List, [], ◌∷◌, ◌++◌, is_some, length, map, append-nil}
+use Words.{refl, sym, ap, subst, ◌∙◌, arith, inl, inr, slice_get-map, nth_where, nth_where-found, slice_get-push}
+use Words.{Choice, ADS, line_at, is_begun_by, is_locked_request, begun_at, GrowsTo, Run, past_of, begun-told}
+use Words.{claim_at-agree, past-same, line_at-agree, Started, Starting, bench_stepped, step_decided, step_entries}
+use Words.{step_run, BenchView, HasStarted, IsBenchOf, agree-grown}
+use Rattle.std.proofs.Common.{slice_get}
 use Rattle.fsb_bench_run.proofs.AdsGrown.{all-more}
 use Rattle.fsb_bench_run.proofs.LockedStarts.{locked-start}
 use Rattle.fsb_bench_run.proofs.NextRun.{begins-now, grows-to}
 use Rattle.fsb_bench_run.proofs.StepEntries.{step-with}
 use Rattle.fsb_bench_run.proofs.StepFields.{started-stepped, started_after}
-use Rattle.fsb_phase_run.proofs.Interface.{agree-grown}
 
 -- what begins at a clock stays as a run grows
 pub begun-same : (r s : Run) (q : ℕ) → GrowsTo r s → q < length r.trace

@@ -1,34 +1,14 @@
 -- What begins at the clock is what the winner of the run would begin there.
-use Rattle.std.proofs.Common.{ℕ, ◌≡◌, Bool, true, false, Option, Some, is_some, length, sym, ap, subst, ◌∙◌, arith}
-use Rattle.std.proofs.Common.{List}
-use Rattle.std.specs.Option.{option_and_then, option_map}
-use Rattle.fsb_agent_view.specs.declared.want.Want.{Want}
-use Rattle.fsb_bridge.specs.declared.deferral.Deferral.{Deferral}
-use Rattle.fsb_bridge.specs.DeferralList.{IsDeferralOf, IsThatOf}
-use Rattle.fsb_encode.specs.declared.request.Request.{Request}
-use Rattle.fsb_hazard.specs.declared.choice.Choice.{Choice}
-use Rattle.fsb_phase_run.proofs.Interface.{agree-grown}
-use Rattle.fsb_timely.specs.Growth.{GrowsTo}
-use Rattle.fsb_timely.specs.Runs.{Run, past_of, past_to, run_to}
-use Rattle.fsb_timely.specs.Starts.{due_number, reply_to, would_begin}
-use Rattle.fsb_timely.specs.Wants.{want_of}
-use Rattle.fsb_timely.proofs.Interface.{run-ends}
-use Rattle.fsb_tied.proofs.Interface.{winner-four}
-use Rattle.fsb_trace.specs.Winner.{winner_at}
-use Rattle.fsb_trace.specs.declared.who.Who.{Who}
-use Rattle.fsb_trace.specs.declared.who.Who.TheVariants.{Symmetric, Priority}
-use Rattle.fsb_trace.proofs.Interface.{winner_at-agree}
-use Rattle.fsb_bench_view.specs.declared.beginning.Starting.{Starting}
+use Rattle.fsb_bench_run.proofs.Words
+use Words.{ℕ, ◌≡◌, Bool, true, false, Option, Some, is_some, length, sym, ap, subst, ◌∙◌, arith, List, option_and_then}
+use Words.{option_map, Want, Deferral, IsDeferralOf, IsThatOf, Request, Choice, agree-grown, GrowsTo, Run, past_of}
+use Words.{past_to, run_to, due_number, reply_to, would_begin, want_of, run-ends, winner-four, winner_at, Who}
+use Words.{Symmetric, Priority, winner_at-agree, Starting, step_decided, step_performed, was_held_at, asked_by}
+use Words.{is_kept_from, may_start, starting_by, starting_for, starting_reply, starting_want, want_in, BenchView}
+use Words.{BusView, next_clock_of, IsBegunAt, Done}
 use Rattle.fsb_bench_view.specs.declared.decided.AskedFor.{AskedFor}
-use Rattle.fsb_bench_view.specs.BenchSteps.{step_decided, step_performed, was_held_at}
-use Rattle.fsb_bench_view.specs.BusDecisions.{asked_by}
-use Rattle.fsb_bench_view.specs.BusStarting.{is_kept_from, may_start, starting_by, starting_for, starting_reply}
-use Rattle.fsb_bench_view.specs.BusStarting.{starting_want, want_in}
-use Rattle.fsb_bench_view.specs.BusViews.{BenchView, BusView, next_clock_of}
-use Rattle.fsb_bench_run.specs.BenchOf.{IsBegunAt}
 use Rattle.fsb_bench_run.proofs.AskedNow.{due-told, wants-told}
 use Rattle.fsb_bench_run.proofs.ThisClock.{past-now}
-use Rattle.fsb_access.specs.declared.log.Done.{Done}
 use Rattle.fsb_bench_run.proofs.RunWith.{run_with}
 use Rattle.fsb_bench_run.proofs.StepWith.{IsStepWith, begins-with}
 

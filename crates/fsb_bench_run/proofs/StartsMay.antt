@@ -1,19 +1,8 @@
 -- What a bench begins may begin: it is a lawful request, and its agent may send it.
-use Rattle.std.proofs.Common.{ℕ, ◌+◌, ◌≡◌, Bool, Some, List, length, subst, arith}
-use Rattle.fsb_access.specs.declared.log.Done.{Done}
-use Rattle.fsb_agent_run.proofs.Interface.{send-may}
-use Rattle.fsb_encode.specs.declared.request.Request.{Request}
-use Rattle.fsb_hazard.specs.declared.choice.Choice.{Choice}
-use Rattle.fsb_run_laws.specs.Reaches.{Reaches}
-use Rattle.fsb_tied.proofs.Interface.{winner-four}
-use Rattle.fsb_timely.specs.Runs.{Run}
-use Rattle.fsb_trace.specs.declared.who.Who.{Who}
-use Rattle.fsb_trace.specs.declared.who.Who.TheVariants.{Symmetric}
-use Rattle.fsb_bench_view.specs.declared.beginning.Starting.{Starting}
-use Rattle.fsb_bench_view.specs.BenchSteps.{step_decided, step_performed}
-use Rattle.fsb_bench_view.specs.BusViews.{BenchView, next_clock_of}
-use Rattle.fsb_bench_view.specs.MaySteps.{MayStart}
-use Rattle.fsb_bench_run.specs.BenchOf.{IsBegunAt, IsBenchOf}
+use Rattle.fsb_bench_run.proofs.Words
+use Words.{ℕ, ◌+◌, ◌≡◌, Bool, Some, List, length, subst, arith, Done, send-may, Request, Choice, Reaches, winner-four}
+use Words.{Run, Who, Symmetric, Starting, step_decided, step_performed, BenchView, next_clock_of, MayStart, IsBegunAt}
+use Words.{IsBenchOf}
 use Rattle.fsb_bench_run.proofs.AgentsNow.{length-told}
 use Rattle.fsb_bench_run.proofs.BegunEvents.{begun-claim}
 use Rattle.fsb_bench_run.proofs.BegunStays.{begun-lawful}

@@ -1,34 +1,12 @@
 -- ADS# is at a bench's clock exactly where a request may begin.
-use Rattle.std.proofs.Common.{ℕ, ◌+◌, ◌<◌, ◌≤◌, ◌≡◌, ◌&&◌, ◌||◌, Bool, true, false, not, is_some, if◌then◌else◌}
-use Rattle.std.proofs.Common.{nat_lt, Option, Some, None, List, length, refl, sym, ap, ◌∙◌, arith}
-use Rattle.std.specs.Option.{option_and_then, option_map}
-use Rattle.std.proofs.lemmas.Bool.{and_from}
-use Rattle.fsb_access.specs.declared.log.Done.{Done}
-use Rattle.fsb_agent_view.specs.declared.want.Want.{Want}
-use Rattle.fsb_bridge.specs.declared.deferral.Deferral.{Deferral}
-use Rattle.fsb_count.specs.Options.{is_some_and}
-use Rattle.fsb_encode.specs.declared.request.Request.{Request}
-use Rattle.fsb_hazard.specs.declared.choice.Choice.{Choice}
-use Rattle.fsb_signal.specs.declared.lines.TheConstants.Lines.{ADS, BNR}
-use Rattle.fsb_signal.specs.Samples.{line_at}
-use Rattle.fsb_tied.proofs.Interface.{winner-four}
-use Rattle.fsb_timely.specs.Growth.{GoesOn}
-use Rattle.fsb_timely.specs.Runs.{past_of}
-use Rattle.fsb_timely.specs.Starts.{drives_ads, drives_pair, due_number, has_free_winner, has_room, is_kept_back}
-use Rattle.fsb_timely.specs.Starts.{is_spaced, may_begin, starts_requests}
-use Rattle.fsb_timely.specs.Timely.{holds_at}
-use Rattle.fsb_timely.specs.Wants.{is_held_back, is_open_to_other, want_of}
-use Rattle.fsb_timely.proofs.Interface.{past-goes_on}
-use Rattle.fsb_trace.specs.At.{Trace, line_back}
-use Rattle.fsb_trace.specs.Requests.{is_write_back_kind}
-use Rattle.fsb_trace.specs.Winner.{winner_at}
-use Rattle.fsb_trace.specs.declared.who.Who.{Who}
-use Rattle.fsb_trace.specs.declared.who.Who.TheVariants.{Symmetric, Priority}
-use Rattle.fsb_bench_view.specs.declared.beginning.Starting.{Starting}
-use Rattle.fsb_bench_view.specs.BenchSteps.{step_decided, step_performed, was_held_at}
-use Rattle.fsb_bench_view.specs.BusStarting.{is_kept_from, is_spaced_by, starting_for, starting_reply, starting_want}
-use Rattle.fsb_bench_view.specs.BusStarting.{want_in}
-use Rattle.fsb_bench_view.specs.BusViews.{BenchView, next_clock_of}
+use Rattle.fsb_bench_run.proofs.Words
+use Words.{ℕ, ◌+◌, ◌<◌, ◌≤◌, ◌≡◌, ◌&&◌, ◌||◌, Bool, true, false, not, is_some, if◌then◌else◌, nat_lt, Option, Some}
+use Words.{None, List, length, refl, sym, ap, ◌∙◌, arith, option_and_then, option_map, and_from, Done, Want, Deferral}
+use Words.{is_some_and, Request, Choice, ADS, BNR, line_at, winner-four, GoesOn, past_of, drives_ads, drives_pair}
+use Words.{due_number, has_free_winner, has_room, is_kept_back, is_spaced, may_begin, starts_requests, holds_at}
+use Words.{is_held_back, is_open_to_other, want_of, past-goes_on, Trace, line_back, is_write_back_kind, winner_at, Who}
+use Words.{Symmetric, Priority, Starting, step_decided, step_performed, was_held_at, is_kept_from, is_spaced_by}
+use Words.{starting_for, starting_reply, starting_want, want_in, BenchView, next_clock_of}
 use Rattle.fsb_bench_run.proofs.AdsGrown.{ads-old}
 use Rattle.fsb_bench_run.proofs.AskedNow.{due-told, wants-told}
 use Rattle.fsb_bench_run.proofs.AsksNow.{due-some}

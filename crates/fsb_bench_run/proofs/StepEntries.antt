@@ -1,9 +1,6 @@
 -- The run with one more clock of a bench, with the entries of the bench.
-use Rattle.std.proofs.Common.{Bool}
-use Rattle.fsb_hazard.specs.declared.choice.Choice.{Choice}
-use Rattle.fsb_bench_view.specs.BenchSteps.{step_entries}
-use Rattle.fsb_bench_view.specs.BusViews.{BenchView}
-use Rattle.fsb_bench_run.specs.BenchOf.{IsBenchOf}
+use Rattle.fsb_bench_run.proofs.Words
+use Words.{Bool, Choice, step_entries, BenchView, IsBenchOf}
 use Rattle.fsb_bench_run.proofs.FirstEntries.{bench-hits}
 use Rattle.fsb_bench_run.proofs.NextRun.{grows-to}
 use Rattle.fsb_bench_run.proofs.StepWith.{IsStepWith}

@@ -1,16 +1,8 @@
 -- What a clock leaves of the request that began last, and of those that have begun.
-use Rattle.std.proofs.Common.{ℕ, ◌≡◌, Bool, Option, Some, List, [], ◌∷◌, ◌++◌, refl, ap, ◌∙◌, arith}
-use Rattle.std.specs.Option.{option_map_or}
-use Rattle.fsb_hazard.specs.declared.choice.Choice.{Choice}
-use Rattle.fsb_queue.specs.declared.entry.Entry.{Entry}
-use Rattle.fsb_bench_view.specs.declared.beginning.Latest.{Latest}
-use Rattle.fsb_bench_view.specs.declared.beginning.Started.{Started}
-use Rattle.fsb_bench_view.specs.declared.beginning.Starting.{Starting}
-use Rattle.fsb_bench_view.specs.declared.decided.Ending.{Ending}
-use Rattle.fsb_bench_view.specs.declared.snoop.SnoopSettled.{SnoopSettled}
-use Rattle.fsb_bench_view.specs.BenchSteps.{bench_stepped, step_decided, step_ended, step_performed, step_started}
-use Rattle.fsb_bench_view.specs.BusEvents.{bus_answered, bus_ended, bus_snooped, bus_started}
-use Rattle.fsb_bench_view.specs.BusViews.{BenchView, BusView, next_clock_of}
+use Rattle.fsb_bench_run.proofs.Words
+use Words.{ℕ, ◌≡◌, Bool, Option, Some, List, [], ◌∷◌, ◌++◌, refl, ap, ◌∙◌, arith, option_map_or, Choice, Entry, Latest}
+use Words.{Started, Starting, Ending, SnoopSettled, bench_stepped, step_decided, step_ended, step_performed}
+use Words.{step_started, bus_answered, bus_ended, bus_snooped, bus_started, BenchView, BusView, next_clock_of}
 
 -- the request that began last, after this one began, if one did
 abbrev pub latest_after : ℕ → Option Starting → Option Latest → Option Latest

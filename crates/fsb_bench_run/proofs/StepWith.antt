@@ -1,15 +1,8 @@
 -- The run with one more clock of a bench that stands for its run, where some entries are logged there, and the hits
 -- are told.
-use Rattle.std.proofs.Common.{◌≡◌, Bool, List, is_some, ◌∙◌}
-use Rattle.fsb_access.specs.declared.log.Done.{Done}
-use Rattle.fsb_hazard.specs.declared.choice.Choice.{Choice}
-use Rattle.fsb_signal.specs.declared.lines.TheConstants.Lines.{ADS}
-use Rattle.fsb_signal.specs.Samples.{line_at}
-use Rattle.fsb_timely.specs.Growth.{GrowsTo}
-use Rattle.fsb_bench_view.specs.BenchSteps.{step_decided, step_performed}
-use Rattle.fsb_bench_view.specs.BusViews.{BenchView, next_clock_of}
-use Rattle.fsb_bench_run.specs.BenchOf.{IsBenchOf}
-use Rattle.fsb_bench_run.specs.HitsTold.{HasHitsOf}
+use Rattle.fsb_bench_run.proofs.Words
+use Words.{◌≡◌, Bool, List, is_some, ◌∙◌, Done, Choice, ADS, line_at, GrowsTo, step_decided, step_performed, BenchView}
+use Words.{next_clock_of, IsBenchOf, HasHitsOf}
 use Rattle.fsb_bench_run.proofs.DrivenLines.{ads-driven, line-with}
 use Rattle.fsb_bench_run.proofs.RunWith.{run_with}
 

@@ -1,15 +1,8 @@
 -- The last clock of a run that has grown by it: what is said of it is said of the whole run.
-use Rattle.std.proofs.Common.{ℕ, ◌≡◌, true, List, [], ◌∷◌, length, nat_eq, refl, arith}
-use Rattle.std.specs.List.{list_all}
-use Rattle.std.proofs.lemmas.List.{take_all}
-use Rattle.std.proofs.lemmas.List.Elements.{filter-append}
-use Rattle.fsb_access.specs.declared.log.Done.{Done}
-use Rattle.fsb_timely.specs.Completions.{is_in_time}
-use Rattle.fsb_timely.specs.Growth.{GrowsTo}
-use Rattle.fsb_timely.specs.Runs.{Run, entries_to, past_of, past_to}
-use Rattle.fsb_timely.specs.Timely.{Part, holds_at, holds_in}
-use Rattle.fsb_timely.proofs.Interface.{length-moments, run-ends}
-use Rattle.fsb_phase_run.proofs.Interface.{longer}
+use Rattle.fsb_bench_run.proofs.Words
+use Words.{ℕ, ◌≡◌, true, List, [], ◌∷◌, length, nat_eq, refl, arith, list_all, take_all, filter-append, Done}
+use Words.{is_in_time, GrowsTo, Run, entries_to, past_of, past_to, Part, holds_at, holds_in, length-moments, run-ends}
+use Words.{longer}
 
 -- a log that ends below a clock has no entry above it
 old-entries : (first n : ℕ) (log : List Done) → is_in_time first n log ≡ true → entries_to n log ≡ log

@@ -1,16 +1,8 @@
 -- The run with one more clock of a bench is timely, where its log has the completions of the clock.
-use Rattle.std.proofs.Common.{◌≡◌, Bool, true, List, [], ◌∷◌, ◌++◌, refl, arith}
-use Rattle.std.specs.List.{list_all}
-use Rattle.std.proofs.lemmas.Bool.{and_from}
-use Rattle.fsb_access.specs.declared.log.Done.{Done}
-use Rattle.fsb_hazard.specs.declared.choice.Choice.{Choice}
-use Rattle.fsb_signal.specs.declared.sample.Sample.{Sample}
-use Rattle.fsb_signal.specs.Samples.{is_known, is_known_trace}
-use Rattle.fsb_timely.specs.Completions.{logs_completions}
-use Rattle.fsb_timely.specs.Timely.{IsTimelyAt, Timely, holds_at}
-use Rattle.fsb_timely.proofs.Interface.{timely-more}
-use Rattle.fsb_bench_view.specs.BenchSteps.{step_sample}
-use Rattle.fsb_bench_view.specs.BusViews.{BenchView, next_clock_of}
+use Rattle.fsb_bench_run.proofs.Words
+use Words.{◌≡◌, Bool, true, List, [], ◌∷◌, ◌++◌, refl, arith, list_all, and_from, Done, Choice, Sample, is_known}
+use Words.{is_known_trace, logs_completions, IsTimelyAt, Timely, holds_at, timely-more, step_sample, BenchView}
+use Words.{next_clock_of}
 use Rattle.fsb_bench_run.proofs.AgentsNow.{agents-answer}
 use Rattle.fsb_bench_run.proofs.AskedNow.{shows-now}
 use Rattle.fsb_bench_run.proofs.AsksNow.{request-lines-now}

@@ -1,28 +1,11 @@
 -- The turn that counts at the snoop end of a clock.
-use Rattle.std.proofs.Common.{ℕ, suc, ◌+◌, ◌≡◌, Bool, true, Option, Some, List, [], ◌∷◌, ◌++◌, length, refl, sym, ap}
-use Rattle.std.proofs.Common.{◌∙◌, arith}
-use Rattle.std.specs.Option.{option_map}
-use Rattle.std.proofs.lemmas.List.{length-append}
-use Rattle.fsb_bridge.specs.Deferrals.{is_covered}
-use Rattle.fsb_encode.specs.declared.request.Request.{Request}
-use Rattle.fsb_hazard.specs.Choice.{effective_turn, is_never_held_up}
-use Rattle.fsb_hazard.specs.declared.choice.Choice.{Choice}
-use Rattle.fsb_hazard.specs.declared.choice.Turn.{Turn}
-use Rattle.fsb_hazard.specs.declared.choice.Turn.TheVariants.{Keep}
-use Rattle.fsb_phase.specs.Due.{rank_of}
-use Rattle.fsb_queue.specs.declared.entry.Entry.{Entry}
+use Rattle.fsb_bench_run.proofs.Words
+use Words.{ℕ, suc, ◌+◌, ◌≡◌, Bool, true, Option, Some, List, [], ◌∷◌, ◌++◌, length, refl, sym, ap, ◌∙◌, arith}
+use Words.{option_map, length-append, is_covered, Request, effective_turn, is_never_held_up, Choice, Turn, Keep}
+use Words.{rank_of, Entry, Trace, request_at, is_pending, Priority, GrowsTo, choice_at, effective_choice, is_in_window}
+use Words.{snoop_end_with, turns_in, SnoopEnd, Run, moments_below, next_moment, past_of, reply_to, would_begin}
+use Words.{moment-snooped, moments-grow, run-ends, snoop_of, snooped-there, longer, IsBegunAt}
 use Rattle.fsb_script.specs.declared.plan.Window.{Window}
-use Rattle.fsb_trace.specs.At.{Trace, request_at}
-use Rattle.fsb_trace.specs.Deferral.{is_pending}
-use Rattle.fsb_trace.specs.declared.who.Who.TheVariants.{Priority}
-use Rattle.fsb_timely.specs.Growth.{GrowsTo}
-use Rattle.fsb_timely.specs.Moments.{choice_at, effective_choice, is_in_window, snoop_end_with, turns_in}
-use Rattle.fsb_timely.specs.Past.{SnoopEnd}
-use Rattle.fsb_timely.specs.Runs.{Run, moments_below, next_moment, past_of}
-use Rattle.fsb_timely.specs.Starts.{reply_to, would_begin}
-use Rattle.fsb_timely.proofs.Interface.{moment-snooped, moments-grow, run-ends, snoop_of, snooped-there}
-use Rattle.fsb_phase_run.proofs.Interface.{longer}
-use Rattle.fsb_bench_run.specs.BenchOf.{IsBegunAt}
 use Rattle.fsb_bench_run.proofs.SnoopEntry.{IsSnoopedNow}
 
 -- the moments below the new clock are those of the run before

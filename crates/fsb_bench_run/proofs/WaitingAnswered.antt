@@ -1,36 +1,14 @@
 -- What the response of a clock makes of the deferrals of a bench.
-use Rattle.std.proofs.Common.{ℕ, ◌+◌, ◌≡◌, Bool, if◌then◌else◌, nat_eq, List, Option, Some, None, length, slice_get}
-use Rattle.std.proofs.Common.{refl, sym, ap, ◌∙◌, arith, inl, inr}
-use Rattle.std.specs.List.{find}
-use Rattle.std.specs.Option.{option_and_then, option_map, option_map_or}
-use Rattle.fsb_bridge.specs.declared.deferral.Waiting.{Waiting}
-use Rattle.fsb_bridge_run.specs.DeferralSteps.{after_response, was_deferred}
-use Rattle.fsb_coherent.specs.Awaits.{responded_in, snoop_end_below}
-use Rattle.fsb_count.specs.Options.{is_some_and}
-use Rattle.fsb_hazard.specs.declared.choice.Choice.{Choice}
-use Rattle.fsb_phase.specs.Due.{has_response, rank_of}
-use Rattle.fsb_phase.specs.Drive.{drive_of, settled_code}
-use Rattle.fsb_phase.proofs.Interface.{find-cases, find-off, find-place}
-use Rattle.fsb_phase_run.specs.Holds.{HoldsRequests}
-use Rattle.fsb_phase_run.proofs.Interface.{agree-back, agree-grown, code-shown, longer, responded-now, snooped-same}
-use Rattle.fsb_queue.specs.declared.entry.Entry.{Entry}
-use Rattle.fsb_run_laws.specs.Reaches.{Reaches}
-use Rattle.fsb_run_laws.proofs.Interface.{snoop-below}
-use Rattle.fsb_signal.specs.Samples.{response_of}
-use Rattle.fsb_tied.proofs.Interface.{answered, responded-number}
-use Rattle.fsb_timely.specs.Growth.{GrowsTo}
-use Rattle.fsb_timely.specs.Moments.{turns_in}
-use Rattle.fsb_timely.specs.Past.{SnoopEnd}
-use Rattle.fsb_timely.specs.Runs.{Run, past_of, requests_below}
-use Rattle.fsb_timely.proofs.Interface.{snoop-tied}
-use Rattle.fsb_trace.specs.Outcome.{is_deferral, response_code_of, settled_outcome_of}
-use Rattle.fsb_trace.specs.Requests.{live_clock_of}
-use Rattle.fsb_trace.specs.declared.outcome.Outcome.{Outcome}
-use Rattle.fsb_trace.proofs.Interface.{live_clock_of-stays, snoop_end_of-clock, snoop_end_of-stays}
-use Rattle.fsb_bench_view.specs.BenchSteps.{step_answered, step_drive, step_entries, step_run, step_snooped}
-use Rattle.fsb_bench_view.specs.BusEvents.{answered_by, bus_answered}
-use Rattle.fsb_bench_view.specs.BusViews.{BenchView, BusView, next_clock_of}
-use Rattle.fsb_bench_run.specs.BenchOf.{IsBenchOf}
+use Rattle.fsb_bench_run.proofs.Words
+use Words.{ℕ, ◌+◌, ◌≡◌, Bool, if◌then◌else◌, nat_eq, List, Option, Some, None, length, refl, sym, ap, ◌∙◌, arith, inl}
+use Words.{inr, find, option_and_then, option_map, option_map_or, Waiting, after_response, was_deferred, responded_in}
+use Words.{snoop_end_below, is_some_and, Choice, has_response, rank_of, drive_of, settled_code, find-cases, find-off}
+use Words.{find-place, HoldsRequests, agree-back, agree-grown, code-shown, longer, responded-now, snooped-same, Entry}
+use Words.{Reaches, snoop-below, response_of, answered, responded-number, GrowsTo, turns_in, SnoopEnd, Run, past_of}
+use Words.{requests_below, snoop-tied, is_deferral, response_code_of, settled_outcome_of, live_clock_of, Outcome}
+use Words.{live_clock_of-stays, snoop_end_of-clock, snoop_end_of-stays, step_answered, step_drive, step_entries}
+use Words.{step_run, step_snooped, answered_by, bus_answered, BenchView, BusView, next_clock_of, IsBenchOf}
+use Rattle.std.proofs.Common.{slice_get}
 use Rattle.fsb_bench_run.proofs.EndCases.{queue-snooped}
 use Rattle.fsb_bench_run.proofs.LogsNow.{reaches-step}
 use Rattle.fsb_bench_run.proofs.NextRun.{grows-to}

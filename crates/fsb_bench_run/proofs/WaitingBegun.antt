@@ -1,28 +1,11 @@
 -- What a request that begins, and one that is cancelled, make of the deferrals of a bench.
-use Rattle.std.proofs.Common.{ℕ, ◌+◌, ◌<◌, ◌≡◌, ◌&&◌, Bool, true, false, Option, Some, None, List, length, refl}
-use Rattle.std.proofs.Common.{arith}
-use Rattle.std.specs.Option.{option_map, option_map_or}
-use Rattle.fsb_bridge.specs.declared.deferral.Waiting.{Waiting}
-use Rattle.fsb_bridge_run.specs.DeferralSteps.{after_cancellation, after_reply, reply_begun}
-use Rattle.fsb_bridge_run.proofs.Interface.{reply-shown}
-use Rattle.fsb_coherent.specs.Awaits.{cancelled_in}
-use Rattle.fsb_count.specs.Options.{is_some_and}
-use Rattle.fsb_encode.specs.declared.request.Request.{Request}
+use Rattle.fsb_bench_run.proofs.Words
+use Words.{ℕ, ◌+◌, ◌<◌, ◌≡◌, ◌&&◌, Bool, true, false, Option, Some, None, List, length, refl, arith, option_map}
+use Words.{option_map_or, Waiting, after_cancellation, after_reply, reply_begun, reply-shown, cancelled_in, is_some_and}
+use Words.{Request, Entry, Reaches, ADS, line_at, Run, past_of, Trace, begins_at, is_agent, is_same_agent, winner_at}
+use Words.{Who, Symmetric, Priority, line_at-agree, winner_at-agree, Starting, bus_cancelled, bus_started}
+use Words.{waiting_cancelled, waiting_started, BusView, IsBegunAt}
 use Rattle.fsb_lawful.proofs.Interface.{run_to-agrees}
-use Rattle.fsb_queue.specs.declared.entry.Entry.{Entry}
-use Rattle.fsb_run_laws.specs.Reaches.{Reaches}
-use Rattle.fsb_signal.specs.declared.lines.TheConstants.Lines.{ADS}
-use Rattle.fsb_signal.specs.Samples.{line_at}
-use Rattle.fsb_timely.specs.Runs.{Run, past_of}
-use Rattle.fsb_trace.specs.At.{Trace}
-use Rattle.fsb_trace.specs.Winner.{begins_at, is_agent, is_same_agent, winner_at}
-use Rattle.fsb_trace.specs.declared.who.Who.{Who}
-use Rattle.fsb_trace.specs.declared.who.Who.TheVariants.{Symmetric, Priority}
-use Rattle.fsb_trace.proofs.Interface.{line_at-agree, winner_at-agree}
-use Rattle.fsb_bench_view.specs.declared.beginning.Starting.{Starting}
-use Rattle.fsb_bench_view.specs.BusEvents.{bus_cancelled, bus_started, waiting_cancelled, waiting_started}
-use Rattle.fsb_bench_view.specs.BusViews.{BusView}
-use Rattle.fsb_bench_run.specs.BenchOf.{IsBegunAt}
 
 -- the reply that a request is: what the bridge begins
 abbrev pub reply_of : Who → Request → Option Request

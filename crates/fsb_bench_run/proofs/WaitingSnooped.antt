@@ -1,38 +1,12 @@
 -- What the snoop end of a clock makes of the deferrals of a bench.
-use Rattle.std.proofs.Common.{ℕ, ◌+◌, ◌<◌, ◌≡◌, Bool, true, false, Some, None, List, [], ◌∷◌, ◌++◌, length}
-use Rattle.std.proofs.Common.{if◌then◌else◌, refl, sym, ap, subst, ◌∙◌, arith, inl, inr}
-use Rattle.std.specs.Option.{option_map_or}
-use Rattle.fsb_access.specs.declared.log.Done.{Done}
-use Rattle.fsb_bridge.specs.Deferrals.{new_waiting, waiting_without}
-use Rattle.fsb_bridge.specs.declared.deferral.Waiting.{Waiting}
-use Rattle.fsb_bridge_run.specs.DeferralSteps.{after_snoop_end, after_snoop_end_of, deferral_made}
-use Rattle.fsb_count.proofs.Interface.{count_where-same}
-use Rattle.fsb_encode.specs.declared.request.Request.{Request}
-use Rattle.fsb_hazard.specs.declared.choice.Choice.{Choice}
-use Rattle.fsb_hazard.specs.declared.choice.Turn.TheVariants.{Defer}
-use Rattle.fsb_phase_run.proofs.Interface.{agree-grown}
-use Rattle.fsb_queue.specs.declared.entry.Entry.{Entry}
-use Rattle.fsb_run_laws.specs.Reaches.{Reaches}
-use Rattle.fsb_signal.specs.declared.lines.TheConstants.Lines.{HIT}
-use Rattle.fsb_signal.specs.Samples.{line_at}
-use Rattle.fsb_timely.specs.Grants.{snooped_at}
-use Rattle.fsb_timely.specs.Growth.{GrowsTo}
-use Rattle.fsb_timely.specs.Moments.{number_of_turn}
-use Rattle.fsb_timely.specs.Past.{SnoopEnd}
-use Rattle.fsb_timely.specs.Runs.{Run, past_of, requests_below}
-use Rattle.fsb_trace.specs.At.{Trace, request_at}
-use Rattle.fsb_trace.specs.Deferral.{later_of}
-use Rattle.fsb_trace.specs.Outcome.{is_deferral, outcome_by_kind}
-use Rattle.fsb_trace.specs.Requests.{is_reply_kind}
-use Rattle.fsb_trace.specs.declared.who.Who.{Who}
-use Rattle.fsb_trace.specs.declared.who.Who.TheVariants.{Symmetric, Priority}
-use Rattle.fsb_trace.proofs.Interface.{line_at-agree}
-use Rattle.fsb_bench_view.specs.declared.snoop.SnoopSettled.{SnoopSettled}
-use Rattle.fsb_bench_view.specs.BenchSteps.{step_cancelled, step_decided, step_performed, step_snooped}
-use Rattle.fsb_bench_view.specs.BusEvents.{bus_snooped, waiting_snooped}
-use Rattle.fsb_bench_view.specs.BusSnooping.{snooped_entry, snooping_of}
-use Rattle.fsb_bench_view.specs.BusViews.{BenchView, BusView, next_clock_of}
-use Rattle.fsb_bench_run.specs.BenchOf.{IsBegunAt}
+use Rattle.fsb_bench_run.proofs.Words
+use Words.{ℕ, ◌+◌, ◌<◌, ◌≡◌, Bool, true, false, Some, None, List, [], ◌∷◌, ◌++◌, length, if◌then◌else◌, refl, sym, ap}
+use Words.{subst, ◌∙◌, arith, inl, inr, option_map_or, Done, new_waiting, waiting_without, Waiting, after_snoop_end}
+use Words.{after_snoop_end_of, deferral_made, count_where-same, Request, Choice, Defer, agree-grown, Entry, Reaches}
+use Words.{HIT, line_at, snooped_at, GrowsTo, number_of_turn, SnoopEnd, Run, past_of, requests_below, Trace, request_at}
+use Words.{later_of, is_deferral, outcome_by_kind, is_reply_kind, Who, Symmetric, Priority, line_at-agree, SnoopSettled}
+use Words.{step_cancelled, step_decided, step_performed, step_snooped, bus_snooped, waiting_snooped, snooped_entry}
+use Words.{snooping_of, BenchView, BusView, next_clock_of, IsBegunAt}
 use Rattle.fsb_bench_run.proofs.RunWith.{run_with}
 use Rattle.fsb_bench_run.proofs.SnoopCases.{SnoopsHere, snoop-cases}
 use Rattle.fsb_bench_run.proofs.SnoopEntry.{held-here}

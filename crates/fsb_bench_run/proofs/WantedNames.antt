@@ -1,34 +1,14 @@
 -- The lines that an agent wants, and those that it holds, are lines that the scripts name.
-use Rattle.std.proofs.Common.{ℕ, zero, suc, ◌+◌, ◌<◌, ◌≤◌, ◌≡◌, ◌||◌, Bool, true, if◌then◌else◌, nat_le, List, []}
-use Rattle.std.proofs.Common.{◌∷◌, ◌++◌, map, drop, Option, Some, None, length, refl, sym, ap, ◌∙◌, arith}
-use Rattle.std.specs.List.{find, list_all, slice_get}
-use Rattle.std.specs.Option.{option_map_or}
-use Rattle.std.proofs.lemmas.Bool.{and_from, and_parts}
-use Rattle.std.proofs.lemmas.List.Folds.{list_all-append}
-use Rattle.fsb_access.specs.declared.access.Access.{Access}
-use Rattle.fsb_access.specs.declared.item.Item.{Item}
-use Rattle.fsb_access.specs.declared.item.Item.TheVariants.{One, Locked, Idle}
-use Rattle.fsb_access.specs.ScriptOrder.{script_of}
-use Rattle.fsb_agent_view.proofs.Interface.{list_all-found}
-use Rattle.fsb_coherent.proofs.Interface.{any-from}
-use Rattle.fsb_encode.specs.declared.request.Request.{Request}
-use Rattle.fsb_lawful.specs.Beginning.{KeepsBounds}
-use Rattle.fsb_lawful.proofs.Interface.{IsGrantedBy, all-at, granted-by, live-ads}
-use Rattle.fsb_tied.proofs.Interface.{a-victim, begun-want, dirty-held}
-use Rattle.fsb_timely.specs.Grants.{begun_at, is_granted}
+use Rattle.fsb_bench_run.proofs.Words
+use Words.{ℕ, zero, suc, ◌+◌, ◌<◌, ◌≤◌, ◌≡◌, ◌||◌, Bool, true, if◌then◌else◌, nat_le, List, [], ◌∷◌, ◌++◌, map, drop}
+use Words.{Option, Some, None, length, refl, sym, ap, ◌∙◌, arith, find, list_all, slice_get, option_map_or, and_from}
+use Words.{and_parts, list_all-append, Access, Item, One, Locked, Idle, script_of, list_all-found, any-from, Request}
+use Words.{KeepsBounds, IsGrantedBy, all-at, granted-by, live-ads, a-victim, begun-want, dirty-held, begun_at}
+use Words.{is_granted, claim_at, Past, Run, past_of, Need, is_idling, items_of, locked_need, needs_after, needs_from}
+use Words.{needs_of, next_number, plain_items, plain_need, window, window_at, window_from, Timely, is_missing, owed}
+use Words.{request_of_kind, victim_of, want_for, want_of, write_back_of, begun-told, holds_line-says, Symmetric}
+use Words.{live_clock_of-rises, snoop_end_of-clock, is_named_line, IsBegunAt}
 use Rattle.fsb_timely.specs.Kept.{is_named_in}
-use Rattle.fsb_timely.specs.Moments.{claim_at}
-use Rattle.fsb_timely.specs.Past.{Past}
-use Rattle.fsb_timely.specs.Runs.{Run, past_of}
-use Rattle.fsb_timely.specs.Scripts.{Need, is_idling, items_of, locked_need, needs_after, needs_from, needs_of}
-use Rattle.fsb_timely.specs.Scripts.{next_number, plain_items, plain_need, window, window_at, window_from}
-use Rattle.fsb_timely.specs.Timely.{Timely}
-use Rattle.fsb_timely.specs.Wants.{is_missing, owed, request_of_kind, victim_of, want_for, want_of, write_back_of}
-use Rattle.fsb_timely.proofs.Interface.{begun-told, holds_line-says}
-use Rattle.fsb_trace.specs.declared.who.Who.TheVariants.{Symmetric}
-use Rattle.fsb_trace.proofs.Interface.{live_clock_of-rises, snoop_end_of-clock}
-use Rattle.fsb_bench_view.specs.FirstBench.{is_named_line}
-use Rattle.fsb_bench_run.specs.BenchOf.{IsBegunAt}
 use Rattle.fsb_bench_run.proofs.BegunEvents.{begun-claim}
 use Rattle.fsb_bench_run.proofs.BegunRequests.{begun-is}
 

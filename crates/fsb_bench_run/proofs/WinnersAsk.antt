@@ -1,34 +1,18 @@
 -- Who wins the bus two clocks after nothing began has something to begin: it asked two clocks before, and still
 -- wants it.
-use Rattle.std.proofs.Common.{ℕ, ◌+◌, ◌-◌, ◌<◌, ◌≤◌, ◌≡◌, ◌&&◌, ◌||◌, Bool, true, false, not, List, [], Option, Some}
-use Rattle.std.proofs.Common.{None, is_some, length, nat_le, nat_lt, refl, sym, ap, subst, ◌∙◌, arith}
-use Rattle.std.specs.List.{find}
-use Rattle.std.specs.Option.{option_map}
-use Rattle.std.proofs.lemmas.Bool.{and_parts, ltb-false}
-use Rattle.fsb_count.specs.Clocks.{each_where, first_where}
-use Rattle.fsb_count.proofs.Interface.{each_where-at, first_where-found}
+use Rattle.fsb_bench_run.proofs.Words
+use Words.{ℕ, ◌+◌, ◌-◌, ◌<◌, ◌≤◌, ◌≡◌, ◌&&◌, ◌||◌, Bool, true, false, not, List, [], Option, Some, None, is_some}
+use Words.{length, nat_le, nat_lt, refl, sym, ap, subst, ◌∙◌, arith, find, option_map, and_parts, ltb-false, each_where}
+use Words.{first_where, each_where-at, first_where-found, ADS, BPRI, LOCK, line_at, GoesOn, GrowsTo, Owing, Past, Run}
+use Words.{past_of, past_to, run_to, Need, is_idling, needs_from, window, asks_for_bus, asks_for_priority, began_before}
+use Words.{drives_request_lines, due_number, reply_before, Timely, holds_at, holds_in, is_asked_for, is_missing}
+use Words.{is_same_set, is_set_taken, owed, want_of, set_of, below_le, done_below, going-alike, is_idling-alike}
+use Words.{is_met-alike, owed-same, past-begins, run_to-agrees, timely-want-stays, want_of-alike, window-alike, Trace}
+use Words.{Requesters, agent_in_order, asks_in_order, begins_at, bus_request_of, first_asking, first_in_order, is_agent}
+use Words.{last_if_asking, request_line_of, requesters_before, winner_after, winner_at, winner_by, Who, Symmetric}
+use Words.{Priority, line_at-agree}
 use Rattle.fsb_lawful.proofs.Interface as lawful
-use Rattle.fsb_signal.specs.declared.lines.TheConstants.Lines.{ADS, BPRI, LOCK}
-use Rattle.fsb_signal.specs.Samples.{line_at}
-use Rattle.fsb_timely.specs.Growth.{GoesOn, GrowsTo}
-use Rattle.fsb_timely.specs.Past.{Owing, Past}
-use Rattle.fsb_timely.specs.Runs.{Run, past_of, past_to, run_to}
-use Rattle.fsb_timely.specs.Scripts.{Need, is_idling, needs_from, window}
-use Rattle.fsb_timely.specs.Starts.{asks_for_bus, asks_for_priority, began_before, drives_request_lines, due_number}
-use Rattle.fsb_timely.specs.Starts.{reply_before}
 use Rattle.fsb_timely.specs.Staying.{OwesNoMore}
-use Rattle.fsb_timely.specs.Timely.{Timely, holds_at, holds_in}
-use Rattle.fsb_timely.specs.Wants.{is_asked_for, is_missing, is_same_set, is_set_taken, owed, want_of}
-use Rattle.fsb_timely.specs.Grants.{set_of}
-use Rattle.fsb_timely.proofs.Interface.{below_le, done_below, going-alike, is_idling-alike, is_met-alike, owed-same}
-use Rattle.fsb_timely.proofs.Interface.{past-begins, run_to-agrees, timely-want-stays, want_of-alike, window-alike}
-use Rattle.fsb_trace.specs.At.{Trace}
-use Rattle.fsb_trace.specs.Winner.{Requesters, agent_in_order, asks_in_order, begins_at, bus_request_of, first_asking}
-use Rattle.fsb_trace.specs.Winner.{first_in_order, is_agent, last_if_asking, request_line_of, requesters_before}
-use Rattle.fsb_trace.specs.Winner.{winner_after, winner_at, winner_by}
-use Rattle.fsb_trace.specs.declared.who.Who.{Who}
-use Rattle.fsb_trace.specs.declared.who.Who.TheVariants.{Symmetric, Priority}
-use Rattle.fsb_trace.proofs.Interface.{line_at-agree}
 
 -- the winner's request line is there two clocks before
 last-asks : (w : Trace) (d : ℕ) (o : Option Who) (who : Who) → last_if_asking w d o ≡ Some who

@@ -1,16 +1,9 @@
 -- The words that a bench has for its next clock come from lawful requests.
-use Rattle.std.proofs.Common.{◌<◌, ◌≡◌, true, Some, slice_get, sym, ap, ◌∙◌, arith}
-use Rattle.std.proofs.lemmas.Option.{slice_get_within}
-use Rattle.fsb_encode.specs.declared.request.Request.{Request}
-use Rattle.fsb_encode.specs.Request.{are_lawful_fields, is_lawful_request}
-use Rattle.fsb_lawful.proofs.Interface.{get-there}
-use Rattle.fsb_laws.proofs.Interface.{ads_before_end}
-use Rattle.fsb_trace.specs.declared.who.Who.TheVariants.{Symmetric}
-use Rattle.fsb_bench_view.specs.declared.snoop.Served.{Served}
-use Rattle.fsb_bench_view.specs.BenchSteps.{step_performed}
-use Rattle.fsb_bench_view.specs.BusViews.{BenchView}
-use Rattle.fsb_bench_view.specs.MaySteps.{HasLawfulWords}
-use Rattle.fsb_bench_run.specs.BenchOf.{IsBenchOf, settled_entries}
+use Rattle.fsb_bench_run.proofs.Words
+use Words.{◌<◌, ◌≡◌, true, Some, sym, ap, ◌∙◌, arith, slice_get_within, Request, are_lawful_fields, is_lawful_request}
+use Words.{get-there, ads_before_end, Symmetric, Served, step_performed, BenchView, HasLawfulWords, IsBenchOf}
+use Words.{settled_entries}
+use Rattle.std.proofs.Common.{slice_get}
 use Rattle.fsb_bench_run.proofs.BegunStays.{begun-lawful}
 use Rattle.fsb_bench_run.proofs.SameBus.{same-performed}
 
