@@ -1,27 +1,12 @@
 -- The agents of a bench from the hits of its clock to what ends there: each has its lines from before, as far as
 -- they have come.
-use Rattle.std.proofs.Common.{ℕ, ◌+◌, ◌≡◌, ◌||◌, Bool, Option, Some, None, List, [], ◌∷◌, fold, if◌then◌else◌, sym}
-use Rattle.std.proofs.Common.{ap, subst, ◌∙◌, arith}
-use Rattle.std.specs.Prelude.{◌==◌}
-use Rattle.std.specs.List.{slice_get}
-use Rattle.std.specs.Option.{option_map_or}
-use Rattle.fsb_agent_view.specs.AgentEvents.{AgentEvent, GivenUp, HandedOn, Sent, agent_after}
-use Rattle.fsb_agent_view.specs.AgentViews.{AgentView}
-use Rattle.fsb_queue.specs.declared.entry.Entry.{Entry}
-use Rattle.fsb_trace.specs.declared.who.Who.{Who}
-use Rattle.fsb_trace.specs.declared.who.Who.TheVariants.{Symmetric, Priority}
-use Rattle.fsb_bench_view.specs.declared.beginning.Starting.{Starting}
-use Rattle.fsb_bench_view.specs.declared.decided.BytesFrom.{BytesFrom}
-use Rattle.fsb_bench_view.specs.declared.decided.BytesFrom.TheVariants.{Memory, Agents}
-use Rattle.fsb_bench_view.specs.declared.snoop.SnoopSettled.{SnoopSettled}
-use Rattle.fsb_bench_view.specs.BenchSteps.{step_answered, step_cancelled, step_decided, step_drive, step_fetched}
-use Rattle.fsb_bench_view.specs.BenchSteps.{step_performed, step_snooped, step_started}
-use Rattle.fsb_bench_view.specs.BusEvents.{answered_by, bus_answered, bus_cancelled, bus_snooped, bus_started}
-use Rattle.fsb_bench_view.specs.BusEvents.{cancelled_event, snooped_event, starting_event}
-use Rattle.fsb_bench_view.specs.BusViews.{BenchView, BusView, next_clock_of}
-use Rattle.fsb_bench_view.specs.BytesFetched.{bus_fetched, bytes_source}
-use Rattle.fsb_bench_view.specs.ToldAgents.{agents_told, for_all}
-use Rattle.fsb_bench_run.proofs.Interface.{some-of, told-at}
+use Rattle.fsb_bench_values.proofs.Words
+use Words.{ℕ, ◌+◌, ◌≡◌, ◌||◌, Bool, Option, Some, None, List, [], ◌∷◌, fold, if◌then◌else◌, sym, ap, subst, ◌∙◌, arith}
+use Words.{◌==◌, slice_get, option_map_or, AgentEvent, GivenUp, HandedOn, Sent, agent_after, AgentView, Entry, Who}
+use Words.{Symmetric, Priority, Starting, BytesFrom, Memory, Agents, SnoopSettled, step_answered, step_cancelled}
+use Words.{step_decided, step_drive, step_fetched, step_performed, step_snooped, step_started, answered_by}
+use Words.{bus_answered, bus_cancelled, bus_snooped, bus_started, cancelled_event, snooped_event, starting_event}
+use Words.{BenchView, BusView, next_clock_of, bus_fetched, bytes_source, agents_told, for_all, some-of, told-at}
 use Rattle.fsb_bench_values.proofs.LoweredViews.{IsLowered, lowered-committed, lowered-given, lowered-handed}
 use Rattle.fsb_bench_values.proofs.LoweredViews.{lowered-same, lowered-sent, lowered-twice}
 

@@ -1,32 +1,13 @@
 -- An agent whose line comes with the bytes of the one byte memory: what that completes is served, and the agent has
 -- the bytes of the one byte memory behind it.
-use Rattle.std.proofs.Common.{ℕ, ◌<◌, ◌%◌, ◌≡◌, ◌≢◌, Bool, true, false, ◌&&◌, ◌||◌, not, List, [], length}
-use Rattle.std.proofs.Common.{if◌then◌else◌, refl, sym, ap, subst, ◌∙◌, ⊎_elim, arith}
-use Rattle.std.specs.Prelude.{◌==◌, is_none}
-use Rattle.std.specs.List.{list_all}
-use Rattle.std.specs.Option.{option_map_or}
-use Rattle.std.proofs.lemmas.Bool.{and_from, and_parts, both_ways, cases_eq, eq-eqb, eqb-true, ne_eqb, or_left}
-use Rattle.std.proofs.lemmas.Bool.{or_right}
-use Rattle.fsb_access.specs.declared.item.Item.{Item}
-use Rattle.fsb_access.specs.Replay.{ReplayState, replay}
-use Rattle.fsb_access.specs.ScriptOrder.{Step}
-use Rattle.fsb_agent_run.proofs.Interface.{fill_on-without}
-use Rattle.fsb_cache.specs.Sets.{CacheSets, copies, sets_filled, sets_without, states}
-use Rattle.fsb_lawful.proofs.Interface.{all-at}
-use Rattle.fsb_line.specs.declared.state.Mesi.{Mesi}
-use Rattle.fsb_line.specs.declared.state.Mesi.TheVariants.{Modified}
-use Rattle.fsb_line.specs.States.{is_held, kind_owns}
-use Rattle.fsb_linebuf.specs.Buffers.{fill_on}
-use Rattle.fsb_script.specs.Bounds.{is_apart, is_lawful_item}
-use Rattle.fsb_timely.specs.Kept.{line_bytes}
-use Rattle.fsb_timely.specs.Scripts.{Need, needs_of}
-use Rattle.fsb_agent_view.specs.declared.want.OwnRequest.{OwnRequest}
-use Rattle.fsb_agent_view.specs.AgentViews.{AgentView, has_come, is_served_by, line_state_by, may_complete}
-use Rattle.fsb_agent_view.specs.AgentViews.{next_item_by}
-use Rattle.fsb_agent_view.specs.Arriving.{are_met_with, arrived_for, is_arrival_by, landed, met_by, met_entries}
-use Rattle.fsb_agent_view.specs.Arriving.{with_bytes}
-use Rattle.fsb_agent_view.specs.Completing.{completed_by, completed_entries, hand_of, next_steps}
-use Rattle.fsb_agent_view.specs.Snooping.{kind_asks}
+use Rattle.fsb_bench_values.proofs.Words
+use Words.{ℕ, ◌<◌, ◌%◌, ◌≡◌, ◌≢◌, Bool, true, false, ◌&&◌, ◌||◌, not, List, [], length, if◌then◌else◌, refl, sym, ap}
+use Words.{subst, ◌∙◌, ⊎_elim, arith, ◌==◌, is_none, list_all, option_map_or, and_from, and_parts, both_ways, cases_eq}
+use Words.{eq-eqb, eqb-true, ne_eqb, or_left, or_right, Item, ReplayState, replay, Step, fill_on-without, CacheSets}
+use Words.{copies, sets_filled, sets_without, states, all-at, Mesi, Modified, is_held, kind_owns, fill_on, is_apart}
+use Words.{is_lawful_item, line_bytes, Need, needs_of, OwnRequest, AgentView, has_come, is_served_by, line_state_by}
+use Words.{may_complete, next_item_by, are_met_with, arrived_for, is_arrival_by, landed, met_by, met_entries}
+use Words.{with_bytes, completed_by, completed_entries, hand_of, next_steps, kind_asks}
 use Rattle.fsb_bench_values.proofs.HandServed.{AreServed, IsServedTo, Serves, hand-served, is_served_on}
 use Rattle.fsb_bench_values.proofs.ItemsServed.{IsAgentAt, alone_by, item-next, next-steps-are, served-ready}
 use Rattle.fsb_bench_values.proofs.ItemsServed.{steps-on}

@@ -1,9 +1,7 @@
 -- The run of a bench whose data are carried is a simulation.
-use Rattle.fsb_timely.specs.Carried.{Carried}
+use Rattle.fsb_bench_values.proofs.Words
+use Words.{Carried, BenchView, IsBenchOf, HasBytesOf}
 use Rattle.fsb_timely.specs.Simulated.{Simulated}
-use Rattle.fsb_bench_view.specs.BusViews.{BenchView}
-use Rattle.fsb_bench_run.specs.BenchOf.{IsBenchOf}
-use Rattle.fsb_bench_values.specs.BytesOf.{HasBytesOf}
 use Rattle.fsb_bench_values.proofs.LogsInOrder.{log-in-order}
 
 pub bench-simulated : (v : BenchView) → IsBenchOf v → HasBytesOf v → Carried v.run → Simulated v.run

@@ -1,13 +1,7 @@
 -- A clock of a bench keeps its bytes.
-use Rattle.std.proofs.Common.{ℕ, Bool}
-use Rattle.fsb_hazard.specs.declared.choice.Choice.{Choice}
-use Rattle.fsb_timely.specs.Kept.{bytes_now}
-use Rattle.fsb_timely.specs.Runs.{Run}
-use Rattle.fsb_agent_view.specs.AgentViews.{AgentView}
-use Rattle.fsb_bench_view.specs.BenchSteps.{bench_stepped, step_run}
-use Rattle.fsb_bench_view.specs.BusViews.{BenchView}
-use Rattle.fsb_bench_run.specs.BenchOf.{IsBenchOf}
-use Rattle.fsb_bench_values.specs.BytesOf.{HasBytesOf, HasKept, HasPushes, IsAgentBytes, state_now}
+use Rattle.fsb_bench_values.proofs.Words
+use Words.{ℕ, Bool, Choice, bytes_now, Run, AgentView, bench_stepped, step_run, BenchView, IsBenchOf, HasBytesOf}
+use Words.{HasKept, HasPushes, IsAgentBytes, state_now}
 use Rattle.fsb_bench_values.proofs.ClockServed.{ClockServed, clock-served}
 use Rattle.fsb_bench_values.proofs.EndBrings.{end-brings}
 use Rattle.fsb_bench_values.proofs.EndBytes.{memory-next, moved-answered}

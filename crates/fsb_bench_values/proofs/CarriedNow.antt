@@ -1,47 +1,18 @@
 -- At each clock of a bench the data lines have the chunk that is due.
-use Rattle.std.proofs.Common.{ℕ, ◌<◌, ◌≡◌, Bool, true, false, List, Some, length, nat_eq, slice_index, refl, sym, ap}
-use Rattle.std.proofs.Common.{◌∙◌, inl, inr, arith}
-use Rattle.std.specs.List.{slice_get}
-use Rattle.std.specs.Option.{option_map_or}
-use Rattle.std.proofs.lemmas.Bool.{cases_lt, eq-eqb, or_left, or_right}
-use Rattle.fsb_access.specs.declared.log.Done.{Done}
-use Rattle.fsb_bench_run.specs.BenchOf.{IsBenchOf}
-use Rattle.fsb_bench_run.proofs.Interface.{before-growth, grows-to, holds-now, one-number, orderly-run, reaches-step}
-use Rattle.fsb_bench_run.proofs.Interface.{run_with, timely-now}
-use Rattle.fsb_bench_view.specs.BenchSteps.{step_drive, step_entries, step_fetched, step_performed, step_run}
-use Rattle.fsb_bench_view.specs.BenchSteps.{step_sample}
-use Rattle.fsb_bench_view.specs.BusViews.{BenchView, BusView, next_clock_of}
-use Rattle.fsb_bench_view.specs.BytesFetched.{chunk_in, chunk_moved, data_driven}
-use Rattle.fsb_bench_view.specs.declared.snoop.Served.{Served}
-use Rattle.fsb_coherent.specs.Facts.{does_respond_on}
-use Rattle.fsb_coherent.specs.Relation.{is_moved_below}
-use Rattle.fsb_count.specs.Clocks.{each_where}
-use Rattle.fsb_count.specs.Options.{is_at, is_some_and}
-use Rattle.fsb_count.proofs.Interface.{each_where-all, is_at-some}
-use Rattle.fsb_encode.specs.Burst.{burst_order}
-use Rattle.fsb_encode.specs.declared.request.Request.{Request}
-use Rattle.fsb_hazard.specs.declared.choice.Choice.{Choice}
-use Rattle.fsb_laws.proofs.Interface.{one_more}
-use Rattle.fsb_line.specs.Line.{MemoryLine}
-use Rattle.fsb_phase.specs.declared.drive.Drive.{Drive}
-use Rattle.fsb_phase_run.proofs.Interface.{agree-back, agree-grown, snooped-same}
-use Rattle.fsb_signal.specs.Samples.{data_at, known_word}
+use Rattle.fsb_bench_values.proofs.Words
+use Words.{ℕ, ◌<◌, ◌≡◌, Bool, true, false, List, Some, length, nat_eq, slice_index, refl, sym, ap, ◌∙◌, inl, inr, arith}
+use Words.{slice_get, option_map_or, cases_lt, eq-eqb, or_left, or_right, Done, IsBenchOf, before-growth, grows-to}
+use Words.{holds-now, one-number, orderly-run, reaches-step, run_with, timely-now, step_drive, step_entries}
+use Words.{step_fetched, step_performed, step_run, step_sample, BenchView, BusView, next_clock_of, chunk_in}
+use Words.{chunk_moved, data_driven, Served, does_respond_on, is_moved_below, each_where, is_at, is_some_and}
+use Words.{each_where-all, is_at-some, burst_order, Request, Choice, one_more, MemoryLine, Drive, agree-back}
+use Words.{agree-grown, snooped-same, data_at, known_word, bytes_below, machine_line, IsMoved, answers-in-order}
+use Words.{awaited-there, bytes-at-end, ended-number, ended-parts, moved-below-run, moved-from, moves-from, not-so}
+use Words.{number-responded, Carried, carried_value, carries_chunk, carries_data, carries_from, carries_if_due}
+use Words.{memory_below, served_request, is_ended, snooped_at, GrowsTo, bytes_now, line_bytes, Run, past_of}
+use Words.{each_clock-more, response_clock_of, live_clock_of, live_count, data_clock_of, end_of, live_clock_of-stays}
+use Words.{response_clock_of-stays, HasBytesOf}
 use Rattle.fsb_signal.specs.declared.sample.Sample.{Sample}
-use Rattle.fsb_tied.specs.RunBytes.{bytes_below, machine_line}
-use Rattle.fsb_tied.proofs.Interface.{IsMoved, answers-in-order, awaited-there, bytes-at-end, ended-number}
-use Rattle.fsb_tied.proofs.Interface.{ended-parts, moved-below-run, moved-from, moves-from, not-so, number-responded}
-use Rattle.fsb_timely.specs.Carried.{Carried, carried_value, carries_chunk, carries_data, carries_from}
-use Rattle.fsb_timely.specs.Carried.{carries_if_due, memory_below, served_request}
-use Rattle.fsb_timely.specs.Grants.{is_ended, snooped_at}
-use Rattle.fsb_timely.specs.Growth.{GrowsTo}
-use Rattle.fsb_timely.specs.Kept.{bytes_now, line_bytes}
-use Rattle.fsb_timely.specs.Runs.{Run, past_of}
-use Rattle.fsb_timely.proofs.Interface.{each_clock-more}
-use Rattle.fsb_trace.specs.Outcome.{response_clock_of}
-use Rattle.fsb_trace.specs.Requests.{live_clock_of, live_count}
-use Rattle.fsb_trace.specs.Response.{data_clock_of, end_of}
-use Rattle.fsb_trace.proofs.Interface.{live_clock_of-stays, response_clock_of-stays}
-use Rattle.fsb_bench_values.specs.BytesOf.{HasBytesOf}
 use Rattle.fsb_bench_values.proofs.ChunksDriven.{HasDue, due-at, flying}
 use Rattle.fsb_bench_values.proofs.LineChunks.{burst-chunk, chunk-of-line, memory-grown}
 use Rattle.fsb_bench_values.proofs.NextBytes.{awaits-data, moves-fetched}

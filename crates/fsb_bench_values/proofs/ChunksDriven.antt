@@ -1,39 +1,14 @@
 -- The chunk that a bench drives at a data clock: that of the oldest request, which the clock is due of.
-use Rattle.std.proofs.Common.{ℕ, zero, suc, ◌<◌, ◌≤◌, ◌≡◌, Bool, true, List, Some, length, refl, sym, ap, ◌∙◌, arith}
-use Rattle.std.specs.List.{slice_get}
-use Rattle.std.proofs.lemmas.Option.{slice_get_within}
-use Rattle.fsb_bench_run.specs.BenchOf.{IsBenchOf, IsServed}
-use Rattle.fsb_bench_run.proofs.Interface.{clock-there, code-now, grows-to, head-settled, orderly-run, rank-rises}
-use Rattle.fsb_bench_run.proofs.Interface.{reaches-step, sample-grown}
-use Rattle.fsb_bench_view.specs.BenchSteps.{step_drive, step_entries, step_run}
-use Rattle.fsb_bench_view.specs.BusViews.{BenchView, next_clock_of}
-use Rattle.fsb_bench_view.specs.declared.snoop.Served.{Served}
-use Rattle.fsb_count.specs.Options.{is_before, is_some_and}
-use Rattle.fsb_count.proofs.Interface.{nth_where-found}
-use Rattle.fsb_hazard.specs.declared.choice.Choice.{Choice}
-use Rattle.fsb_lawful.proofs.Interface.{get-there}
-use Rattle.fsb_laws.proofs.Interface.{is_in_flight-end}
-use Rattle.fsb_phase.specs.Due.{due_chunk, is_moving, rank_of, response_to_now}
-use Rattle.fsb_phase.specs.Drive.{drive_of, numbered_chunk}
-use Rattle.fsb_phase.proofs.Interface.{find-place}
-use Rattle.fsb_phase_run.specs.Holds.{HoldsRequests}
-use Rattle.fsb_phase_run.proofs.Interface.{agree-back, chunk-way, code-shown, live-same, settled-same, shown}
-use Rattle.fsb_phase_run.proofs.Interface.{shown-now, way-entry}
-use Rattle.fsb_queue.specs.declared.entry.Entry.{Entry}
-use Rattle.fsb_signal.specs.Samples.{response_of}
-use Rattle.fsb_tied.proofs.Interface.{answered, ended-before}
-use Rattle.fsb_timely.specs.Growth.{GrowsTo}
-use Rattle.fsb_timely.specs.Past.{SnoopEnd}
-use Rattle.fsb_timely.specs.Runs.{Run, past_of, run_to}
-use Rattle.fsb_timely.specs.Snoops.{live_choice}
-use Rattle.fsb_timely.specs.Timely.{Timely}
-use Rattle.fsb_timely.specs.Transfers.{has_data_at, settled_of, settles_to_move}
-use Rattle.fsb_timely.proofs.Interface.{run-ends, snoop-tied}
-use Rattle.fsb_trace.specs.Flight.{is_in_flight}
-use Rattle.fsb_trace.specs.Outcome.{does_move, response_clock_of}
-use Rattle.fsb_trace.specs.Response.{data_clock_of, end_of}
-use Rattle.fsb_trace.specs.Timing.{chunk_from}
-use Rattle.fsb_trace.proofs.Interface.{end_of-response, end_of-stays, snoop_end_of-clock}
+use Rattle.fsb_bench_values.proofs.Words
+use Words.{ℕ, zero, suc, ◌<◌, ◌≤◌, ◌≡◌, Bool, true, List, Some, length, refl, sym, ap, ◌∙◌, arith, slice_get}
+use Words.{slice_get_within, IsBenchOf, IsServed, clock-there, code-now, grows-to, head-settled, orderly-run}
+use Words.{rank-rises, reaches-step, sample-grown, step_drive, step_entries, step_run, BenchView, next_clock_of, Served}
+use Words.{is_before, is_some_and, nth_where-found, Choice, get-there, is_in_flight-end, due_chunk, is_moving, rank_of}
+use Words.{response_to_now, drive_of, numbered_chunk, find-place, HoldsRequests, agree-back, chunk-way, code-shown}
+use Words.{live-same, settled-same, shown, shown-now, way-entry, Entry, response_of, answered, ended-before, GrowsTo}
+use Words.{SnoopEnd, Run, past_of, run_to, live_choice, Timely, has_data_at, settled_of, settles_to_move, run-ends}
+use Words.{snoop-tied, is_in_flight, does_move, response_clock_of, data_clock_of, end_of, chunk_from, end_of-response}
+use Words.{end_of-stays, snoop_end_of-clock}
 use Rattle.fsb_bench_values.proofs.ChunksDue.{data-clock}
 use Rattle.fsb_bench_values.proofs.RunsValues.{within}
 use Rattle.fsb_bench_values.proofs.ServesLine.{HasSnoopEnd, ServesLine, serves-line}

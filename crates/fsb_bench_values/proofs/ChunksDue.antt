@@ -1,27 +1,16 @@
 -- Which chunk a data clock of a timely run is: that which the wait of its request has due there.
-use Rattle.std.proofs.Common.{ℕ, zero, suc, ◌+◌, ◌*◌, ◌<◌, ◌≤◌, ◌≡◌, Bool, true, ◌&&◌, if◌then◌else◌, Option, Some}
-use Rattle.std.proofs.Common.{None, is_some, length, nat_eq, nat_le, nat_lt, refl, sym, ap, ◌∙◌, arith, inl, inr}
-use Rattle.std.proofs.lemmas.Bool.{and_parts, cases_lt, eq-eqb, leb-true, le-leb, ltb-true}
-use Rattle.fsb_count.specs.Options.{is_some_and}
-use Rattle.fsb_count.specs.Clocks.{count_where, from_clock, nth_where}
-use Rattle.fsb_count.proofs.Interface.{count_where-above, count_where-mono, count_where-passed, count_where-same}
-use Rattle.fsb_count.proofs.Interface.{first_where-found, first_where-none, nth_where-found, nth_where-rises}
+use Rattle.fsb_bench_values.proofs.Words
+use Words.{ℕ, zero, suc, ◌+◌, ◌*◌, ◌<◌, ◌≤◌, ◌≡◌, Bool, true, ◌&&◌, if◌then◌else◌, Option, Some, None, is_some, length}
+use Words.{nat_eq, nat_le, nat_lt, refl, sym, ap, ◌∙◌, arith, inl, inr, and_parts, cases_lt, eq-eqb, leb-true, le-leb}
+use Words.{ltb-true, is_some_and, count_where, from_clock, nth_where, count_where-above, count_where-mono}
+use Words.{count_where-passed, count_where-same, first_where-found, first_where-none, nth_where-found, nth_where-rises}
+use Words.{line_at, responds_at, does_move, moves_data, response_clock_of, data_clock_of, chunk_from, AgreeTo-sym}
+use Words.{end_of-moving, line_at-agree, outcome_of-stays, responds_at-agree, response_clock_of-stays, clear_parts}
+use Words.{has_answer, response_counted, response_there, Run, past_of, run_to, live_choice, Timely, has_data_at}
+use Words.{settles_to_move, LastMoves, and-then, chunk-bounds, chunks-few, cuts-agree, is_chunk, last-moves, length-cut}
+use Words.{live_choice-same, orderly-at, told-as-settled}
 use Rattle.fsb_signal.specs.declared.lines.TheConstants.Lines.{DRDY}
-use Rattle.fsb_signal.specs.Samples.{line_at}
-use Rattle.fsb_trace.specs.At.{responds_at}
-use Rattle.fsb_trace.specs.Outcome.{does_move, moves_data, response_clock_of}
-use Rattle.fsb_trace.specs.Response.{data_clock_of}
-use Rattle.fsb_trace.specs.Timing.{chunk_from}
-use Rattle.fsb_trace.proofs.Interface.{AgreeTo-sym, end_of-moving, line_at-agree, outcome_of-stays, responds_at-agree}
-use Rattle.fsb_trace.proofs.Interface.{response_clock_of-stays}
 use Rattle.fsb_laws.specs.Progress.{response_count}
-use Rattle.fsb_laws.proofs.Interface.{clear_parts, has_answer, response_counted, response_there}
-use Rattle.fsb_timely.specs.Runs.{Run, past_of, run_to}
-use Rattle.fsb_timely.specs.Snoops.{live_choice}
-use Rattle.fsb_timely.specs.Timely.{Timely}
-use Rattle.fsb_timely.specs.Transfers.{has_data_at, settles_to_move}
-use Rattle.fsb_lawful.proofs.Interface.{LastMoves, and-then, chunk-bounds, chunks-few, cuts-agree, is_chunk}
-use Rattle.fsb_lawful.proofs.Interface.{last-moves, length-cut, live_choice-same, orderly-at, told-as-settled}
 
 -- the clocks between the chunks of live request i
 abbrev pub wait_of : Run → ℕ → ℕ

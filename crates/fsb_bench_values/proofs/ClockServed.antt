@@ -1,47 +1,20 @@
 -- The log of a bench's clock is served, and each agent has the bytes of the one byte memory behind it, where what
 -- comes with the end of the clock has the bytes of its line.
-use Rattle.std.proofs.Common.{ℕ, ◌+◌, ◌<◌, ◌≡◌, ◌≢◌, Bool, true, false, Option, Some, None, List, ◌++◌, length}
-use Rattle.std.proofs.Common.{is_some, refl, sym, ap, subst, ◌∙◌, inl, inr, ⊎_elim, arith}
-use Rattle.std.specs.List.{list_all, slice_get}
-use Rattle.std.proofs.lemmas.Bool.{and_parts, both_ways, cases_eq, eq-eqb, ne_eqb}
+use Rattle.fsb_bench_values.proofs.Words
+use Words.{ℕ, ◌+◌, ◌<◌, ◌≡◌, ◌≢◌, Bool, true, false, Option, Some, None, List, ◌++◌, length, is_some, refl, sym, ap}
+use Words.{subst, ◌∙◌, inl, inr, ⊎_elim, arith, list_all, slice_get, and_parts, both_ways, cases_eq, eq-eqb, ne_eqb}
+use Words.{Done, ReplayState, replay, start_of, Served-append, copies, Choice, is_held, is_sole, sole_is_held, Reaches}
+use Words.{is_lawful_item, alone-in-run, holds_line, is_exclusive, is_ready, is_dirty, line_bytes, is_got, Grant, Past}
+use Words.{SnoopEnd, Run, past_of, is_deferral, Outcome, OwnRequest, AgentView, has_come, line_state_by, met_by}
+use Words.{request_numbered, IsComing, IsViewAfterHit, IsViewAfterSnoop, come-by, comes-to, ended-here, held-by}
+use Words.{kept-made, sole-by, Ending, step_answered, step_decided, step_ended, step_ending, step_entries, step_fetched}
+use Words.{step_performed, step_phased, step_run, heard_entries, BenchView, next_clock_of, hit_entries, IsBenchOf}
+use Words.{bench-hits, ending-heard, made-by, reaches-step, settled-or-replied, some-lines, step-with, views-answered}
+use Words.{HasBytesOf, state_now}
 use Rattle.fsb_access.specs.declared.access.Setting.{Setting}
-use Rattle.fsb_access.specs.declared.log.Done.{Done}
-use Rattle.fsb_access.specs.Replay.{ReplayState, Served, replay, start_of}
-use Rattle.fsb_access.proofs.Interface.{Served-append}
-use Rattle.fsb_cache.specs.Sets.{copies}
-use Rattle.fsb_hazard.specs.declared.choice.Choice.{Choice}
-use Rattle.fsb_line.specs.States.{is_held, is_sole}
-use Rattle.fsb_line.proofs.Interface.{sole_is_held}
-use Rattle.fsb_run_laws.specs.Reaches.{Reaches}
-use Rattle.fsb_script.specs.Bounds.{is_lawful_item}
-use Rattle.fsb_tied.proofs.Interface.{alone-in-run}
-use Rattle.fsb_timely.specs.Grants.{holds_line, is_exclusive, is_ready}
-use Rattle.fsb_timely.specs.Hits.{is_dirty}
-use Rattle.fsb_timely.specs.Kept.{line_bytes}
-use Rattle.fsb_timely.specs.Moments.{is_got}
-use Rattle.fsb_timely.specs.Past.{Grant, Past, SnoopEnd}
-use Rattle.fsb_timely.specs.Runs.{Run, past_of}
-use Rattle.fsb_trace.specs.Outcome.{is_deferral}
-use Rattle.fsb_trace.specs.declared.outcome.Outcome.{Outcome}
+use Rattle.fsb_access.specs.Replay.{Served}
 use Rattle.fsb_trace.specs.declared.outcome.Outcome.TheVariants as outcomes
-use Rattle.fsb_agent_view.specs.declared.want.OwnRequest.{OwnRequest}
-use Rattle.fsb_agent_view.specs.AgentViews.{AgentView, has_come, line_state_by}
-use Rattle.fsb_agent_view.specs.Arriving.{met_by}
-use Rattle.fsb_agent_view.specs.OwnRequests.{request_numbered}
 use Rattle.fsb_agent_run.specs.Ending.{EndsFor}
-use Rattle.fsb_agent_run.specs.RunViews.{IsComing}
-use Rattle.fsb_agent_run.specs.Stages.{IsViewAfterHit, IsViewAfterSnoop}
-use Rattle.fsb_agent_run.proofs.Interface.{come-by, comes-to, ended-here, held-by, kept-made, sole-by}
-use Rattle.fsb_bench_view.specs.declared.decided.Ending.{Ending}
-use Rattle.fsb_bench_view.specs.BenchSteps.{step_answered, step_decided, step_ended, step_ending, step_entries}
-use Rattle.fsb_bench_view.specs.BenchSteps.{step_fetched, step_performed, step_phased, step_run}
-use Rattle.fsb_bench_view.specs.BusEvents.{heard_entries}
-use Rattle.fsb_bench_view.specs.BusViews.{BenchView, next_clock_of}
-use Rattle.fsb_bench_view.specs.ToldAgents.{hit_entries}
-use Rattle.fsb_bench_run.specs.BenchOf.{IsBenchOf}
-use Rattle.fsb_bench_run.proofs.Interface.{bench-hits, ending-heard, made-by, reaches-step, settled-or-replied}
-use Rattle.fsb_bench_run.proofs.Interface.{some-lines, step-with, views-answered}
-use Rattle.fsb_bench_values.specs.BytesOf.{HasBytesOf, state_now}
 use Rattle.fsb_bench_values.proofs.AgentsLowered.{answered-lowered}
 use Rattle.fsb_bench_values.proofs.ArrivalServed.{owns_line}
 use Rattle.fsb_bench_values.proofs.EndOfBus.{IsEndingServed, MayHear, ending-served}

@@ -1,34 +1,13 @@
 -- What comes with the end of a bench's clock has the bytes of its line: the data on the bus, and what was kept.
-use Rattle.std.proofs.Common.{ℕ, ◌+◌, ◌<◌, ◌≡◌, Bool, true, Option, Some, None, List, length, refl, sym, ap, subst, ◌∙◌}
-use Rattle.std.proofs.Common.{inl, inr, arith}
-use Rattle.std.specs.List.{slice_get}
-use Rattle.std.proofs.lemmas.Bool.{eqb-true}
-use Rattle.fsb_hazard.specs.declared.choice.Choice.{Choice}
-use Rattle.fsb_encode.specs.declared.request.Request.{Request}
-use Rattle.fsb_lawful.proofs.Interface.{and-then}
-use Rattle.fsb_run_laws.specs.Reaches.{Reaches}
-use Rattle.fsb_tied.proofs.Interface.{begun-want, live-at}
-use Rattle.fsb_timely.specs.Runs.{Run, past_of}
-use Rattle.fsb_timely.specs.Wants.{want_of}
-use Rattle.fsb_trace.specs.Outcome.{does_move}
-use Rattle.fsb_trace.specs.Requests.{live_clock_of, live_number_of}
-use Rattle.fsb_trace.specs.declared.outcome.Outcome.{Outcome}
+use Rattle.fsb_bench_values.proofs.Words
+use Words.{ℕ, ◌+◌, ◌<◌, ◌≡◌, Bool, true, Option, Some, None, List, length, refl, sym, ap, subst, ◌∙◌, inl, inr, arith}
+use Words.{slice_get, eqb-true, Choice, Request, and-then, Reaches, begun-want, live-at, Run, past_of, want_of}
+use Words.{does_move, live_clock_of, live_number_of, Outcome, Symmetric, served_number, OwnRequest, AgentView}
+use Words.{is_numbered, request_numbered, among-get, found-among, Ending, Served, step_answered, step_ending}
+use Words.{step_entries, step_run, BenchView, IsBegunAt, IsBenchOf, begun-claim, begun-is, begun-stays, end-cases}
+use Words.{grows-to, reaches-step, step-with, HasKept}
 use Rattle.fsb_trace.specs.declared.outcome.Outcome.TheVariants as outcomes
-use Rattle.fsb_trace.specs.declared.who.Who.TheVariants.{Symmetric}
-use Rattle.fsb_timely.specs.Moments.{served_number}
-use Rattle.fsb_agent_view.specs.declared.want.OwnRequest.{OwnRequest}
-use Rattle.fsb_agent_view.specs.AgentViews.{AgentView}
-use Rattle.fsb_agent_view.specs.OwnRequests.{is_numbered, request_numbered}
-use Rattle.fsb_agent_run.proofs.Interface.{among-get, found-among}
-use Rattle.fsb_bench_view.specs.declared.decided.Ending.{Ending}
-use Rattle.fsb_bench_view.specs.declared.snoop.Served.{Served}
-use Rattle.fsb_bench_view.specs.BenchSteps.{step_answered, step_ending, step_entries, step_run}
-use Rattle.fsb_bench_view.specs.BusViews.{BenchView}
 use Rattle.fsb_bench_view.specs.MaySteps.{run_turns}
-use Rattle.fsb_bench_run.specs.BenchOf.{IsBegunAt, IsBenchOf}
-use Rattle.fsb_bench_run.proofs.Interface.{begun-claim, begun-is, begun-stays, end-cases, grows-to, reaches-step}
-use Rattle.fsb_bench_run.proofs.Interface.{step-with}
-use Rattle.fsb_bench_values.specs.BytesOf.{HasKept}
 use Rattle.fsb_bench_values.proofs.ClockServed.{EndBrings, answered-view}
 use Rattle.fsb_bench_values.proofs.EndServed.{Comes}
 use Rattle.fsb_bench_values.proofs.HitBytes.{bytes_hit}

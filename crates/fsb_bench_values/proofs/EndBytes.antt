@@ -1,34 +1,15 @@
 -- The end of a bench's clock: the data that it brings are on the bus, and memory takes them where it does in the run.
-use Rattle.std.proofs.Common.{ℕ, suc, ◌+◌, ◌<◌, ◌≡◌, Bool, true, false, if◌then◌else◌, List, [], ◌∷◌, Option, Some}
-use Rattle.std.proofs.Common.{None, is_some, length, sym, ap, ◌∙◌, inl, inr, arith}
-use Rattle.std.specs.Prelude.{◌==◌, cond, unwrap_or}
-use Rattle.std.specs.Option.{option_map_or}
-use Rattle.std.proofs.lemmas.Bool.{both_ways, cases_Bool, cases_eq, eq-eqb, eqb-true, ne_eqb}
+use Rattle.fsb_bench_values.proofs.Words
+use Words.{ℕ, suc, ◌+◌, ◌<◌, ◌≡◌, Bool, true, false, if◌then◌else◌, List, [], ◌∷◌, Option, Some, None, is_some, length}
+use Words.{sym, ap, ◌∙◌, inl, inr, arith, ◌==◌, cond, unwrap_or, option_map_or, both_ways, cases_Bool, cases_eq, eq-eqb}
+use Words.{eqb-true, ne_eqb, Awaited, awaited_at, awaited_by, does_end_on, does_respond_on, is_moved_below, Choice}
+use Words.{Link, Bytes, MemoryLine, brought, carries, feeds_memory, HasValues, machine_line, EndsLine, answers-in-order}
+use Words.{awaited-there, between-data, clock-facts, end-memory, end-on, ending_link, ends-line, ends-on}
+use Words.{line_before_end, memory-kept, moved-from, no-end-memory, no-response, not-so, puts-line, ungiven}
+use Words.{ended_requests, is_end_at, snooped_at, bytes_now, bytes_put, Past, SnoopEnd, Run, past_of, does_move}
+use Words.{does_take, Outcome, Ending, bench_stepped, step_answered, step_ending, step_run, bus_ended, memory_ended}
+use Words.{BenchView, BusView, next_clock_of, IsBenchOf, timely-now, HasBytesOf}
 use Rattle.fsb_access.specs.Replay.{Served}
-use Rattle.fsb_coherent.specs.Awaits.{Awaited, awaited_at, awaited_by}
-use Rattle.fsb_coherent.specs.Facts.{does_end_on, does_respond_on}
-use Rattle.fsb_coherent.specs.Relation.{is_moved_below}
-use Rattle.fsb_hazard.specs.declared.choice.Choice.{Choice}
-use Rattle.fsb_line.specs.declared.link.Link.{Link}
-use Rattle.fsb_line.specs.Line.{Bytes, MemoryLine, brought}
-use Rattle.fsb_line.specs.Links.{carries, feeds_memory}
-use Rattle.fsb_tied.specs.RunBytes.{HasValues, machine_line}
-use Rattle.fsb_tied.proofs.Interface.{EndsLine, answers-in-order, awaited-there, between-data, clock-facts}
-use Rattle.fsb_tied.proofs.Interface.{end-memory, end-on, ending_link, ends-line, ends-on, line_before_end}
-use Rattle.fsb_tied.proofs.Interface.{memory-kept, moved-from, no-end-memory, no-response, not-so, puts-line, ungiven}
-use Rattle.fsb_timely.specs.Grants.{ended_requests, is_end_at, snooped_at}
-use Rattle.fsb_timely.specs.Kept.{bytes_now, bytes_put}
-use Rattle.fsb_timely.specs.Past.{Past, SnoopEnd}
-use Rattle.fsb_timely.specs.Runs.{Run, past_of}
-use Rattle.fsb_trace.specs.Outcome.{does_move, does_take}
-use Rattle.fsb_trace.specs.declared.outcome.Outcome.{Outcome}
-use Rattle.fsb_bench_view.specs.declared.decided.Ending.{Ending}
-use Rattle.fsb_bench_view.specs.BenchSteps.{bench_stepped, step_answered, step_ending, step_run}
-use Rattle.fsb_bench_view.specs.BusEvents.{bus_ended, memory_ended}
-use Rattle.fsb_bench_view.specs.BusViews.{BenchView, BusView, next_clock_of}
-use Rattle.fsb_bench_run.specs.BenchOf.{IsBenchOf}
-use Rattle.fsb_bench_run.proofs.Interface.{timely-now}
-use Rattle.fsb_bench_values.specs.BytesOf.{HasBytesOf}
 use Rattle.fsb_bench_values.proofs.EndsNow.{EndsNow, ends-cases}
 use Rattle.fsb_bench_values.proofs.Fetched.{moved-fetched}
 use Rattle.fsb_bench_values.proofs.HitBytes.{bytes_hit}

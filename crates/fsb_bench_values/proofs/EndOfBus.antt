@@ -1,22 +1,9 @@
 -- The end that a bus hears: where its agents have the bytes of the one byte memory, what the end completes is
 -- served, and they have the bytes behind it.
-use Rattle.std.proofs.Common.{ℕ, ◌+◌, ◌≡◌, ◌≢◌, Option, Some, None, List, [], fold, refl, sym, ap, subst, ◌∙◌, ⊎_elim}
-use Rattle.std.proofs.Common.{arith}
-use Rattle.std.specs.List.{slice_get}
-use Rattle.std.specs.Option.{option_map_or}
-use Rattle.std.proofs.lemmas.Bool.{cases_eq}
-use Rattle.fsb_access.specs.declared.log.Done.{Done}
-use Rattle.fsb_access.specs.Replay.{ReplayState, replay}
-use Rattle.fsb_cache.specs.Sets.{copies}
-use Rattle.fsb_timely.specs.Kept.{line_bytes}
-use Rattle.fsb_agent_view.specs.declared.want.OwnRequest.{OwnRequest}
-use Rattle.fsb_agent_view.specs.AgentEvents.{agent_after}
-use Rattle.fsb_agent_view.specs.AgentViews.{AgentView}
-use Rattle.fsb_agent_view.specs.Arriving.{met_by}
-use Rattle.fsb_bench_view.specs.declared.decided.Ending.{Ending}
-use Rattle.fsb_bench_view.specs.BusEvents.{agent_ended, bus_ended, end_entries, ended_event, entries_ended}
-use Rattle.fsb_bench_view.specs.BusViews.{BusView}
-use Rattle.fsb_bench_run.proofs.Interface.{some-of, told-at}
+use Rattle.fsb_bench_values.proofs.Words
+use Words.{ℕ, ◌+◌, ◌≡◌, ◌≢◌, Option, Some, None, List, [], fold, refl, sym, ap, subst, ◌∙◌, ⊎_elim, arith, slice_get}
+use Words.{option_map_or, cases_eq, Done, ReplayState, replay, copies, line_bytes, OwnRequest, agent_after, AgentView}
+use Words.{met_by, Ending, agent_ended, bus_ended, end_entries, ended_event, entries_ended, BusView, some-of, told-at}
 use Rattle.fsb_bench_values.proofs.EndServed.{BringsNow, Comes, EndsServed, IsBeside, IsReadyFor, end-served}
 use Rattle.fsb_bench_values.proofs.HandServed.{AreServed}
 use Rattle.fsb_bench_values.proofs.ItemsServed.{IsAgentAt}

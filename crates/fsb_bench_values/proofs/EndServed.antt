@@ -1,23 +1,12 @@
 -- The end of an agent's request, whatever its outcome: what that completes is served, and each agent has the bytes
 -- of the one byte memory behind it.
-use Rattle.std.proofs.Common.{ℕ, ◌<◌, ◌≡◌, ◌≢◌, Bool, true, false, Option, Some, None, List, [], length, refl, sym}
-use Rattle.std.proofs.Common.{ap, subst, ◌∙◌, arith}
-use Rattle.std.specs.List.{list_all}
-use Rattle.std.specs.Option.{option_map_or}
-use Rattle.fsb_access.specs.declared.log.Done.{Done}
-use Rattle.fsb_access.specs.Replay.{ReplayState, replay}
-use Rattle.fsb_cache.specs.Sets.{copies}
-use Rattle.fsb_line.specs.States.{is_held}
-use Rattle.fsb_script.specs.Bounds.{is_lawful_item}
-use Rattle.fsb_timely.specs.Kept.{line_bytes}
-use Rattle.fsb_trace.specs.declared.outcome.Outcome.{Outcome}
+use Rattle.fsb_bench_values.proofs.Words
+use Words.{ℕ, ◌<◌, ◌≡◌, ◌≢◌, Bool, true, false, Option, Some, None, List, [], length, refl, sym, ap, subst, ◌∙◌, arith}
+use Words.{list_all, option_map_or, Done, ReplayState, replay, copies, is_held, is_lawful_item, line_bytes, Outcome}
+use Words.{OwnRequest, AgentView, has_come, line_state_by, arrived_entries, arrived_for, ended_entries_for, ended_for}
+use Words.{given_up, line_arrived, met_by, met_entries, upgrade_ended, upgrade_entries, request_numbered, agent_ended}
+use Words.{entries_ended}
 use Rattle.fsb_trace.specs.declared.outcome.Outcome.TheVariants as outcomes
-use Rattle.fsb_agent_view.specs.declared.want.OwnRequest.{OwnRequest}
-use Rattle.fsb_agent_view.specs.AgentViews.{AgentView, has_come, line_state_by}
-use Rattle.fsb_agent_view.specs.Arriving.{arrived_entries, arrived_for, ended_entries_for, ended_for, given_up}
-use Rattle.fsb_agent_view.specs.Arriving.{line_arrived, met_by, met_entries, upgrade_ended, upgrade_entries}
-use Rattle.fsb_agent_view.specs.OwnRequests.{request_numbered}
-use Rattle.fsb_bench_view.specs.BusEvents.{agent_ended, entries_ended}
 use Rattle.fsb_bench_values.proofs.ArrivalServed.{alone_with, arrival-served, owns_line}
 use Rattle.fsb_bench_values.proofs.HandServed.{AreServed}
 use Rattle.fsb_bench_values.proofs.ItemsServed.{IsAgentAt}

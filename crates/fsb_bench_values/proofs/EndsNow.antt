@@ -1,38 +1,16 @@
 -- The end of a bench's clock, if there is one: that of the oldest request, with its snoop end and what it serves.
-use Rattle.std.proofs.Common.{ℕ, ◌+◌, ◌≡◌, ◌⊎◌, Bool, true, false, List, [], ◌∷◌, ◌++◌, Option, Some, None, is_none}
-use Rattle.std.proofs.Common.{length, refl, sym, ap, subst, ◌∙◌, inl, inr, arith}
-use Rattle.std.specs.List.{find, slice_get}
-use Rattle.std.specs.Option.{option_and_then, option_map, option_map_or}
-use Rattle.std.proofs.lemmas.Bool.{both_ways, false_from_ne_true}
-use Rattle.fsb_count.specs.Options.{is_at, is_some_and}
-use Rattle.fsb_hazard.specs.declared.choice.Choice.{Choice}
-use Rattle.fsb_lawful.proofs.Interface.{get-there}
-use Rattle.fsb_phase.specs.Drive.{has_end_at, phased_at}
+use Rattle.fsb_bench_values.proofs.Words
+use Words.{ℕ, ◌+◌, ◌≡◌, ◌⊎◌, Bool, true, false, List, [], ◌∷◌, ◌++◌, Option, Some, None, length, refl, sym, ap, subst}
+use Words.{◌∙◌, inl, inr, arith, find, slice_get, option_and_then, option_map, option_map_or, both_ways}
+use Words.{false_from_ne_true, is_at, is_some_and, Choice, get-there, has_end_at, phased_at, find-cases, find-off}
+use Words.{find-place, HoldsRequests, ended-now, snooped-same, Entry, Reaches, ended-number, live-at, number-ended}
+use Words.{orderly-whole, is_end_at, snooped_at, GrowsTo, SnoopEnd, Run, past_of, requests_below, IsSnoopOf, snoop-tied}
+use Words.{Outcome, Starting, Served, SnoopSettled, step_answered, step_decided, step_ending, step_performed}
+use Words.{step_phased, step_run, step_started, bus_answered, bus_cancelled, bus_snooped, bus_started, ending_by}
+use Words.{BenchView, BusView, next_clock_of, head_outcome, IsBenchOf, IsEnding, ending-of, grows-to, head-ends}
+use Words.{head-settled, queue-answered, reaches-step, same-performed}
+use Rattle.std.proofs.Common.{is_none}
 use Rattle.fsb_phase.specs.declared.drive.Phased.{Phased}
-use Rattle.fsb_phase.proofs.Interface.{find-cases, find-off, find-place}
-use Rattle.fsb_phase_run.specs.Holds.{HoldsRequests}
-use Rattle.fsb_phase_run.proofs.Interface.{ended-now, snooped-same}
-use Rattle.fsb_queue.specs.declared.entry.Entry.{Entry}
-use Rattle.fsb_run_laws.specs.Reaches.{Reaches}
-use Rattle.fsb_tied.proofs.Interface.{ended-number, live-at, number-ended, orderly-whole}
-use Rattle.fsb_timely.specs.Grants.{is_end_at, snooped_at}
-use Rattle.fsb_timely.specs.Growth.{GrowsTo}
-use Rattle.fsb_timely.specs.Past.{SnoopEnd}
-use Rattle.fsb_timely.specs.Runs.{Run, past_of, requests_below}
-use Rattle.fsb_timely.specs.Tied.{IsSnoopOf}
-use Rattle.fsb_timely.proofs.Interface.{snoop-tied}
-use Rattle.fsb_trace.specs.declared.outcome.Outcome.{Outcome}
-use Rattle.fsb_bench_view.specs.declared.beginning.Starting.{Starting}
-use Rattle.fsb_bench_view.specs.declared.snoop.Served.{Served}
-use Rattle.fsb_bench_view.specs.declared.snoop.SnoopSettled.{SnoopSettled}
-use Rattle.fsb_bench_view.specs.BenchSteps.{step_answered, step_decided, step_ending, step_performed, step_phased}
-use Rattle.fsb_bench_view.specs.BenchSteps.{step_run, step_started}
-use Rattle.fsb_bench_view.specs.BusEvents.{bus_answered, bus_cancelled, bus_snooped, bus_started, ending_by}
-use Rattle.fsb_bench_view.specs.BusViews.{BenchView, BusView, next_clock_of}
-use Rattle.fsb_bench_view.specs.BytesFetched.{head_outcome}
-use Rattle.fsb_bench_run.specs.BenchOf.{IsBenchOf}
-use Rattle.fsb_bench_run.proofs.Interface.{IsEnding, ending-of, grows-to, head-ends, head-settled, queue-answered}
-use Rattle.fsb_bench_run.proofs.Interface.{reaches-step, same-performed}
 use Rattle.fsb_bench_values.proofs.ServesLine.{HasSnoopEnd, ServesLine, serves-line}
 
 one-of : {X : Type 0} (a b : X) → Some a ≡ Some b → a ≡ b

@@ -1,54 +1,19 @@
 -- The bytes that a bench has on the bus at a clock, behind its response: those of the line whose data move there.
-use Rattle.std.proofs.Common.{ℕ, ◌+◌, ◌<◌, ◌≤◌, ◌≡◌, Bool, true, if◌then◌else◌, List, Option, Some, None, is_some}
-use Rattle.std.proofs.Common.{length, nat_eq, refl, sym, ap, ◌∙◌, inl, inr, arith}
-use Rattle.std.specs.List.{slice_get}
-use Rattle.std.specs.Option.{option_and_then, option_map, option_map_or}
-use Rattle.std.proofs.lemmas.Bool.{both_ways, cases_lt, eq-eqb}
-use Rattle.fsb_count.specs.Options.{is_at, is_some_and}
-use Rattle.fsb_count.proofs.Interface.{any_where-at, first_where-found}
-use Rattle.fsb_agent_run.specs.BytesOwed.{claim_given_at, gives_claim, is_given_below}
-use Rattle.fsb_agent_run.proofs.Interface.{claim-given, hand-there, owed-grown, same-first}
-use Rattle.fsb_coherent.specs.Awaits.{Awaited, awaited_by, owner_at, responded_in}
-use Rattle.fsb_coherent.specs.Facts.{does_respond_on}
-use Rattle.fsb_coherent.specs.Relation.{giver_at, is_moved_below}
-use Rattle.fsb_hazard.specs.declared.choice.Choice.{Choice}
-use Rattle.fsb_lawful.specs.Beginning.{KeepsBounds}
-use Rattle.fsb_lawful.proofs.Interface.{get-there}
-use Rattle.fsb_line.specs.declared.link.Link.{Link}
-use Rattle.fsb_line.specs.Line.{MemoryLine, source}
-use Rattle.fsb_phase.specs.Due.{has_response}
-use Rattle.fsb_phase.specs.Drive.{drive_of, settled_code}
-use Rattle.fsb_phase.specs.declared.drive.Drive.{Drive}
-use Rattle.fsb_phase.proofs.Interface.{find-cases, find-off, find-place}
-use Rattle.fsb_phase_run.proofs.Interface.{code-shown, responded-now, snooped-same}
-use Rattle.fsb_queue.specs.declared.entry.Entry.{Entry}
-use Rattle.fsb_run_laws.specs.Reaches.{Reaches}
-use Rattle.fsb_signal.specs.Samples.{response_of}
-use Rattle.fsb_tied.specs.RunBytes.{machine_line}
-use Rattle.fsb_tied.proofs.Interface.{answers-in-order, begun-want, carries-awaited, clock-facts, ended-later}
-use Rattle.fsb_tied.proofs.Interface.{first-link, link_of, moved-parts, moves-parts, unended-at-response, winner-four}
-use Rattle.fsb_tied.proofs.Interface.{written-await}
-use Rattle.fsb_timely.specs.Grants.{begun_at, is_ended, snooped_at}
-use Rattle.fsb_timely.specs.Kept.{bytes_now}
-use Rattle.fsb_timely.specs.Past.{Claim, Grant, Past, SnoopEnd}
-use Rattle.fsb_timely.specs.Runs.{Run, past_of, past_to}
-use Rattle.fsb_timely.specs.Timely.{Timely}
-use Rattle.fsb_timely.proofs.Interface.{tied-snoop}
-use Rattle.fsb_trace.specs.Outcome.{does_move, does_take, response_code_of}
-use Rattle.fsb_trace.proofs.Interface.{snoop_end_of-clock}
-use Rattle.fsb_trace.specs.declared.outcome.Outcome.{Outcome}
-use Rattle.fsb_trace.specs.declared.outcome.Outcome.TheVariants.{Granted, Handed, Retried, Deferred, Written, Replied}
-use Rattle.fsb_trace.specs.declared.outcome.Outcome.TheVariants.{Failed, Upgraded}
-use Rattle.fsb_bench_view.specs.declared.snoop.Served.{Served}
-use Rattle.fsb_bench_view.specs.BenchSteps.{step_drive, step_entries, step_fetched, step_run}
-use Rattle.fsb_bench_view.specs.BusViews.{BenchView, BusView, next_clock_of}
-use Rattle.fsb_bench_view.specs.BytesFetched.{bus_fetched, bytes_source, from_for, head_outcome}
-use Rattle.fsb_bench_view.specs.ToldAgents.{bytes_owed}
-use Rattle.fsb_bench_run.specs.BenchOf.{IsBenchOf}
-use Rattle.fsb_bench_run.proofs.Interface.{IsResponding, code-now, grows-to, head-settled, reaches-step}
-use Rattle.fsb_bench_run.proofs.Interface.{responding-of, responding-settled, responds-first, sample-grown}
-use Rattle.fsb_bench_run.proofs.Interface.{timely-now}
-use Rattle.fsb_bench_values.specs.BytesOf.{HasBytesOf}
+use Rattle.fsb_bench_values.proofs.Words
+use Words.{ℕ, ◌+◌, ◌<◌, ◌≤◌, ◌≡◌, Bool, true, if◌then◌else◌, List, Option, Some, None, is_some, length, nat_eq, refl}
+use Words.{sym, ap, ◌∙◌, inl, inr, arith, slice_get, option_and_then, option_map, option_map_or, both_ways, cases_lt}
+use Words.{eq-eqb, is_at, is_some_and, any_where-at, first_where-found, claim_given_at, gives_claim, is_given_below}
+use Words.{claim-given, hand-there, owed-grown, same-first, Awaited, awaited_by, owner_at, responded_in}
+use Words.{does_respond_on, giver_at, is_moved_below, Choice, KeepsBounds, get-there, Link, MemoryLine, source}
+use Words.{has_response, drive_of, settled_code, Drive, find-cases, find-off, find-place, code-shown, responded-now}
+use Words.{snooped-same, Entry, Reaches, response_of, machine_line, answers-in-order, begun-want, carries-awaited}
+use Words.{clock-facts, ended-later, first-link, link_of, moved-parts, moves-parts, unended-at-response, winner-four}
+use Words.{written-await, begun_at, is_ended, snooped_at, bytes_now, Claim, Grant, Past, SnoopEnd, Run, past_of}
+use Words.{past_to, Timely, tied-snoop, does_move, does_take, response_code_of, snoop_end_of-clock, Outcome, Granted}
+use Words.{Handed, Retried, Deferred, Written, Replied, Failed, Upgraded, Served, step_drive, step_entries}
+use Words.{step_fetched, step_run, BenchView, BusView, next_clock_of, bus_fetched, bytes_source, from_for, head_outcome}
+use Words.{bytes_owed, IsBenchOf, IsResponding, code-now, grows-to, head-settled, reaches-step, responding-of}
+use Words.{responding-settled, responds-first, sample-grown, timely-now, HasBytesOf}
 use Rattle.fsb_bench_values.proofs.OwedFound.{OweBytes, owed-found, push-found}
 use Rattle.fsb_bench_values.proofs.RunsValues.{begun-old, line-memory, line-now, line-tied, moved-old, within}
 use Rattle.fsb_bench_values.proofs.ServesLine.{ServesLine, serves-line}

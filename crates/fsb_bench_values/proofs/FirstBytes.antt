@@ -1,22 +1,11 @@
 -- The first bench of a plan has the bytes of its run, which is empty.
-use Rattle.std.proofs.Common.{ℕ, zero, suc, ◌%◌, ◌≡◌, true, [], Option, Some, None, get_or, length, replicate, refl}
-use Rattle.std.proofs.Common.{sym, ap, subst, ◌∙◌, arith}
-use Rattle.std.specs.List.{slice_get}
-use Rattle.fsb_bench_run.proofs.Interface.{first-is}
-use Rattle.fsb_cache.specs.declared.held.Held.{Held}
-use Rattle.fsb_cache.specs.Sets.{held_at, states}
-use Rattle.fsb_coherent.specs.Relation.{is_moved_below}
-use Rattle.fsb_count.specs.Clocks.{any_where, count_where, last_where}
-use Rattle.fsb_line.specs.declared.state.Mesi.TheVariants.{Invalid}
-use Rattle.fsb_line.specs.States.{is_held}
+use Rattle.fsb_bench_values.proofs.Words
+use Words.{ℕ, zero, suc, ◌%◌, ◌≡◌, true, [], Option, Some, None, get_or, length, replicate, refl, sym, ap, subst, ◌∙◌}
+use Words.{arith, slice_get, first-is, Held, held_at, states, is_moved_below, any_where, count_where, last_where}
+use Words.{Invalid, is_held, Carried, bytes_put, line_bytes, number_put, put_clock, Run, past_of, live_count}
+use Words.{line_state_by, HasBytesOf, IsAgentBytes}
 use Rattle.fsb_script.specs.Plans.{PlanView}
-use Rattle.fsb_timely.specs.Carried.{Carried}
-use Rattle.fsb_timely.specs.Kept.{bytes_put, line_bytes, number_put, put_clock}
-use Rattle.fsb_timely.specs.Runs.{Run, past_of}
-use Rattle.fsb_trace.specs.Requests.{live_count}
-use Rattle.fsb_agent_view.specs.AgentViews.{line_state_by}
 use Rattle.fsb_bench_view.specs.FirstBench.{first_agent, first_bench}
-use Rattle.fsb_bench_values.specs.BytesOf.{HasBytesOf, IsAgentBytes}
 
 -- the run of no clock
 abbrev empty : PlanView → Run

@@ -1,28 +1,15 @@
 -- Accesses on lines that have the bytes of the one byte memory: they find and make the same values and bytes as the
 -- replay.
-use Rattle.std.proofs.Common.{ℕ, ◌+◌, ◌/◌, ◌%◌, ◌≤◌, ◌≡◌, ◌≢◌, ◌⊎◌, Bool, true, false, ◌&&◌, ◌||◌, List, [], ◌∷◌, map}
-use Rattle.std.proofs.Common.{refl, sym, ap, ◌∙◌, inl, inr, ⊎_elim, arith, if◌then◌else◌}
-use Rattle.std.specs.Prelude.{◌==◌}
-use Rattle.std.specs.List.{list_all}
-use Rattle.std.proofs.lemmas.Bool.{and_parts, cases_eq, eq-eqb, ne_eqb}
-use Rattle.fsb_access.specs.Access.{accessed_line, addr_of, is_place, size_of}
-use Rattle.fsb_access.specs.ByteMemory.{ByteMemory, put_value, value_at}
-use Rattle.fsb_access.specs.declared.access.Access.{Access}
+use Rattle.fsb_bench_values.proofs.Words
+use Words.{ℕ, ◌+◌, ◌/◌, ◌%◌, ◌≤◌, ◌≡◌, ◌≢◌, ◌⊎◌, Bool, true, false, ◌&&◌, ◌||◌, List, [], ◌∷◌, map, refl, sym, ap, ◌∙◌}
+use Words.{inl, inr, ⊎_elim, arith, if◌then◌else◌, ◌==◌, list_all, and_parts, cases_eq, eq-eqb, ne_eqb, accessed_line}
+use Words.{addr_of, is_place, size_of, ByteMemory, put_value, value_at, Access, Done, ReplayState, put_of, replay}
+use Words.{replayed_values, served_state, served_value, Step, bytes_at-beside, place-within_line, line_with_value}
+use Words.{value_in_line, copies, sets_stored, states, Mesi, Modified, is_held, line_bytes, is_load, AtHand}
+use Words.{entries_at_hand, hand_after, hand_after_steps, value_at_hand}
 use Rattle.fsb_access.specs.declared.access.Access.TheVariants.{Load, Store}
 use Rattle.fsb_access.specs.declared.access.Operand.{Operand}
-use Rattle.fsb_access.specs.declared.log.Done.{Done}
-use Rattle.fsb_access.specs.Replay.{ReplayState, put_of, replay, replayed_values, served_state, served_value}
-use Rattle.fsb_access.specs.ScriptOrder.{Step}
-use Rattle.fsb_access.proofs.Interface.{bytes_at-beside, place-within_line}
-use Rattle.fsb_cache.specs.LineValues.{line_with_value, value_in_line}
-use Rattle.fsb_cache.specs.Sets.{copies, sets_stored, states}
 use Rattle.fsb_cache.proofs.Interface.{loaded_as_in_memory, stored_as_in_memory}
-use Rattle.fsb_line.specs.declared.state.Mesi.{Mesi}
-use Rattle.fsb_line.specs.declared.state.Mesi.TheVariants.{Modified}
-use Rattle.fsb_line.specs.States.{is_held}
-use Rattle.fsb_timely.specs.Kept.{line_bytes}
-use Rattle.fsb_timely.specs.Scripts.{is_load}
-use Rattle.fsb_agent_view.specs.Serving.{AtHand, entries_at_hand, hand_after, hand_after_steps, value_at_hand}
 use Rattle.fsb_bench_values.proofs.SetCopies.{stored-bytes, stored-state}
 
 -- the entries have the values that they find when they are served one after the other from this state on

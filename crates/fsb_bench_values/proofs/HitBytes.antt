@@ -1,11 +1,7 @@
 -- The bytes of a line after the hits of a bench's clock, and before its end.
+use Rattle.fsb_bench_values.proofs.Words
+use Words.{ReplayState, replay, line_bytes, step_fetched, BenchView, next_clock_of, hit_entries, state_now}
 use Rattle.std.specs.Prelude.{ℕ, List}
-use Rattle.fsb_access.specs.Replay.{ReplayState, replay}
-use Rattle.fsb_timely.specs.Kept.{line_bytes}
-use Rattle.fsb_bench_view.specs.BenchSteps.{step_fetched}
-use Rattle.fsb_bench_view.specs.BusViews.{BenchView, next_clock_of}
-use Rattle.fsb_bench_view.specs.ToldAgents.{hit_entries}
-use Rattle.fsb_bench_values.specs.BytesOf.{state_now}
 
 -- the one byte memory and the values loaded last, after the log and the entries of the hits are served
 abbrev pub state_hit : BenchView → ReplayState

@@ -1,22 +1,9 @@
 -- The hits of a bench's clock are served, and leave each agent with the bytes of the one byte memory behind them.
-use Rattle.std.proofs.Common.{ℕ, ◌+◌, ◌≡◌, Bool, true, Some, sym, subst, ◌∙◌, arith}
-use Rattle.std.specs.List.{slice_get}
-use Rattle.std.proofs.lemmas.Bool.{and_parts, both_ways}
-use Rattle.fsb_agent_view.specs.AgentViews.{AgentView, has_come, line_state_by}
-use Rattle.fsb_agent_run.specs.Stages.{IsViewOf}
-use Rattle.fsb_agent_run.proofs.Interface.{held-by, sole-by}
-use Rattle.fsb_coherent.specs.Relation.{is_dirty_below}
-use Rattle.fsb_line.specs.States.{is_sole}
-use Rattle.fsb_tied.proofs.Interface.{alone-in-run}
-use Rattle.fsb_timely.specs.Grants.{holds_line, is_exclusive}
-use Rattle.fsb_timely.specs.Kept.{bytes_now}
-use Rattle.fsb_timely.specs.Past.{Past}
-use Rattle.fsb_timely.specs.Runs.{Run, past_of}
-use Rattle.fsb_bench_view.specs.BenchSteps.{step_answered, step_cancelled, step_fetched, step_performed}
-use Rattle.fsb_bench_view.specs.BusViews.{BenchView, next_clock_of}
-use Rattle.fsb_bench_run.specs.BenchOf.{IsBenchOf}
-use Rattle.fsb_bench_run.proofs.Interface.{fetched-from}
-use Rattle.fsb_bench_values.specs.BytesOf.{HasBytesOf, IsAgentBytes, state_now}
+use Rattle.fsb_bench_values.proofs.Words
+use Words.{ℕ, ◌+◌, ◌≡◌, Bool, true, Some, sym, subst, ◌∙◌, arith, slice_get, and_parts, both_ways, AgentView, has_come}
+use Words.{line_state_by, IsViewOf, held-by, sole-by, is_dirty_below, is_sole, alone-in-run, holds_line, is_exclusive}
+use Words.{bytes_now, Past, Run, past_of, step_answered, step_cancelled, step_fetched, step_performed, BenchView}
+use Words.{next_clock_of, IsBenchOf, fetched-from, HasBytesOf, IsAgentBytes, state_now}
 use Rattle.fsb_bench_values.proofs.AgentsLowered.{answered-lowered, cancelled-lowered, fetched-lowered}
 use Rattle.fsb_bench_values.proofs.HitBytes.{state_hit}
 use Rattle.fsb_bench_values.proofs.HitsServed.{AreAgentsAt, AreApart, AreNumbered, HitsServed, hits-served}

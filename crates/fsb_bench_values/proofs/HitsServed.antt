@@ -1,18 +1,10 @@
 -- The hits of agents, one after the other, where nobody else holds what one of them holds alone: their entries are
 -- served, and each agent has the bytes of the one byte memory behind them.
-use Rattle.std.proofs.Common.{ℕ, zero, suc, ◌+◌, ◌≡◌, ◌≢◌, true, false, List, [], ◌∷◌, ◌++◌, Some, refl, sym, ap}
-use Rattle.std.proofs.Common.{subst, ◌∙◌, arith}
-use Rattle.std.specs.List.{slice_get}
+use Rattle.fsb_bench_values.proofs.Words
+use Words.{ℕ, zero, suc, ◌+◌, ◌≡◌, ◌≢◌, true, false, List, [], ◌∷◌, ◌++◌, Some, refl, sym, ap, subst, ◌∙◌, arith}
+use Words.{slice_get, Done, ReplayState, replay, served_state, replayed_values-append, is_held, line_bytes, Performed}
+use Words.{AgentView, line_state_by, performed, performed_entries, agents_told, for_all, hit_entries}
 use Rattle.std.proofs.lemmas.List.{map-append}
-use Rattle.fsb_access.specs.declared.log.Done.{Done}
-use Rattle.fsb_access.specs.Replay.{ReplayState, replay, served_state}
-use Rattle.fsb_access.proofs.Interface.{replayed_values-append}
-use Rattle.fsb_line.specs.States.{is_held}
-use Rattle.fsb_timely.specs.Kept.{line_bytes}
-use Rattle.fsb_agent_view.specs.AgentEvents.{Performed}
-use Rattle.fsb_agent_view.specs.AgentViews.{AgentView, line_state_by}
-use Rattle.fsb_agent_view.specs.Completing.{performed, performed_entries}
-use Rattle.fsb_bench_view.specs.ToldAgents.{agents_told, for_all, hit_entries}
 use Rattle.fsb_bench_values.proofs.HandServed.{AreServed}
 use Rattle.fsb_bench_values.proofs.ItemsServed.{CompletesTo, HasLawfulItems, HitServed, IsAgentAt, alone_by}
 use Rattle.fsb_bench_values.proofs.ItemsServed.{hit-served}

@@ -1,29 +1,12 @@
 -- An agent whose lines and last value are those of the one byte memory completes its next item as the replay does.
-use Rattle.std.proofs.Common.{ℕ, ◌+◌, ◌≡◌, ◌≢◌, Bool, true, false, ◌&&◌, ◌||◌, List, [], ◌∷◌, Some, refl, sym, ap}
-use Rattle.std.proofs.Common.{subst, ◌∙◌, arith}
-use Rattle.std.specs.Prelude.{IsTrue}
-use Rattle.std.specs.List.{list_all, slice_get}
-use Rattle.std.specs.Option.{option_map_or}
-use Rattle.std.proofs.lemmas.Bool.{and_from, and_parts}
-use Rattle.fsb_access.specs.Access.{accessed_line, addr_of, is_lawful_access, is_place, size_of}
-use Rattle.fsb_access.specs.declared.access.Access.{Access}
-use Rattle.fsb_access.specs.declared.item.Item.{Item}
-use Rattle.fsb_access.specs.Replay.{ReplayState, replay}
-use Rattle.fsb_access.specs.ScriptOrder.{Step, steps_from, steps_of_item}
-use Rattle.fsb_line.specs.States.{is_held, is_sole}
-use Rattle.fsb_lawful.proofs.Interface.{all-at}
-use Rattle.fsb_script.specs.Bounds.{is_lawful_item, is_lawful_script}
-use Rattle.fsb_timely.specs.Kept.{line_bytes}
-use Rattle.fsb_timely.specs.Past.{Past}
-use Rattle.fsb_timely.specs.Scripts.{Need, is_load, items_of, needs_of}
-use Rattle.fsb_agent_view.specs.AgentViews.{AgentView, has_come, is_served_by, line_state_by, may_complete}
-use Rattle.fsb_agent_view.specs.AgentViews.{next_item_by}
-use Rattle.fsb_agent_view.specs.Completing.{completed_by, completed_entries, hand_of, is_hit_by, next_steps}
-use Rattle.fsb_agent_view.specs.Completing.{performed, performed_entries}
-use Rattle.fsb_agent_view.specs.Serving.{hand_after_steps}
-use Rattle.fsb_agent_run.specs.RunViews.{IsAgentOf}
-use Rattle.fsb_agent_run.proofs.Interface.{IsNeedOf, steps-need}
-use Rattle.fsb_bench_values.specs.BytesOf.{HasCopies}
+use Rattle.fsb_bench_values.proofs.Words
+use Words.{ℕ, ◌+◌, ◌≡◌, ◌≢◌, Bool, true, false, ◌&&◌, ◌||◌, List, [], ◌∷◌, Some, refl, sym, ap, subst, ◌∙◌, arith}
+use Words.{IsTrue, list_all, slice_get, option_map_or, and_from, and_parts, accessed_line, addr_of, is_lawful_access}
+use Words.{is_place, size_of, Access, Item, ReplayState, replay, Step, steps_from, steps_of_item, is_held, is_sole}
+use Words.{all-at, is_lawful_item, is_lawful_script, line_bytes, Past, Need, is_load, items_of, needs_of, AgentView}
+use Words.{has_come, is_served_by, line_state_by, may_complete, next_item_by, completed_by, completed_entries, hand_of}
+use Words.{is_hit_by, next_steps, performed, performed_entries, hand_after_steps, IsAgentOf, IsNeedOf, steps-need}
+use Words.{HasCopies}
 use Rattle.fsb_bench_values.proofs.HandServed.{AreServed, IsServedTo, Serves, hand-served, is_served_on}
 
 -- agent a has the last value and the bytes of this state

@@ -1,34 +1,14 @@
 -- The end of a clock on a line for which an upgrade that was won is still awaited: the oldest link does not own, so
 -- what completes with the end only loads.
-use Rattle.std.proofs.Common.{ℕ, zero, suc, ◌+◌, ◌<◌, ◌≡◌, Bool, true, false, not, ◌&&◌, ◌||◌, if◌then◌else◌, List}
-use Rattle.std.proofs.Common.{[], ◌∷◌, ◌++◌, Some, None, length, sym, ap, subst, ◌∙◌, inl, inr, arith}
-use Rattle.std.specs.List.{list_all}
-use Rattle.std.proofs.lemmas.Bool.{cases_lt}
-use Rattle.fsb_agent_view.specs.declared.want.OwnRequest.{OwnRequest}
-use Rattle.fsb_coherent.specs.Awaits.{Awaited, awaited_by, awaited_by_grant}
-use Rattle.fsb_coherent.specs.BeforeSnoop.{events_before_snoop}
-use Rattle.fsb_coherent.specs.LineEvents.{entries_on, events_below, snoops_on}
-use Rattle.fsb_coherent.specs.Relation.{chain_below, link_for, links_left}
-use Rattle.fsb_coherent.proofs.Interface.{first-events, links_new, snoop-step}
-use Rattle.fsb_encode.specs.declared.request.Kind.{Kind}
-use Rattle.fsb_line.specs.Line.{MemoryLine, unheld}
-use Rattle.fsb_line.specs.LineRuns.{run}
-use Rattle.fsb_line.specs.Links.{any_won, carries, has_late_upgrade, is_won, owns}
-use Rattle.fsb_line.specs.declared.link.Link.{Link}
-use Rattle.fsb_line.proofs.Interface.{ordered_run}
-use Rattle.fsb_lawful.specs.Beginning.{KeepsBounds}
-use Rattle.fsb_run_laws.specs.Reaches.{Reaches}
-use Rattle.fsb_tied.proofs.Interface.{EndsLine, answers-in-order, at-there, awaited-there, awaiting-loads}
-use Rattle.fsb_tied.proofs.Interface.{awaits-grant, carries-awaited, clock-facts, events-may-happen, link_of}
-use Rattle.fsb_tied.proofs.Interface.{links_at, one-end}
-use Rattle.fsb_timely.specs.Grants.{snooped_at, begun_at}
-use Rattle.fsb_timely.specs.Hits.{is_hit}
-use Rattle.fsb_timely.specs.Moments.{is_upgraded, makes_grant}
-use Rattle.fsb_timely.specs.Past.{Claim, Grant, Past, SnoopEnd}
-use Rattle.fsb_timely.specs.Runs.{Run, past_of}
-use Rattle.fsb_timely.specs.Scripts.{is_load}
-use Rattle.fsb_timely.specs.Timely.{Timely}
-use Rattle.fsb_trace.specs.declared.outcome.Outcome.{Outcome}
+use Rattle.fsb_bench_values.proofs.Words
+use Words.{ℕ, zero, suc, ◌+◌, ◌<◌, ◌≡◌, Bool, true, false, not, ◌&&◌, ◌||◌, if◌then◌else◌, List, [], ◌∷◌, ◌++◌, Some}
+use Words.{None, length, sym, ap, subst, ◌∙◌, inl, inr, arith, list_all, cases_lt, OwnRequest, Awaited, awaited_by}
+use Words.{awaited_by_grant, events_before_snoop, entries_on, events_below, snoops_on, chain_below, link_for}
+use Words.{links_left, first-events, links_new, snoop-step, Kind, MemoryLine, unheld, run, any_won, carries}
+use Words.{has_late_upgrade, is_won, owns, Link, ordered_run, KeepsBounds, Reaches, EndsLine, answers-in-order}
+use Words.{at-there, awaited-there, awaiting-loads, awaits-grant, carries-awaited, clock-facts, events-may-happen}
+use Words.{link_of, links_at, one-end, snooped_at, begun_at, is_hit, is_upgraded, makes_grant, Claim, Grant, Past}
+use Words.{SnoopEnd, Run, past_of, is_load, Timely, Outcome}
 use Rattle.fsb_bench_values.proofs.OwedLines.{IsKeptFor}
 
 one-of : {X : Type 0} (a b : X) → Some a ≡ Some b → a ≡ b

@@ -1,3 +1,4 @@
+pub mod Words
 pub mod SetCopies
 pub mod HandServed
 pub mod ItemsServed

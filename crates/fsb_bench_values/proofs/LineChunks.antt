@@ -1,18 +1,9 @@
 -- The chunks of the bytes of a line, and the memory that a log below a clock makes.
-use Rattle.std.proofs.Common.{ℕ, zero, suc, ◌+◌, ◌*◌, ◌<◌, ◌≤◌, ◌≡◌, Bool, true, List, [], ◌∷◌, ◌++◌, drop, take}
-use Rattle.std.proofs.Common.{length, lit<, nat_eq, nat_lt, slice_index, refl, ap, ◌∙◌, append-nil, arith}
-use Rattle.std.specs.List.{filter, list_all}
-use Rattle.std.proofs.lemmas.Bool.{and_parts, ltb-true}
-use Rattle.std.proofs.lemmas.List.Elements.{filter-append}
-use Rattle.fsb_access.specs.ByteMemory.{ByteMemory, bytes_at, value_of_bytes}
-use Rattle.fsb_access.specs.Replay.{replay, start_of}
-use Rattle.fsb_access.specs.declared.log.Done.{Done}
-use Rattle.fsb_bench_view.specs.BytesFetched.{chunk_in}
-use Rattle.fsb_encode.specs.Burst.{burst_order}
-use Rattle.fsb_timely.specs.Carried.{chunk_value, memory_below}
-use Rattle.fsb_timely.specs.Kept.{line_bytes}
-use Rattle.fsb_timely.specs.Growth.{IsNext}
-use Rattle.fsb_timely.specs.Runs.{Run}
+use Rattle.fsb_bench_values.proofs.Words
+use Words.{ℕ, zero, suc, ◌+◌, ◌*◌, ◌<◌, ◌≤◌, ◌≡◌, Bool, true, List, [], ◌∷◌, ◌++◌, drop, take, length, lit<, nat_eq}
+use Words.{nat_lt, slice_index, refl, ap, ◌∙◌, append-nil, arith, filter, list_all, and_parts, ltb-true, filter-append}
+use Words.{ByteMemory, bytes_at, value_of_bytes, replay, start_of, Done, chunk_in, burst_order, chunk_value}
+use Words.{memory_below, line_bytes, IsNext, Run}
 
 -- ---- chunks
 

@@ -1,30 +1,11 @@
 -- The caches and the memory of a bench are as its run keeps them.
-use Rattle.std.proofs.Common.{ℕ, ◌≤◌, ◌≡◌, Bool, true, false, ◌&&◌, ◌||◌, Option, Some, None, List, [], ◌∷◌, length}
-use Rattle.std.proofs.Common.{nat_lt, refl, sym, ap, ◌∙◌, inl, inr, arith}
-use Rattle.std.specs.List.{list_any, slice_get}
-use Rattle.std.specs.Option.{option_map_or}
-use Rattle.std.proofs.lemmas.Bool.{cases_lt}
-use Rattle.fsb_access.specs.declared.log.Done.{Done}
-use Rattle.fsb_agent_view.specs.AgentViews.{AgentView, line_state_by}
-use Rattle.fsb_agent_run.specs.RunViews.{state_told}
-use Rattle.fsb_agent_run.specs.Stages.{IsViewOf}
-use Rattle.fsb_agent_run.proofs.Interface.{come-by, held-by}
-use Rattle.fsb_cache.specs.Sets.{CacheSets, copies, held_at, states}
-use Rattle.fsb_coherent.specs.Relation.{is_dirty_below, is_stored_below}
-use Rattle.fsb_count.specs.Options.{is_some_and}
-use Rattle.fsb_lawful.proofs.Interface.{get-there, granted-by}
-use Rattle.fsb_line.specs.declared.state.Mesi.TheVariants.{Invalid}
-use Rattle.fsb_tied.proofs.Interface.{claimed, winner-four}
-use Rattle.fsb_timely.proofs.Interface.{holds_line-says}
-use Rattle.fsb_timely.specs.Completions.{is_in_time}
-use Rattle.fsb_timely.specs.Grants.{holds_line, is_ended, is_exclusive, is_ready, latest_grant}
-use Rattle.fsb_timely.specs.Hits.{is_counted, is_dirty, is_store_on, is_stored_since, line_state_of}
-use Rattle.fsb_timely.specs.Kept.{Kept, bytes_now}
-use Rattle.fsb_timely.specs.Past.{Past}
-use Rattle.fsb_timely.specs.Runs.{Run, past_of}
-use Rattle.fsb_bench_view.specs.BusViews.{BenchView, next_clock_of}
-use Rattle.fsb_bench_run.specs.BenchOf.{IsBenchOf}
-use Rattle.fsb_bench_values.specs.BytesOf.{HasBytesOf}
+use Rattle.fsb_bench_values.proofs.Words
+use Words.{ℕ, ◌≤◌, ◌≡◌, Bool, true, false, ◌&&◌, ◌||◌, Option, Some, None, List, [], ◌∷◌, length, nat_lt, refl, sym, ap}
+use Words.{◌∙◌, inl, inr, arith, list_any, slice_get, option_map_or, cases_lt, Done, AgentView, line_state_by}
+use Words.{state_told, IsViewOf, come-by, held-by, CacheSets, copies, held_at, states, is_dirty_below, is_stored_below}
+use Words.{is_some_and, get-there, granted-by, Invalid, claimed, winner-four, holds_line-says, is_in_time, holds_line}
+use Words.{is_ended, is_exclusive, is_ready, latest_grant, is_counted, is_dirty, is_store_on, is_stored_since}
+use Words.{line_state_of, Kept, bytes_now, Past, Run, past_of, BenchView, next_clock_of, IsBenchOf, HasBytesOf}
 use Rattle.fsb_bench_values.specs.Lent.{bytes_lent, lines_lent, state_lent}
 
 -- all stores of a log that ends below a clock count there

@@ -1,24 +1,14 @@
 -- The log of a timely run follows its scripts: at each clock it goes on by the next items of agents, one after the
 -- other.
-use Rattle.std.proofs.Common.{ℕ, zero, suc, ◌+◌, ◌<◌, ◌≤◌, ◌≡◌, Bool, true, false, List, [], ◌∷◌, ◌++◌, Option, Some}
-use Rattle.std.proofs.Common.{None, length, map, refl, sym, ap, subst, ◌∙◌, arith, append_assoc, append-nil, add-one}
-use Rattle.std.specs.Prelude.{◌==◌, take}
-use Rattle.std.specs.List.{list_all, slice_get}
-use Rattle.std.specs.Option.{option_map_or}
-use Rattle.std.proofs.lemmas.Bool.{le-ltb}
-use Rattle.fsb_access.specs.declared.item.Item.{Item}
-use Rattle.fsb_access.specs.declared.log.Done.{Done}
-use Rattle.fsb_access.specs.ScriptOrder.{InOrder, Step, accesses_of, script_of, step_of, steps_of, steps_of_item}
-use Rattle.fsb_access.proofs.Interface.{InOrder-empty, InOrder-next, steps_of-append, steps_of-other}
-use Rattle.fsb_timely.specs.Completions.{Completed, completed_at, completed_if, completed_of_item, entries_at}
-use Rattle.fsb_timely.specs.Completions.{is_arrival, is_in_time, next_accesses, of_all_agents}
-use Rattle.fsb_timely.specs.Hits.{is_hit}
-use Rattle.fsb_timely.specs.Past.{Past}
-use Rattle.fsb_timely.specs.Runs.{Run, past_of}
-use Rattle.fsb_timely.specs.Scripts.{items_of, next_item, next_number}
-use Rattle.fsb_timely.specs.Timely.{Timely}
-use Rattle.fsb_timely.proofs.Interface.{at, below, below-more, follows-script, same-list, whole-completions}
-use Rattle.fsb_bench_run.proofs.Interface.{arrival-unhit}
+use Rattle.fsb_bench_values.proofs.Words
+use Words.{ℕ, zero, suc, ◌+◌, ◌<◌, ◌≤◌, ◌≡◌, Bool, true, false, List, [], ◌∷◌, ◌++◌, Option, Some, None, length, map}
+use Words.{refl, sym, ap, subst, ◌∙◌, arith, append_assoc, append-nil, add-one, ◌==◌, list_all, slice_get}
+use Words.{option_map_or, le-ltb, Item, Done, InOrder, Step, accesses_of, script_of, step_of, steps_of, steps_of_item}
+use Words.{InOrder-empty, InOrder-next, steps_of-append, steps_of-other, Completed, completed_at, completed_if}
+use Words.{completed_of_item, entries_at, is_arrival, is_in_time, next_accesses, of_all_agents, is_hit, Past, Run}
+use Words.{past_of, items_of, next_item, next_number, Timely, at, below, below-more, follows-script, same-list}
+use Words.{whole-completions, arrival-unhit}
+use Rattle.std.specs.Prelude.{take}
 
 -- an entry without its clock and its value
 abbrev entry_of : Done → Completed

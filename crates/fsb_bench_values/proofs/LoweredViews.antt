@@ -1,33 +1,18 @@
 -- What an agent sends, gives up or sees at a snoop end leaves the bytes of each line that it still holds and that
 -- has come.
-use Rattle.std.proofs.Common.{ℕ, ◌≡◌, ◌≢◌, ◌∙◌, Bool, true, false, List, [], ◌∷◌, ◌++◌, Option, Some, None}
-use Rattle.std.proofs.Common.{if◌then◌else◌, refl, sym, ap, subst, arith}
-use Rattle.std.specs.Prelude.{◌==◌, is_none}
-use Rattle.std.specs.Option.{option_map_or}
-use Rattle.fsb_cache.specs.declared.held.Held.{Held}
-use Rattle.fsb_cache.specs.Sets.{CacheSets, copies, sets_filled, sets_without, slot_of, states}
-use Rattle.fsb_encode.specs.declared.request.Kind.{Kind}
-use Rattle.fsb_encode.specs.declared.request.Request.{Request}
-use Rattle.fsb_line.specs.declared.state.Mesi.{Mesi}
-use Rattle.fsb_line.specs.declared.state.Mesi.TheVariants.{Exclusive, Invalid, Modified, Shared}
-use Rattle.fsb_line.specs.States.{asks_line, granted, is_held, is_sole}
+use Rattle.fsb_bench_values.proofs.Words
+use Words.{ℕ, ◌≡◌, ◌≢◌, ◌∙◌, Bool, true, false, List, [], ◌∷◌, ◌++◌, Option, Some, None, if◌then◌else◌, refl, sym, ap}
+use Words.{subst, arith, ◌==◌, is_none, option_map_or, Held, CacheSets, copies, sets_filled, sets_without, slot_of}
+use Words.{states, Kind, Request, Mesi, Exclusive, Invalid, Modified, Shared, asks_line, granted, is_held, is_sole}
+use Words.{Buffered, fill_on, promised_to, Outcome, OwnRequest, Want, AgentView, has_come, line_state_by, given_up}
+use Words.{handed_on, new_request, request_numbered, requests_granted, buffers_giving, committed, granted_by, is_giver}
+use Words.{kind_asks, no_bytes, other_settled, own_settled, sets_lowered, state_snooped, upgraded_by, with_fill}
+use Words.{with_push, written_by, sent, sets_cleared_for, want_by, ReplayState}
 use Rattle.fsb_linebuf.specs.declared.entry.Fill.{Fill}
-use Rattle.fsb_linebuf.specs.Buffers.{Buffered, fill_on, promised_to}
-use Rattle.fsb_trace.specs.declared.outcome.Outcome.{Outcome}
 use Rattle.fsb_trace.specs.declared.outcome.Outcome.TheVariants as outcomes
-use Rattle.fsb_agent_view.specs.declared.want.OwnRequest.{OwnRequest}
-use Rattle.fsb_agent_view.specs.declared.want.Want.{Want}
-use Rattle.fsb_agent_view.specs.AgentViews.{AgentView, has_come, line_state_by}
-use Rattle.fsb_agent_view.specs.Arriving.{given_up, handed_on}
-use Rattle.fsb_agent_view.specs.OwnRequests.{new_request, request_numbered, requests_granted}
-use Rattle.fsb_agent_view.specs.Snooping.{buffers_giving, committed, granted_by, is_giver, kind_asks, no_bytes}
-use Rattle.fsb_agent_view.specs.Snooping.{other_settled, own_settled, sets_lowered, state_snooped, upgraded_by}
-use Rattle.fsb_agent_view.specs.Snooping.{with_fill, with_push, written_by}
-use Rattle.fsb_agent_view.specs.Wanting.{sent, sets_cleared_for, want_by}
 use Rattle.fsb_bench_values.proofs.ItemsServed.{IsAgentAt}
 use Rattle.fsb_bench_values.proofs.SetCopies.{Lowers, WasHeld, filled-other, lowers-same, lowers-shared}
 use Rattle.fsb_bench_values.proofs.SetCopies.{lowers-without}
-use Rattle.fsb_access.specs.Replay.{ReplayState}
 
 -- a line that is held and has come was so before, with these bytes, and alone where it is
 pub record WasReady (w next : AgentView) (line : ℕ) : Type 0 where

@@ -1,16 +1,9 @@
 -- The needs of an item that a line completes when it comes: each is the line that comes, owned where that is needed,
 -- or a line of another cache set that serves.
-use Rattle.std.proofs.Common.{ℕ, ◌≡◌, Bool, true, false, ◌&&◌, ◌||◌, not, List, [], ◌∷◌, map, refl, arith}
-use Rattle.std.specs.Prelude.{◌==◌}
-use Rattle.std.specs.List.{list_all, list_any}
-use Rattle.std.proofs.lemmas.Bool.{and_from, and_parts}
-use Rattle.fsb_access.specs.Access.{accessed_line}
-use Rattle.fsb_access.specs.declared.access.Access.{Access}
-use Rattle.fsb_access.specs.declared.item.Item.{Item}
-use Rattle.fsb_script.specs.Bounds.{is_apart, is_lawful_item, is_lock_apart}
-use Rattle.fsb_timely.specs.Scripts.{Need, locked_need, needs_after, needs_of}
-use Rattle.fsb_agent_view.specs.AgentViews.{AgentView, is_served_by}
-use Rattle.fsb_agent_view.specs.Arriving.{are_met_with, is_brought_by, is_there_by}
+use Rattle.fsb_bench_values.proofs.Words
+use Words.{ℕ, ◌≡◌, Bool, true, false, ◌&&◌, ◌||◌, not, List, [], ◌∷◌, map, refl, arith, ◌==◌, list_all, list_any}
+use Words.{and_from, and_parts, accessed_line, Access, Item, is_apart, is_lawful_item, is_lock_apart, Need, locked_need}
+use Words.{needs_after, needs_of, AgentView, is_served_by, are_met_with, is_brought_by, is_there_by}
 
 -- the need is met by the line that comes, or by a line of another set
 abbrev pub is_met_on : AgentView → ℕ → ℕ → Bool → Need → Bool

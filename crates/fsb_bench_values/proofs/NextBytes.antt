@@ -1,43 +1,16 @@
 -- The data on the bus and the memory of a bench after a clock.
-use Rattle.std.proofs.Common.{ℕ, ◌+◌, ◌<◌, ◌≤◌, ◌≡◌, Bool, true, false, not, ◌&&◌, ◌||◌, if◌then◌else◌, List, [], ◌∷◌}
-use Rattle.std.proofs.Common.{Option, Some, None, is_some, length, refl, sym, ap, ◌∙◌, inl, inr, arith}
-use Rattle.std.specs.Option.{option_map_or}
-use Rattle.std.proofs.lemmas.Bool.{and_parts, cases_Bool, not-true}
-use Rattle.fsb_coherent.specs.Awaits.{Awaited, awaited_by, awaited_by_grant}
-use Rattle.fsb_coherent.specs.Facts.{does_end_on, does_respond_on}
+use Rattle.fsb_bench_values.proofs.Words
+use Words.{ℕ, ◌+◌, ◌<◌, ◌≤◌, ◌≡◌, Bool, true, false, not, ◌&&◌, ◌||◌, if◌then◌else◌, List, [], ◌∷◌, Option, Some, None}
+use Words.{is_some, length, refl, sym, ap, ◌∙◌, inl, inr, arith, option_map_or, and_parts, cases_Bool, not-true}
+use Words.{Awaited, awaited_by, awaited_by_grant, does_end_on, does_respond_on, chain_below, is_moved_below, Kind}
+use Words.{Choice, KeepsBounds, Link, Entry, awaits-grant, clock-facts, events-may-happen, granted-await, taking-at}
+use Words.{written-await, snooped_at, bytes_now, is_got, is_upgraded, makes_grant, Claim, Grant, SnoopEnd, Run, past_of}
+use Words.{Timely, does_move, does_take, Outcome, Granted, Handed, Retried, Deferred, Written, Replied, Failed}
+use Words.{Upgraded, Starting, BytesFrom, Ending, SnoopSettled, bench_stepped, step_answered, step_cancelled}
+use Words.{step_decided, step_drive, step_ending, step_fetched, step_performed, step_run, step_snooped, step_started}
+use Words.{answered_by, bus_answered, bus_cancelled, bus_ended, bus_snooped, bus_started, BenchView, BusView}
+use Words.{next_clock_of, bus_fetched, bytes_source, IsBenchOf, timely-now, HasBytesOf}
 use Rattle.fsb_coherent.specs.Fitting.{fits_getting, fits_kind, fits_upgrade, fits_write_back}
-use Rattle.fsb_coherent.specs.Relation.{chain_below, is_moved_below}
-use Rattle.fsb_encode.specs.declared.request.Kind.{Kind}
-use Rattle.fsb_hazard.specs.declared.choice.Choice.{Choice}
-use Rattle.fsb_lawful.specs.Beginning.{KeepsBounds}
-use Rattle.fsb_line.specs.declared.link.Link.{Link}
-use Rattle.fsb_queue.specs.declared.entry.Entry.{Entry}
-use Rattle.fsb_tied.proofs.Interface.{awaits-grant, clock-facts, events-may-happen, granted-await, taking-at}
-use Rattle.fsb_tied.proofs.Interface.{written-await}
-use Rattle.fsb_timely.specs.Grants.{snooped_at}
-use Rattle.fsb_timely.specs.Kept.{bytes_now}
-use Rattle.fsb_timely.specs.Moments.{is_got, is_upgraded, makes_grant}
-use Rattle.fsb_timely.specs.Past.{Claim, Grant, SnoopEnd}
-use Rattle.fsb_timely.specs.Runs.{Run, past_of}
-use Rattle.fsb_timely.specs.Timely.{Timely}
-use Rattle.fsb_trace.specs.Outcome.{does_move, does_take}
-use Rattle.fsb_trace.specs.declared.outcome.Outcome.{Outcome}
-use Rattle.fsb_trace.specs.declared.outcome.Outcome.TheVariants.{Granted, Handed, Retried, Deferred, Written, Replied}
-use Rattle.fsb_trace.specs.declared.outcome.Outcome.TheVariants.{Failed, Upgraded}
-use Rattle.fsb_bench_view.specs.declared.beginning.Starting.{Starting}
-use Rattle.fsb_bench_view.specs.declared.decided.BytesFrom.{BytesFrom}
-use Rattle.fsb_bench_view.specs.declared.decided.Ending.{Ending}
-use Rattle.fsb_bench_view.specs.declared.snoop.SnoopSettled.{SnoopSettled}
-use Rattle.fsb_bench_view.specs.BenchSteps.{bench_stepped, step_answered, step_cancelled, step_decided, step_drive}
-use Rattle.fsb_bench_view.specs.BenchSteps.{step_ending, step_fetched, step_performed, step_run, step_snooped}
-use Rattle.fsb_bench_view.specs.BenchSteps.{step_started}
-use Rattle.fsb_bench_view.specs.BusEvents.{answered_by, bus_answered, bus_cancelled, bus_ended, bus_snooped}
-use Rattle.fsb_bench_view.specs.BusEvents.{bus_started}
-use Rattle.fsb_bench_view.specs.BusViews.{BenchView, BusView, next_clock_of}
-use Rattle.fsb_bench_view.specs.BytesFetched.{bus_fetched, bytes_source}
-use Rattle.fsb_bench_run.specs.BenchOf.{IsBenchOf}
-use Rattle.fsb_bench_run.proofs.Interface.{timely-now}
-use Rattle.fsb_bench_values.specs.BytesOf.{HasBytesOf}
 use Rattle.fsb_bench_values.proofs.Fetched.{moved-fetched, responded-fetched}
 use Rattle.fsb_bench_values.proofs.RunsValues.{within}
 use Rattle.fsb_bench_values.proofs.StillBytes.{hits-leave, others-leave}

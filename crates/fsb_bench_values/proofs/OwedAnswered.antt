@@ -1,63 +1,25 @@
 -- What the agents of a bench keep and owe at a clock, before its end: the bytes after the hits.
-use Rattle.std.proofs.Common.{ℕ, ◌+◌, ◌<◌, ◌≡◌, Bool, true, false, cond, not, ◌&&◌, ◌||◌, if◌then◌else◌, List, [], ◌∷◌}
-use Rattle.std.proofs.Common.{Option, Some, None, nat_eq, refl, sym, ap, subst, ◌∙◌, inl, inr, arith}
-use Rattle.std.specs.Prelude.{◌==◌, count_by, fold}
-use Rattle.std.specs.List.{slice_get}
-use Rattle.std.specs.Option.{option_map_or}
-use Rattle.std.proofs.lemmas.Bool.{eq-eqb, eqb-true}
+use Rattle.fsb_bench_values.proofs.Words
+use Words.{ℕ, ◌+◌, ◌<◌, ◌≡◌, Bool, true, false, not, ◌&&◌, ◌||◌, if◌then◌else◌, List, [], ◌∷◌, Option, Some, None}
+use Words.{nat_eq, refl, sym, ap, subst, ◌∙◌, inl, inr, arith, ◌==◌, count_by, slice_get, option_map_or, eq-eqb}
+use Words.{eqb-true, number_asked, HasBytesOwed, is_pushed, one_if, owing_by, IsViewBeforeSnoop, is_uncancelled}
+use Words.{owed_sent, owed_through, Among, IsOwnAt, among-filter, among-get, claimed-out, come-count, get-among}
+use Words.{held-told, is_settled_for, numbered-among, owed-grown, owing-there, replied-out, same-first, sent-is}
+use Words.{settled-unawaited, wanted-of, written-kind, HandedOn, Performed, agent_after, AgentView, line_state_by}
+use Words.{request_numbered, committed, OwnRequest, events_below, is_responded_below, Kind, Choice, Purpose, MemoryLine}
+use Words.{unheld, run, is_held, is_modified, suits, modified_is_sole, sole_is_held, Push, is_push_for, Entry, Reaches}
+use Words.{replied-on, begun-want, clock-facts, events-may-happen, begun_at, holds_line, is_evicted, snooped_at, Claim}
+use Words.{Past, SnoopEnd, Run, past_of, want_of, purpose_of, Outcome, Written, Starting, BytesFrom, Memory, Agents}
+use Words.{SnoopSettled, step_answered, step_cancelled, step_decided, step_drive, step_entries, step_fetched}
+use Words.{step_performed, step_run, step_snooped, step_started, answered_by, bus_cancelled, bus_snooped, bus_started}
+use Words.{cancelled_event, snooped_event, starting_event, BenchView, BusView, next_clock_of, bus_fetched, bytes_source}
+use Words.{for_all, IsBenchOf, AgentsAre, IsSnoopHeard, answered-agents, grows-to, hears-snoop, performed-buffers}
+use Words.{reaches-step, snoop-cases, step-with, timely-now, told-each, views-cancelled, HasBytesOf, HasCopies, HasKept}
+use Rattle.std.proofs.Common.{cond}
+use Rattle.std.specs.Prelude.{fold}
 use Rattle.std.proofs.lemmas.List.Sums.{sum_by-cons}
-use Rattle.fsb_agent_run.specs.AgentClocks.{number_asked}
-use Rattle.fsb_agent_run.specs.BytesOwed.{HasBytesOwed, is_pushed}
-use Rattle.fsb_agent_run.specs.RunViews.{one_if, owing_by}
-use Rattle.fsb_agent_run.specs.Stages.{IsViewBeforeSnoop, is_uncancelled, owed_sent, owed_through}
-use Rattle.fsb_agent_run.proofs.Interface.{Among, IsOwnAt, among-filter, among-get, claimed-out, come-count, get-among}
-use Rattle.fsb_agent_run.proofs.Interface.{held-told, is_settled_for, numbered-among, owed-grown, owing-there}
-use Rattle.fsb_agent_run.proofs.Interface.{replied-out, same-first, sent-is, settled-unawaited, wanted-of, written-kind}
-use Rattle.fsb_agent_view.specs.AgentEvents.{HandedOn, Performed, agent_after}
-use Rattle.fsb_agent_view.specs.AgentViews.{AgentView, line_state_by}
-use Rattle.fsb_agent_view.specs.OwnRequests.{request_numbered}
-use Rattle.fsb_agent_view.specs.Snooping.{committed}
-use Rattle.fsb_agent_view.specs.declared.want.OwnRequest.{OwnRequest}
-use Rattle.fsb_coherent.specs.LineEvents.{events_below}
-use Rattle.fsb_coherent.specs.Relation.{is_responded_below}
-use Rattle.fsb_encode.specs.declared.request.Kind.{Kind}
 use Rattle.fsb_encode.specs.declared.request.Kind.TheVariants as kinds
-use Rattle.fsb_hazard.specs.declared.choice.Choice.{Choice}
-use Rattle.fsb_line.specs.declared.purpose.Purpose.{Purpose}
 use Rattle.fsb_line.specs.declared.purpose.Purpose.TheVariants as purposes
-use Rattle.fsb_line.specs.Line.{MemoryLine, unheld}
-use Rattle.fsb_line.specs.LineRuns.{run}
-use Rattle.fsb_line.specs.States.{is_held, is_modified, suits}
-use Rattle.fsb_line.proofs.Interface.{modified_is_sole, sole_is_held}
-use Rattle.fsb_linebuf.specs.declared.entry.Push.{Push}
-use Rattle.fsb_linebuf.specs.Buffers.{is_push_for}
-use Rattle.fsb_queue.specs.declared.entry.Entry.{Entry}
-use Rattle.fsb_run_laws.specs.Reaches.{Reaches}
-use Rattle.fsb_run_laws.proofs.Interface.{replied-on}
-use Rattle.fsb_tied.proofs.Interface.{begun-want, clock-facts, events-may-happen}
-use Rattle.fsb_timely.specs.Grants.{begun_at, holds_line, is_evicted, snooped_at}
-use Rattle.fsb_timely.specs.Past.{Claim, Past, SnoopEnd}
-use Rattle.fsb_timely.specs.Runs.{Run, past_of}
-use Rattle.fsb_timely.specs.Wants.{want_of}
-use Rattle.fsb_coherent.specs.Awaits.{purpose_of}
-use Rattle.fsb_trace.specs.declared.outcome.Outcome.{Outcome}
-use Rattle.fsb_trace.specs.declared.outcome.Outcome.TheVariants.{Written}
-use Rattle.fsb_bench_view.specs.declared.beginning.Starting.{Starting}
-use Rattle.fsb_bench_view.specs.declared.decided.BytesFrom.{BytesFrom}
-use Rattle.fsb_bench_view.specs.declared.decided.BytesFrom.TheVariants.{Memory, Agents}
-use Rattle.fsb_bench_view.specs.declared.snoop.SnoopSettled.{SnoopSettled}
-use Rattle.fsb_bench_view.specs.BenchSteps.{step_answered, step_cancelled, step_decided, step_drive, step_entries}
-use Rattle.fsb_bench_view.specs.BenchSteps.{step_fetched, step_performed, step_run, step_snooped, step_started}
-use Rattle.fsb_bench_view.specs.BusEvents.{answered_by, bus_cancelled, bus_snooped, bus_started, cancelled_event}
-use Rattle.fsb_bench_view.specs.BusEvents.{snooped_event, starting_event}
-use Rattle.fsb_bench_view.specs.BusViews.{BenchView, BusView, next_clock_of}
-use Rattle.fsb_bench_view.specs.BytesFetched.{bus_fetched, bytes_source}
-use Rattle.fsb_bench_view.specs.ToldAgents.{for_all}
-use Rattle.fsb_bench_run.specs.BenchOf.{IsBenchOf}
-use Rattle.fsb_bench_run.proofs.Interface.{AgentsAre, IsSnoopHeard, answered-agents, grows-to, hears-snoop}
-use Rattle.fsb_bench_run.proofs.Interface.{performed-buffers, reaches-step, snoop-cases, step-with, timely-now}
-use Rattle.fsb_bench_run.proofs.Interface.{told-each, views-cancelled}
-use Rattle.fsb_bench_values.specs.BytesOf.{HasBytesOf, HasCopies, HasKept}
 use Rattle.fsb_bench_values.proofs.Fetched.{first-early}
 use Rattle.fsb_bench_values.proofs.HitBytes.{bytes_hit}
 use Rattle.fsb_bench_values.proofs.HitsOfBench.{cancelled-at}

@@ -1,15 +1,8 @@
 -- The bytes that are found for a transaction: those of an agent that owes them.
-use Rattle.std.proofs.Common.{ℕ, zero, suc, ◌≡◌, true, false, List, [], ◌∷◌, Option, Some, None, is_some, refl, sym}
-use Rattle.std.proofs.Common.{ap, ◌∙◌, inl, inr, arith}
-use Rattle.std.specs.List.{slice_get}
-use Rattle.std.specs.Option.{option_map}
-use Rattle.std.proofs.lemmas.Bool.{cases_Bool, eqb-true}
-use Rattle.std.specs.Prelude.{◌==◌}
-use Rattle.fsb_agent_view.specs.AgentViews.{AgentView}
-use Rattle.fsb_agent_view.specs.Arriving.{hand_by}
-use Rattle.fsb_linebuf.specs.declared.entry.Push.{Push}
-use Rattle.fsb_linebuf.specs.Buffers.{push_for}
-use Rattle.fsb_bench_view.specs.ToldAgents.{bytes_owed, first_of}
+use Rattle.fsb_bench_values.proofs.Words
+use Words.{ℕ, zero, suc, ◌≡◌, true, false, List, [], ◌∷◌, Option, Some, None, is_some, refl, sym, ap, ◌∙◌, inl, inr}
+use Words.{arith, slice_get, option_map, cases_Bool, eqb-true, ◌==◌, AgentView, hand_by, Push, push_for, bytes_owed}
+use Words.{first_of}
 
 -- a push that is found is one of the list, and for the number
 pub push-found : (q : ℕ) (pushes : List Push) (push : Push) → push_for q pushes ≡ Some push

@@ -1,39 +1,19 @@
 -- The lines of requests that an agent has outstanding: one that keeps bytes for its upgrade has a link.
-use Rattle.std.proofs.Common.{ℕ, ◌+◌, ◌<◌, ◌≤◌, ◌≡◌, Bool, true, false, not, ◌&&◌, ◌||◌, List, ◌∷◌, Option, Some}
-use Rattle.std.proofs.Common.{is_none, is_some, length, nat_eq, refl, sym, ap, subst, ◌∙◌, arith}
+use Rattle.fsb_bench_values.proofs.Words
+use Words.{ℕ, ◌+◌, ◌<◌, ◌≤◌, ◌≡◌, Bool, true, false, not, ◌&&◌, ◌||◌, List, ◌∷◌, Option, Some, is_some, length, nat_eq}
+use Words.{refl, sym, ap, subst, ◌∙◌, arith, list_any, and_parts, both_ways, eq-eqb, first_where, is_some_and}
+use Words.{first_where-found, is_at-some, is_before-from, HasLines, HasRequestsOf, is_awaited, is_won_below, owing_by}
+use Words.{Among, all-among, among-any, among-filter, awaits-by, fill-counted, kept-of, owing-there, AgentView}
+use Words.{OwnRequest, slot_of, awaited_by_grant, snoop_end_below, chain_below, Link, fill_on, Reaches, begun-wanted}
+use Words.{ends-last, owed-told, snoop-below, answers-in-order, awaits-grant, ended-later, ended-parts, grant-first}
+use Words.{granted-parts, not-so, snooped-before-end, is_ended, snooped_at, is_last_clock, is_snoop_of, is_upgraded}
+use Words.{Grant, Owing, Past, SnoopEnd, Run, past_of, outstanding_at, owed, Trace, is_dropped, is_finished}
+use Words.{is_outstanding, outstanding, is_deferral, Outcome}
+use Rattle.std.proofs.Common.{is_none}
 use Rattle.std.specs.Bool.{beq}
-use Rattle.std.specs.List.{list_any}
-use Rattle.std.proofs.lemmas.Bool.{and_parts, both_ways, eq-eqb}
-use Rattle.fsb_count.specs.Clocks.{first_where}
-use Rattle.fsb_count.specs.Options.{is_some_and}
-use Rattle.fsb_count.proofs.Interface.{first_where-found, is_at-some, is_before-from}
-use Rattle.fsb_agent_run.specs.RunViews.{HasLines, HasRequestsOf, is_awaited, is_won_below, owing_by}
-use Rattle.fsb_agent_run.proofs.Interface.{Among, all-among, among-any, among-filter, awaits-by, fill-counted}
-use Rattle.fsb_agent_run.proofs.Interface.{kept-of, owing-there}
-use Rattle.fsb_agent_view.specs.AgentViews.{AgentView}
 use Rattle.fsb_agent_view.specs.Sound.{IsSound, is_only, is_sound_request}
-use Rattle.fsb_agent_view.specs.declared.want.OwnRequest.{OwnRequest}
-use Rattle.fsb_cache.specs.Sets.{slot_of}
-use Rattle.fsb_coherent.specs.Awaits.{awaited_by_grant, snoop_end_below}
-use Rattle.fsb_coherent.specs.Relation.{chain_below}
 use Rattle.fsb_lawful.proofs.Interface as lawful
-use Rattle.fsb_line.specs.declared.link.Link.{Link}
-use Rattle.fsb_linebuf.specs.Buffers.{fill_on}
-use Rattle.fsb_run_laws.specs.Reaches.{Reaches}
 use Rattle.fsb_run_laws.specs.RunSteps.{owing_begun}
-use Rattle.fsb_run_laws.proofs.Interface.{begun-wanted, ends-last, owed-told, snoop-below}
-use Rattle.fsb_tied.proofs.Interface.{answers-in-order, awaits-grant, ended-later, ended-parts, grant-first}
-use Rattle.fsb_tied.proofs.Interface.{granted-parts, not-so, snooped-before-end}
-use Rattle.fsb_timely.specs.Grants.{is_ended, snooped_at}
-use Rattle.fsb_timely.specs.Growth.{is_last_clock}
-use Rattle.fsb_timely.specs.Moments.{is_snoop_of, is_upgraded}
-use Rattle.fsb_timely.specs.Past.{Grant, Owing, Past, SnoopEnd}
-use Rattle.fsb_timely.specs.Runs.{Run, past_of}
-use Rattle.fsb_timely.specs.Wants.{outstanding_at, owed}
-use Rattle.fsb_trace.specs.At.{Trace}
-use Rattle.fsb_trace.specs.Flight.{is_dropped, is_finished, is_outstanding, outstanding}
-use Rattle.fsb_trace.specs.Outcome.{is_deferral}
-use Rattle.fsb_trace.specs.declared.outcome.Outcome.{Outcome}
 use Rattle.fsb_bench_values.proofs.PushedLines.{awaited-link}
 
 one-of : {X : Type 0} (a b : X) → Some a ≡ Some b → a ≡ b

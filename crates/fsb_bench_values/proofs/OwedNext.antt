@@ -1,43 +1,17 @@
 -- What the agents of a bench keep and owe behind a clock are the bytes of the one byte memory, where what comes with
 -- the end of the clock has the bytes of its line.
-use Rattle.std.proofs.Common.{ℕ, ◌+◌, ◌<◌, ◌≡◌, ◌⊎◌, Bool, true, false, List, [], ◌∷◌, Option, Some, None, fold}
-use Rattle.std.proofs.Common.{if◌then◌else◌, length, slice_get, refl, sym, ap, subst, ◌∙◌, inl, inr, arith}
-use Rattle.std.specs.Prelude.{◌==◌}
-use Rattle.std.specs.Option.{option_map_or}
-use Rattle.std.proofs.lemmas.Bool.{eqb-true}
-use Rattle.fsb_agent_run.specs.BytesOwed.{HasBytesOwed, promise_told}
-use Rattle.fsb_agent_run.specs.RunViews.{owing_by}
-use Rattle.fsb_agent_run.proofs.Interface.{Among, among-either, among-without, get-among, given, owing-is}
-use Rattle.fsb_agent_run.proofs.Interface.{owing-there, promised-at}
-use Rattle.fsb_agent_view.specs.AgentEvents.{AgentEvent, agent_after}
-use Rattle.fsb_agent_view.specs.AgentViews.{AgentView}
-use Rattle.fsb_agent_view.specs.Arriving.{arrived_for, ended_for, given_up, line_arrived, met_by, upgrade_ended}
-use Rattle.fsb_agent_view.specs.OwnRequests.{request_numbered, requests_without}
-use Rattle.fsb_agent_view.specs.declared.want.OwnRequest.{OwnRequest}
-use Rattle.fsb_bench_view.specs.BenchSteps.{bench_stepped, step_answered, step_ended, step_ending, step_run}
-use Rattle.fsb_bench_view.specs.BusEvents.{agent_ended, bus_ended, end_event, ended_event}
-use Rattle.fsb_bench_view.specs.BusViews.{BenchView, next_clock_of}
-use Rattle.fsb_bench_view.specs.ToldAgents.{for_one}
-use Rattle.fsb_bench_view.specs.declared.decided.Ending.{Ending}
-use Rattle.fsb_bench_run.specs.BenchOf.{IsBenchOf}
-use Rattle.fsb_bench_run.proofs.Interface.{AgentsAre, agents-next, owed-answered, reaches-step, timely-now, told-each}
-use Rattle.fsb_cache.specs.Sets.{copies}
-use Rattle.fsb_coherent.specs.Facts.{does_end_on}
-use Rattle.fsb_coherent.specs.Relation.{chain_below, is_responded_below}
-use Rattle.fsb_hazard.specs.declared.choice.Choice.{Choice}
-use Rattle.fsb_linebuf.specs.Buffers.{Buffered, promise_on, pushed_to}
-use Rattle.fsb_linebuf.specs.declared.entry.Push.{Push}
-use Rattle.fsb_run_laws.specs.Reaches.{Reaches}
-use Rattle.fsb_tied.proofs.Interface.{begun-want, ends-line, ends-on}
-use Rattle.fsb_timely.specs.Grants.{begun_at}
-use Rattle.fsb_timely.specs.Kept.{bytes_now}
-use Rattle.fsb_timely.specs.Past.{Claim, Past}
-use Rattle.fsb_timely.specs.Runs.{past_of}
-use Rattle.fsb_timely.specs.Wants.{owed}
-use Rattle.fsb_trace.specs.declared.outcome.Outcome.{Outcome}
-use Rattle.fsb_trace.specs.declared.outcome.Outcome.TheVariants.{Granted, Handed, Retried, Deferred, Written, Replied}
-use Rattle.fsb_trace.specs.declared.outcome.Outcome.TheVariants.{Failed, Upgraded}
-use Rattle.fsb_bench_values.specs.BytesOf.{HasBytesOf, HasKept, HasPushes}
+use Rattle.fsb_bench_values.proofs.Words
+use Words.{ℕ, ◌+◌, ◌<◌, ◌≡◌, ◌⊎◌, Bool, true, false, List, [], ◌∷◌, Option, Some, None, fold, if◌then◌else◌, length}
+use Words.{refl, sym, ap, subst, ◌∙◌, inl, inr, arith, ◌==◌, option_map_or, eqb-true, HasBytesOwed, promise_told}
+use Words.{owing_by, Among, among-either, among-without, get-among, given, owing-is, owing-there, promised-at}
+use Words.{AgentEvent, agent_after, AgentView, arrived_for, ended_for, given_up, line_arrived, met_by, upgrade_ended}
+use Words.{request_numbered, requests_without, OwnRequest, bench_stepped, step_answered, step_ended, step_ending}
+use Words.{step_run, agent_ended, bus_ended, end_event, ended_event, BenchView, next_clock_of, for_one, Ending}
+use Words.{IsBenchOf, AgentsAre, agents-next, owed-answered, reaches-step, timely-now, told-each, copies, does_end_on}
+use Words.{chain_below, is_responded_below, Choice, Buffered, promise_on, pushed_to, Push, Reaches, begun-want}
+use Words.{ends-line, ends-on, begun_at, bytes_now, Claim, Past, past_of, owed, Outcome, Granted, Handed, Retried}
+use Words.{Deferred, Written, Replied, Failed, Upgraded, HasBytesOf, HasKept, HasPushes}
+use Rattle.std.proofs.Common.{slice_get}
 use Rattle.fsb_bench_values.proofs.ClockServed.{ClockServed}
 use Rattle.fsb_bench_values.proofs.EndServed.{Comes}
 use Rattle.fsb_bench_values.proofs.HitBytes.{bytes_hit}

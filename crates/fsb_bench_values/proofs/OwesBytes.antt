@@ -1,29 +1,12 @@
 -- What an agent keeps for its upgrades and owes to others, through its events but for hits and arrivals.
-use Rattle.std.proofs.Common.{ℕ, ◌≡◌, Bool, true, false, List, [], ◌∷◌, ◌++◌, Option, Some, None, refl, sym, ap}
-use Rattle.std.proofs.Common.{subst, ◌∙◌, inl, inr, arith}
+use Rattle.fsb_bench_values.proofs.Words
+use Words.{ℕ, ◌≡◌, Bool, true, false, List, [], ◌∷◌, ◌++◌, Option, Some, None, refl, sym, ap, subst, ◌∙◌, inl, inr}
+use Words.{arith, Among, among-either, among-granted, among-without, numbered-among, agent_after, AgentView, has_come}
+use Words.{line_state_by, given_up, handed_on, performed, new_request, request_numbered, requests_granted, committed}
+use Words.{granted_by, own_settled, upgraded_by, with_push, written_by, sent, want_by, OwnRequest, Want, copies}
+use Words.{Request, is_held, Push, pushes_without, begun_at, Claim, Past, Outcome, Written, Upgraded, Who}
+use Words.{cancelled_event, starting_event, HasCopies}
 use Rattle.std.specs.Prelude.{fold}
-use Rattle.fsb_agent_run.proofs.Interface.{Among, among-either, among-granted, among-without, numbered-among}
-use Rattle.fsb_agent_view.specs.AgentEvents.{agent_after}
-use Rattle.fsb_agent_view.specs.AgentViews.{AgentView, has_come, line_state_by}
-use Rattle.fsb_agent_view.specs.Arriving.{given_up, handed_on}
-use Rattle.fsb_agent_view.specs.Completing.{performed}
-use Rattle.fsb_agent_view.specs.OwnRequests.{new_request, request_numbered, requests_granted}
-use Rattle.fsb_agent_view.specs.Snooping.{committed, granted_by, own_settled, upgraded_by, with_push, written_by}
-use Rattle.fsb_agent_view.specs.Wanting.{sent, want_by}
-use Rattle.fsb_agent_view.specs.declared.want.OwnRequest.{OwnRequest}
-use Rattle.fsb_agent_view.specs.declared.want.Want.{Want}
-use Rattle.fsb_cache.specs.Sets.{copies}
-use Rattle.fsb_encode.specs.declared.request.Request.{Request}
-use Rattle.fsb_line.specs.States.{is_held}
-use Rattle.fsb_linebuf.specs.declared.entry.Push.{Push}
-use Rattle.fsb_linebuf.specs.Buffers.{pushes_without}
-use Rattle.fsb_timely.specs.Grants.{begun_at}
-use Rattle.fsb_timely.specs.Past.{Claim, Past}
-use Rattle.fsb_trace.specs.declared.outcome.Outcome.{Outcome}
-use Rattle.fsb_trace.specs.declared.outcome.Outcome.TheVariants.{Written, Upgraded}
-use Rattle.fsb_trace.specs.declared.who.Who.{Who}
-use Rattle.fsb_bench_view.specs.BusEvents.{cancelled_event, starting_event}
-use Rattle.fsb_bench_values.specs.BytesOf.{HasCopies}
 
 -- what an agent keeps for an upgrade that it has won, and what it owes to a request that began, are these bytes of
 -- the line

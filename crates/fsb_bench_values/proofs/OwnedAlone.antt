@@ -1,21 +1,10 @@
 -- A line that comes to an agent that is to own it is ready for nobody else.
-use Rattle.std.proofs.Common.{ℕ, ◌+◌, ◌≡◌, ◌≢◌, Bool, true, false, List, [], ◌∷◌, Some, length, refl, subst, arith}
-use Rattle.fsb_agent_run.specs.RunViews.{IsComing}
-use Rattle.fsb_coherent.specs.Awaits.{awaited_by_grant}
-use Rattle.fsb_count.specs.Options.{is_some_and}
-use Rattle.fsb_coherent.specs.LineEvents.{events_below}
-use Rattle.fsb_coherent.specs.Relation.{chain_below}
-use Rattle.fsb_lawful.proofs.Interface.{and-then}
-use Rattle.fsb_line.specs.declared.link.Link.{Link}
-use Rattle.fsb_line.specs.Line.{MemoryLine, unheld}
-use Rattle.fsb_line.specs.LineRuns.{run}
-use Rattle.fsb_line.specs.Links.{is_linked, is_overtaken, owns}
-use Rattle.fsb_run_laws.specs.Reaches.{Reaches}
-use Rattle.fsb_tied.proofs.Interface.{answers-in-order, awaits-grant, clock-facts, events-may-happen, grant-first}
-use Rattle.fsb_tied.proofs.Interface.{granted-owns, oldest-ends, unlinked}
-use Rattle.fsb_timely.specs.Grants.{ended_requests, grant_at, holds_line, is_end_at, is_granted, is_ready, snooped_at}
-use Rattle.fsb_timely.specs.Past.{Grant, Past, SnoopEnd}
-use Rattle.fsb_timely.specs.Runs.{Run, past_of}
+use Rattle.fsb_bench_values.proofs.Words
+use Words.{ℕ, ◌+◌, ◌≡◌, ◌≢◌, Bool, true, false, List, [], ◌∷◌, Some, length, refl, subst, arith, IsComing}
+use Words.{awaited_by_grant, is_some_and, events_below, chain_below, and-then, Link, MemoryLine, unheld, run, is_linked}
+use Words.{is_overtaken, owns, Reaches, answers-in-order, awaits-grant, clock-facts, events-may-happen, grant-first}
+use Words.{granted-owns, oldest-ends, unlinked, ended_requests, grant_at, holds_line, is_end_at, is_granted, is_ready}
+use Words.{snooped_at, Grant, Past, SnoopEnd, Run, past_of}
 
 -- who has no link is overtaken by a link that owns
 overtaken : (b : ℕ) (link : Link) (links : List Link) → owns link ≡ true → is_linked b (link ∷ links) ≡ false

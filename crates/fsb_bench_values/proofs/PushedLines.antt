@@ -1,48 +1,22 @@
 -- The lines whose bytes an agent has for others: each has a link, and no other request's end is awaited on it.
-use Rattle.std.proofs.Common.{ℕ, zero, suc, ◌+◌, ◌<◌, ◌≤◌, ◌≡◌, ◌⊎◌, Bool, true, false, List, [], ◌∷◌, ◌++◌, Option}
-use Rattle.std.proofs.Common.{Some, None, length, nat_eq, refl, sym, ap, subst, ◌∙◌, inl, inr, arith, append-nil}
-use Rattle.std.specs.Option.{option_and_then, option_map, option_map_or}
-use Rattle.std.proofs.lemmas.Option.{slice_get_past}
-use Rattle.std.proofs.lemmas.Bool.{both_ways, cases_Bool, cases_eq, cases_lt, eq-eqb, eqb-true, false_from_ne_true}
-use Rattle.fsb_count.specs.Clocks.{any_where, from_clock, last_where}
-use Rattle.fsb_count.specs.Options.{is_at, is_some_and}
-use Rattle.fsb_count.proofs.Interface.{any_where-at, any_where-found, any_where-off, is_at-from}
-use Rattle.fsb_agent_run.specs.BytesOwed.{claim_given_at, given_since, gives_line_at, is_given_below, is_promised}
-use Rattle.fsb_agent_run.specs.BytesOwed.{is_pushed, promise_told}
-use Rattle.fsb_agent_run.specs.RunViews.{is_awaited}
-use Rattle.fsb_agent_run.proofs.Interface.{dirty-unpromised, earlier-ended, given, gives-by, written-kind}
-use Rattle.fsb_coherent.specs.Awaits.{Awaited, awaited_by, purpose_of, responded_in}
-use Rattle.fsb_coherent.specs.BeforeSnoop.{events_before_snoop}
-use Rattle.fsb_coherent.specs.Facts.{does_end_on}
-use Rattle.fsb_coherent.specs.LineEvents.{events_below}
-use Rattle.fsb_coherent.specs.Relation.{chain_below, is_responded_below, link_for, link_left, links_left, purpose_at}
-use Rattle.fsb_coherent.proofs.Interface.{dirty-to, first-events}
-use Rattle.fsb_lawful.specs.Beginning.{KeepsBounds}
-use Rattle.fsb_lawful.proofs.Interface.{some-and}
-use Rattle.fsb_line.specs.declared.link.Link.{Link}
-use Rattle.fsb_line.specs.declared.purpose.Purpose.{Purpose}
+use Rattle.fsb_bench_values.proofs.Words
+use Words.{ℕ, zero, suc, ◌+◌, ◌<◌, ◌≤◌, ◌≡◌, ◌⊎◌, Bool, true, false, List, [], ◌∷◌, ◌++◌, Option, Some, None, length}
+use Words.{nat_eq, refl, sym, ap, subst, ◌∙◌, inl, inr, arith, append-nil, option_and_then, option_map, option_map_or}
+use Words.{slice_get_past, both_ways, cases_Bool, cases_eq, cases_lt, eq-eqb, eqb-true, false_from_ne_true, any_where}
+use Words.{from_clock, last_where, is_at, is_some_and, any_where-at, any_where-found, any_where-off, is_at-from}
+use Words.{claim_given_at, given_since, gives_line_at, is_given_below, is_promised, is_pushed, promise_told, is_awaited}
+use Words.{dirty-unpromised, earlier-ended, given, gives-by, written-kind, Awaited, awaited_by, purpose_of}
+use Words.{responded_in, events_before_snoop, does_end_on, events_below, chain_below, is_responded_below, link_for}
+use Words.{link_left, links_left, purpose_at, dirty-to, first-events, KeepsBounds, some-and, Link, Purpose, MemoryLine}
+use Words.{unheld, run, is_linked, newest, owns, is_modified, kind_owns, suits, modified_is_sole, ordered_run, Kind}
+use Words.{Reaches, AnswersInOrder, EndsLine, answers-in-order, at-there, begun-want, clock-facts, ended-later}
+use Words.{ended-parts, ends-line, ends-on, events-may-happen, grant-first, granted-await, granted-parts, link_of}
+use Words.{links_at, listed-alone, not-so, taking-at, unended-at-end, written-await, begun_at, grant_at, is_ended}
+use Words.{is_granted, latest_grant, snooped_at, is_dirty, Claim, Grant, Past, SnoopEnd, Run, past_of, Timely}
+use Words.{last_where-found, last_where-from, length-moments, tied-snoop, snoop_end_of-clock, does_take, Handed}
+use Words.{Written}
 use Rattle.fsb_line.specs.declared.purpose.Purpose.TheVariants as purposes
-use Rattle.fsb_line.specs.Line.{MemoryLine, unheld}
-use Rattle.fsb_line.specs.LineRuns.{run}
-use Rattle.fsb_line.specs.Links.{is_linked, newest, owns}
-use Rattle.fsb_line.specs.States.{is_modified, kind_owns, suits}
-use Rattle.fsb_line.proofs.Interface.{modified_is_sole, ordered_run}
-use Rattle.fsb_encode.specs.declared.request.Kind.{Kind}
 use Rattle.fsb_encode.specs.declared.request.Kind.TheVariants as kinds
-use Rattle.fsb_run_laws.specs.Reaches.{Reaches}
-use Rattle.fsb_tied.proofs.Interface.{AnswersInOrder, EndsLine, answers-in-order, at-there, begun-want, clock-facts}
-use Rattle.fsb_tied.proofs.Interface.{ended-later, ended-parts, ends-line, ends-on, events-may-happen, grant-first}
-use Rattle.fsb_tied.proofs.Interface.{granted-await, granted-parts, link_of, links_at, listed-alone, not-so}
-use Rattle.fsb_tied.proofs.Interface.{taking-at, unended-at-end, written-await}
-use Rattle.fsb_timely.specs.Grants.{begun_at, grant_at, is_ended, is_granted, latest_grant, snooped_at}
-use Rattle.fsb_timely.specs.Hits.{is_dirty}
-use Rattle.fsb_timely.specs.Past.{Claim, Grant, Past, SnoopEnd}
-use Rattle.fsb_timely.specs.Runs.{Run, past_of}
-use Rattle.fsb_timely.specs.Timely.{Timely}
-use Rattle.fsb_timely.proofs.Interface.{last_where-found, last_where-from, length-moments, tied-snoop}
-use Rattle.fsb_trace.proofs.Interface.{snoop_end_of-clock}
-use Rattle.fsb_trace.specs.Outcome.{does_take}
-use Rattle.fsb_trace.specs.declared.outcome.Outcome.TheVariants.{Handed, Written}
 use Rattle.fsb_bench_values.proofs.QuietLines.{sole-linked}
 
 one-of : {X : Type 0} (a b : X) → Some a ≡ Some b → a ≡ b

@@ -1,29 +1,13 @@
 -- Which clocks store nothing into a line: a line with a link is not stored into by a hit, nor behind the snoop end by
 -- what comes with the end of another line.
-use Rattle.std.proofs.Common.{ℕ, ◌+◌, ◌<◌, ◌≤◌, ◌≡◌, Bool, true, false, not, ◌&&◌, ◌||◌, List, [], ◌∷◌, Option, Some}
-use Rattle.std.proofs.Common.{length, nat_eq, refl, ap, subst, ◌∙◌, arith}
-use Rattle.std.specs.Prelude.{◌==◌}
-use Rattle.std.specs.List.{list_all, list_any}
-use Rattle.std.proofs.lemmas.Bool.{eq-eqb, or_left}
-use Rattle.fsb_count.specs.Options.{is_some_and}
+use Rattle.fsb_bench_values.proofs.Words
+use Words.{ℕ, ◌+◌, ◌<◌, ◌≤◌, ◌≡◌, Bool, true, false, not, ◌&&◌, ◌||◌, List, [], ◌∷◌, Option, Some, length, nat_eq, refl}
+use Words.{ap, subst, ◌∙◌, arith, ◌==◌, list_all, list_any, eq-eqb, or_left, is_some_and, Link, MemoryLine, unheld, run}
+use Words.{is_linked, newest, is_sole, ended_requests, has_arrived, holds_line, is_exclusive, is_ready, is_hit, Past}
+use Words.{Run, past_of, is_load, Timely, KeepsBounds, Awaited, awaited_at, does_end_on, is_served_hit, is_served_other}
+use Words.{entries_on, events_below, is_awaited_for, is_brought_to, is_of_other_line, chain_below, arrived-ready}
+use Words.{clock-facts, events-may-happen, unlinked}
 use Rattle.fsb_line.specs.Coherence.{Ordered}
-use Rattle.fsb_line.specs.declared.link.Link.{Link}
-use Rattle.fsb_line.specs.Line.{MemoryLine, unheld}
-use Rattle.fsb_line.specs.LineRuns.{run}
-use Rattle.fsb_line.specs.Links.{is_linked, newest}
-use Rattle.fsb_line.specs.States.{is_sole}
-use Rattle.fsb_timely.specs.Grants.{ended_requests, has_arrived, holds_line, is_exclusive, is_ready}
-use Rattle.fsb_timely.specs.Hits.{is_hit}
-use Rattle.fsb_timely.specs.Past.{Past}
-use Rattle.fsb_timely.specs.Runs.{Run, past_of}
-use Rattle.fsb_timely.specs.Scripts.{is_load}
-use Rattle.fsb_timely.specs.Timely.{Timely}
-use Rattle.fsb_lawful.specs.Beginning.{KeepsBounds}
-use Rattle.fsb_coherent.specs.Awaits.{Awaited, awaited_at}
-use Rattle.fsb_coherent.specs.Facts.{does_end_on, is_served_hit, is_served_other}
-use Rattle.fsb_coherent.specs.LineEvents.{entries_on, events_below, is_awaited_for, is_brought_to, is_of_other_line}
-use Rattle.fsb_coherent.specs.Relation.{chain_below}
-use Rattle.fsb_tied.proofs.Interface.{arrived-ready, clock-facts, events-may-happen, unlinked}
 
 -- a chain with a link has a newest one
 newest-there : (link : Link) (links : List Link)

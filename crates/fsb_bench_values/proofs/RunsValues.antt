@@ -1,27 +1,12 @@
 -- The line of the machine in the run of a bench and in the run with one more clock: it is the same at that clock, and
 -- its bytes are those of the bench's run.
-use Rattle.std.proofs.Common.{ℕ, ◌+◌, ◌<◌, ◌≡◌, Bool, length, sym, ap, ◌∙◌, arith}
-use Rattle.std.specs.Option.{option_and_then, option_map}
-use Rattle.fsb_access.specs.ByteMemory.{start_memory}
+use Rattle.fsb_bench_values.proofs.Words
+use Words.{ℕ, ◌+◌, ◌<◌, ◌≡◌, Bool, length, sym, ap, ◌∙◌, arith, option_and_then, option_map, start_memory, chain_below}
+use Words.{is_moved_below, events_below-same, Choice, MemoryLine, longer, HasValues, machine_line, bytes-at-end}
+use Words.{events-may-happen, memory-kept, now-below-run, begun_at, bytes_now, bytes_put, line_bytes, Moment, past_of}
+use Words.{past-goes_on, step_run, BenchView, next_clock_of, IsBenchOf, before-growth, grows-to, timely-now, HasBytesOf}
 use Rattle.fsb_access.specs.Replay.{Served}
 use Rattle.fsb_coherent.specs.KeepsTie.{IsTiedTo}
-use Rattle.fsb_coherent.specs.Relation.{chain_below, is_moved_below}
-use Rattle.fsb_coherent.proofs.Interface.{events_below-same}
-use Rattle.fsb_hazard.specs.declared.choice.Choice.{Choice}
-use Rattle.fsb_line.specs.Line.{MemoryLine}
-use Rattle.fsb_phase_run.proofs.Interface.{longer}
-use Rattle.fsb_tied.specs.RunBytes.{HasValues, machine_line}
-use Rattle.fsb_tied.proofs.Interface.{bytes-at-end, events-may-happen, memory-kept, now-below-run}
-use Rattle.fsb_timely.specs.Grants.{begun_at}
-use Rattle.fsb_timely.specs.Kept.{bytes_now, bytes_put, line_bytes}
-use Rattle.fsb_timely.specs.Past.{Moment}
-use Rattle.fsb_timely.specs.Runs.{past_of}
-use Rattle.fsb_timely.proofs.Interface.{past-goes_on}
-use Rattle.fsb_bench_view.specs.BenchSteps.{step_run}
-use Rattle.fsb_bench_view.specs.BusViews.{BenchView, next_clock_of}
-use Rattle.fsb_bench_run.specs.BenchOf.{IsBenchOf}
-use Rattle.fsb_bench_run.proofs.Interface.{before-growth, grows-to, timely-now}
-use Rattle.fsb_bench_values.specs.BytesOf.{HasBytesOf}
 use Rattle.fsb_bench_values.proofs.LogsInOrder.{log-in-order}
 
 -- the run of a bench with its bytes has values

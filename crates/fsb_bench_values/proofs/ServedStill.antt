@@ -1,33 +1,12 @@
 -- The request that an entry of a bench serves is the one whose line and chunk it has in the longer run.
-use Rattle.std.proofs.Common.{ℕ, ◌+◌, ◌<◌, ◌≡◌, Some, length, sym, ap, ◌∙◌, arith}
-use Rattle.std.specs.Option.{option_and_then}
-use Rattle.fsb_agent_run.specs.AgentClocks.{number_asked}
-use Rattle.fsb_agent_run.proofs.Interface.{served-number}
-use Rattle.fsb_bench_run.specs.BenchOf.{IsBegunAt, IsServed}
-use Rattle.fsb_bench_run.proofs.Interface.{and-some, answered-of, before-growth, begun-claim, begun-reply-kind}
-use Rattle.fsb_bench_run.proofs.Interface.{begun-request, begun-stays, itself-served, reply-serves}
-use Rattle.fsb_bench_view.specs.declared.snoop.Served.{Served}
-use Rattle.fsb_count.specs.Options.{is_some_and}
-use Rattle.fsb_lawful.specs.Beginning.{KeepsBounds}
-use Rattle.fsb_phase_run.proofs.Interface.{agree-grown, snooped-same}
-use Rattle.fsb_queue.specs.declared.entry.Entry.{Entry}
-use Rattle.fsb_run_laws.specs.Reaches.{Reaches}
-use Rattle.fsb_run_laws.proofs.Interface.{replied-outstanding, replied-served}
-use Rattle.fsb_tied.proofs.Interface.{begun-shown, begun-want, live-request}
-use Rattle.fsb_timely.specs.Carried.{served_request}
-use Rattle.fsb_timely.specs.Grants.{snooped_at}
-use Rattle.fsb_timely.specs.Growth.{GrowsTo}
-use Rattle.fsb_timely.specs.Moments.{served_number, turns_in}
-use Rattle.fsb_timely.specs.Past.{Grant, Past, SnoopEnd}
-use Rattle.fsb_timely.specs.Runs.{Run, past_of}
-use Rattle.fsb_timely.specs.Timely.{Timely}
-use Rattle.fsb_timely.proofs.Interface.{going-alike, owed-same, past-goes_on}
-use Rattle.fsb_timely.specs.Wants.{owed}
-use Rattle.fsb_trace.specs.At.{request_at}
-use Rattle.fsb_trace.specs.Requests.{is_reply, live_clock_of, live_number_of, live_request_of}
-use Rattle.fsb_trace.specs.declared.who.Who.{Who}
-use Rattle.fsb_trace.specs.declared.who.Who.TheVariants.{Symmetric, Priority}
-use Rattle.fsb_trace.proofs.Interface.{live_clock_of-rises, live_clock_of-stays, snoop_end_of-stays}
+use Rattle.fsb_bench_values.proofs.Words
+use Words.{ℕ, ◌+◌, ◌<◌, ◌≡◌, Some, length, sym, ap, ◌∙◌, arith, option_and_then, number_asked, served-number, IsBegunAt}
+use Words.{IsServed, and-some, answered-of, before-growth, begun-claim, begun-reply-kind, begun-request, begun-stays}
+use Words.{itself-served, reply-serves, Served, is_some_and, KeepsBounds, agree-grown, snooped-same, Entry, Reaches}
+use Words.{replied-outstanding, replied-served, begun-shown, begun-want, live-request, served_request, snooped_at}
+use Words.{GrowsTo, served_number, turns_in, Grant, Past, SnoopEnd, Run, past_of, Timely, going-alike, owed-same}
+use Words.{past-goes_on, owed, request_at, is_reply, live_clock_of, live_number_of, live_request_of, Who, Symmetric}
+use Words.{Priority, live_clock_of-rises, live_clock_of-stays, snoop_end_of-stays}
 use Rattle.fsb_bench_values.proofs.ServesLine.{HasSnoopEnd}
 
 one-of : {X : Type 0} (a b : X) → Some a ≡ Some b → a ≡ b

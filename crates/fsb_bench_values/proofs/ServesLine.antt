@@ -1,30 +1,11 @@
 -- The line on which an end is awaited after a snoop end is that of the request which is served.
-use Rattle.std.proofs.Common.{ℕ, ◌+◌, ◌<◌, ◌≤◌, ◌≡◌, Option, Some, None, length, refl, sym, ap, subst, ◌∙◌, arith}
-use Rattle.fsb_coherent.specs.Awaits.{Awaited, awaited_by}
-use Rattle.fsb_encode.specs.declared.request.Request.{Request}
-use Rattle.fsb_lawful.specs.Beginning.{KeepsBounds}
-use Rattle.fsb_queue.specs.declared.entry.Entry.{Entry}
-use Rattle.fsb_agent_run.proofs.Interface.{served-number}
-use Rattle.fsb_run_laws.specs.Reaches.{Reaches}
-use Rattle.fsb_run_laws.proofs.Interface.{replied-outstanding}
-use Rattle.fsb_tied.proofs.Interface.{begun-shown, begun-want, clock-facts, granted-await, live-request}
-use Rattle.fsb_tied.proofs.Interface.{written-await}
-use Rattle.fsb_timely.specs.Grants.{begun_at}
-use Rattle.fsb_timely.specs.Moments.{claim_at, served_number, turns_in}
-use Rattle.fsb_timely.specs.Past.{Claim, Grant, SnoopEnd}
-use Rattle.fsb_timely.specs.Runs.{Run, past_of}
-use Rattle.fsb_timely.specs.Tied.{IsSnoopOf}
-use Rattle.fsb_timely.specs.Timely.{Timely}
-use Rattle.fsb_count.specs.Options.{is_some_and}
-use Rattle.fsb_trace.specs.At.{request_at}
-use Rattle.fsb_trace.specs.Requests.{is_reply, live_clock_of, live_number_of}
-use Rattle.fsb_trace.specs.declared.who.Who.{Who}
-use Rattle.fsb_trace.specs.declared.who.Who.TheVariants.{Symmetric, Priority}
-use Rattle.fsb_trace.proofs.Interface.{live_clock_of-rises}
-use Rattle.fsb_bench_view.specs.declared.snoop.Served.{Served}
-use Rattle.fsb_bench_run.specs.BenchOf.{IsBegunAt, IsServed}
-use Rattle.fsb_bench_run.proofs.Interface.{and-some, answered-of, begun-claim, begun-is, begun-reply-kind}
-use Rattle.fsb_bench_run.proofs.Interface.{begun-request, claim-told, itself-served, reply-serves}
+use Rattle.fsb_bench_values.proofs.Words
+use Words.{ℕ, ◌+◌, ◌<◌, ◌≤◌, ◌≡◌, Option, Some, None, length, refl, sym, ap, subst, ◌∙◌, arith, Awaited, awaited_by}
+use Words.{Request, KeepsBounds, Entry, served-number, Reaches, replied-outstanding, begun-shown, begun-want}
+use Words.{clock-facts, granted-await, live-request, written-await, begun_at, claim_at, served_number, turns_in, Claim}
+use Words.{Grant, SnoopEnd, Run, past_of, IsSnoopOf, Timely, is_some_and, request_at, is_reply, live_clock_of}
+use Words.{live_number_of, Who, Symmetric, Priority, live_clock_of-rises, Served, IsBegunAt, IsServed, and-some}
+use Words.{answered-of, begun-claim, begun-is, begun-reply-kind, begun-request, claim-told, itself-served, reply-serves}
 
 -- the entry's request has this snoop end in the run
 pub record HasSnoopEnd (r : Run) (e : Entry) (end : SnoopEnd) : Type 0 where

@@ -1,17 +1,9 @@
 -- The state and the bytes of each line of a cache of which one set has something else.
-use Rattle.std.proofs.Common.{ℕ, ◌<◌, ◌≡◌, ◌≢◌, ◌%◌, ◌/◌, true, Option, Some, None, List, [], ◌∷◌, length, refl, sym}
-use Rattle.std.proofs.Common.{ap, ◌∙◌, ⊎_elim, arith, Bool, if◌then◌else◌}
-use Rattle.std.specs.Prelude.{◌==◌}
-use Rattle.std.specs.Option.{option_map}
-use Rattle.std.proofs.lemmas.Bool.{cases_eq, eq-eqb, ne_eqb}
-use Rattle.fsb_cache.specs.declared.held.Held.{Held}
-use Rattle.fsb_cache.specs.LineValues.{line_with_value}
-use Rattle.fsb_cache.specs.Sets.{CacheSets, bytes_of_held, copies, held_at, held_shared, held_stored, only_line}
-use Rattle.fsb_cache.specs.Sets.{sets_filled, sets_shared, sets_stored, sets_without, slot_of, state_of_held, states}
-use Rattle.fsb_cache.specs.Sets.{with_slot}
-use Rattle.fsb_line.specs.declared.state.Mesi.{Mesi}
-use Rattle.fsb_line.specs.declared.state.Mesi.TheVariants.{Modified}
-use Rattle.fsb_line.specs.States.{is_held, is_sole}
+use Rattle.fsb_bench_values.proofs.Words
+use Words.{ℕ, ◌<◌, ◌≡◌, ◌≢◌, ◌%◌, ◌/◌, true, Option, Some, None, List, [], ◌∷◌, length, refl, sym, ap, ◌∙◌, ⊎_elim}
+use Words.{arith, Bool, if◌then◌else◌, ◌==◌, option_map, cases_eq, eq-eqb, ne_eqb, Held, line_with_value, CacheSets}
+use Words.{bytes_of_held, copies, held_at, held_shared, held_stored, only_line, sets_filled, sets_shared, sets_stored}
+use Words.{sets_without, slot_of, state_of_held, states, with_slot, Mesi, Modified, is_held, is_sole}
 use Rattle.fsb_agent_view.proofs.Interface.{slot_of-other, slot_of-same}
 
 -- the line was held before, with these bytes, and alone where it is

@@ -1,40 +1,16 @@
 -- The bytes of a line through a clock of a bench: the hits leave those of a line that has a link, and the end leaves
 -- those of a line that has one behind the snoop end, unless its own oldest link ends there and owns.
-use Rattle.std.proofs.Common.{ℕ, suc, ◌+◌, ◌≡◌, Bool, true, false, not, ◌&&◌, ◌||◌, List, [], ◌∷◌, ◌++◌, Some, nat_eq}
-use Rattle.std.proofs.Common.{refl, sym, ap, subst, ◌∙◌, arith}
-use Rattle.std.specs.List.{filter, list_all, list_any, slice_get}
-use Rattle.std.proofs.lemmas.Bool.{and_from, and_parts}
-use Rattle.std.proofs.lemmas.List.Elements.{filter-append}
+use Rattle.fsb_bench_values.proofs.Words
+use Words.{ℕ, suc, ◌+◌, ◌≡◌, Bool, true, false, not, ◌&&◌, ◌||◌, List, [], ◌∷◌, ◌++◌, Some, nat_eq, refl, sym, ap}
+use Words.{subst, ◌∙◌, arith, filter, list_all, list_any, slice_get, and_from, and_parts, filter-append, accessed_line}
+use Words.{Done, ReplayState, replay, served_state, served_value, start_of, Step, Choice, Link, AgentView, hand_of}
+use Words.{is_hit_by, next_steps, performed_entries, AtHand, entries_at_hand, hand_after, hit-by, placed-at, IsViewOf}
+use Words.{does_end_on, changes_of, entries_on, chain_below, is_dirty_below, is_hit, bytes_now, line_bytes, Past}
+use Words.{past_of, is_done_at, is_load, is_hit-alike, past-goes_on, log-placed, step_fetched, step_run, BenchView}
+use Words.{next_clock_of, hit_entries, IsBenchOf, AreOfClock, agents-found, before-growth, first-entries, grows-to}
+use Words.{timely-now, longer}
 use Rattle.std.proofs.lemmas.List.Folds.{list_all-append}
-use Rattle.fsb_access.specs.Access.{accessed_line}
-use Rattle.fsb_access.specs.declared.log.Done.{Done}
-use Rattle.fsb_access.specs.Replay.{ReplayState, replay, served_state, served_value, start_of}
-use Rattle.fsb_access.specs.ScriptOrder.{Step}
-use Rattle.fsb_hazard.specs.declared.choice.Choice.{Choice}
-use Rattle.fsb_line.specs.declared.link.Link.{Link}
-use Rattle.fsb_agent_view.specs.AgentViews.{AgentView}
-use Rattle.fsb_agent_view.specs.Completing.{hand_of, is_hit_by, next_steps, performed_entries}
-use Rattle.fsb_agent_view.specs.Serving.{AtHand, entries_at_hand, hand_after}
-use Rattle.fsb_agent_run.proofs.Interface.{hit-by, placed-at}
-use Rattle.fsb_agent_run.specs.Stages.{IsViewOf}
-use Rattle.fsb_coherent.specs.Facts.{does_end_on}
-use Rattle.fsb_coherent.specs.LineEvents.{changes_of, entries_on}
-use Rattle.fsb_coherent.specs.Relation.{chain_below, is_dirty_below}
-use Rattle.fsb_timely.specs.Hits.{is_hit}
-use Rattle.fsb_timely.specs.Kept.{bytes_now, line_bytes}
-use Rattle.fsb_timely.specs.Past.{Past}
-use Rattle.fsb_timely.specs.Runs.{past_of}
-use Rattle.fsb_timely.specs.Scripts.{is_done_at, is_load}
-use Rattle.fsb_timely.proofs.Interface.{is_hit-alike, past-goes_on}
-use Rattle.fsb_tied.proofs.Interface.{log-placed}
 use Rattle.fsb_tied.proofs.LineBytes.{is_placed, replay-line, stores_into}
-use Rattle.fsb_bench_view.specs.BenchSteps.{step_fetched, step_run}
-use Rattle.fsb_bench_view.specs.BusViews.{BenchView, next_clock_of}
-use Rattle.fsb_bench_view.specs.ToldAgents.{hit_entries}
-use Rattle.fsb_bench_run.specs.BenchOf.{IsBenchOf}
-use Rattle.fsb_bench_run.proofs.Interface.{AreOfClock, agents-found, before-growth, first-entries, grows-to}
-use Rattle.fsb_bench_run.proofs.Interface.{timely-now}
-use Rattle.fsb_phase_run.proofs.Interface.{longer}
 use Rattle.fsb_bench_values.proofs.HitBytes.{bytes_hit}
 use Rattle.fsb_bench_values.proofs.LogsInOrder.{log-in-order}
 use Rattle.fsb_bench_values.proofs.QuietLines.{all-so, hits-load, others-load}
