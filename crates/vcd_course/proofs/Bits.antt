@@ -6,7 +6,7 @@ use Rattle.std.proofs.Math.Nat.{pow-succ'}
 use Rattle.std.proofs.Math.Pow.{pow_mono}
 use Rattle.std.proofs.Math.Seq.{take-add}
 use Rattle.std.proofs.lemmas.Nat.{shr_high}
-use Rattle.std.proofs.lemmas.List.{take-append-drop, length-take-le, length-drop}
+use Rattle.std.proofs.lemmas.List.{take-append-drop, length-take-le, length-drop, take-take}
 use Rattle.std.proofs.lemmas.Simd.{bitmask_splat, pick_l_left, pick_l_whole}
 use Rattle.std.proofs.lemmas.Bool.{true≢false, false≢true, ne_eqb}
 use lib.Lanes.{mask_l, pick_l, zip2, top}
@@ -40,19 +40,22 @@ bits_lt test (d ∷ ds) =
     rw (pow-succ' 2 (length ds), bits_behind test (2 * 0 + cond (test d) 1 0) ds)
     (bit_lt (test d) (2 ^ length ds) (bits_from test 0 ds) (bits_lt test ds))
 
--- the first of 64 digits
-pub bits_first : (test : ℕ → Bool) (width : ℕ) (row : List ℕ) → length row ≡ 64 → width ≤ 64
-    → bits_from test 0 row / 2 ^ (64 - width) ≡ bits_from test 0 (take width row)
-bits_first test width row long few =
-    let rest : length (drop width row) ≡ 64 - width = omega (arith, length-drop width row, long) in
-    let small = subst (λ n. bits_from test 0 (drop width row) < 2 ^ n) rest (bits_lt test (drop width row)) in
-    let whole : bits_from test 0 row
-    ≡ bits_from test 0 (take width row) * 2 ^ (64 - width) + bits_from test 0 (drop width row) =
-    ap (bits_from test 0) (sym (take-append-drop width row)) ∙ bits_append test 0 (take width row) (drop width row)
-    ∙ bits_behind test (bits_from test 0 (take width row)) (drop width row)
-    ∙ ap (λ n. bits_from test 0 (take width row) * 2 ^ n + bits_from test 0 (drop width row)) rest in
-    ap (λ n. n / 2 ^ (64 - width)) whole
-    ∙ shr_high (bits_from test 0 (take width row)) (64 - width) (bits_from test 0 (drop width row)) small
+-- the first of some digits that were read
+pub bits_first : (test : ℕ → Bool) (width n : ℕ) (row : List ℕ) → n ≤ length row → width ≤ n
+    → bits_from test 0 (take n row) / 2 ^ (n - width) ≡ bits_from test 0 (take width row)
+bits_first test width n row long few =
+    let some = take n row in
+    let all : length some ≡ n = length-take-le n row long in
+    let rest : length (drop width some) ≡ n - width = omega (arith, length-drop width some, all) in
+    let small = subst (λ k. bits_from test 0 (drop width some) < 2 ^ k) rest (bits_lt test (drop width some)) in
+    let whole : bits_from test 0 some
+    ≡ bits_from test 0 (take width some) * 2 ^ (n - width) + bits_from test 0 (drop width some) =
+    ap (bits_from test 0) (sym (take-append-drop width some)) ∙ bits_append test 0 (take width some) (drop width some)
+    ∙ bits_behind test (bits_from test 0 (take width some)) (drop width some)
+    ∙ ap (λ k. bits_from test 0 (take width some) * 2 ^ k + bits_from test 0 (drop width some)) rest in
+    ap (λ k. k / 2 ^ (n - width)) whole
+    ∙ shr_high (bits_from test 0 (take width some)) (n - width) (bits_from test 0 (drop width some)) small
+    ∙ ap (bits_from test 0) (take-take width n row few)
 
 -- ---- sixteen digits at a time: some were read, and the next come
 
@@ -140,5 +143,5 @@ unknown_bits ds =
     bits_either (λ b. b == 120) (λ b. b == 88)
     (λ x h. ne_eqb x 88 (λ e. false≢true (sym (ap (λ k. k == 120) e) ∙ h))) 0 0 ds
 
-pub unknown_fits : (ds : List ℕ) → length ds ≡ 64 → bits_from is_unknown 0 ds < 2 ^ 64
-unknown_fits ds long = subst (λ n. bits_from is_unknown 0 ds < 2 ^ n) long (bits_lt is_unknown ds)
+pub unknown_fits : (ds : List ℕ) → length ds ≤ 64 → bits_from is_unknown 0 ds < 2 ^ 64
+unknown_fits ds few = omega (arith, bits_lt is_unknown ds, pow_mono {i = length ds} {j = 64} few)

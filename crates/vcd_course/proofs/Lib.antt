@@ -4,5 +4,6 @@ mod TappedFacts
 mod SettleFacts
 mod RowFacts
 mod Marks
+mod Known
 mod Opening
 pub mod Interface

@@ -3,7 +3,7 @@ use Rattle.std.proofs.Common.{◌≡◌, ℕ, ◌+◌, ◌-◌, ◌<◌, ◌≤�
 use Rattle.std.proofs.Common.{ap, ◌∙◌, arith, length-append, append_assoc, refl, true, ◌==◌, subst, inl, inr}
 use Rattle.std.proofs.lemmas.Bool.{true≢false, and_parts}
 use Rattle.std.proofs.lemmas.Bool.Decides.{eqb_tells}
-use Rattle.std.proofs.lemmas.List.{take_more, take_more_set, drop_more, set_at, length-take, take-take, take-replicate, length-replicate}
+use Rattle.std.proofs.lemmas.List.{take_more, take_more_set, drop_more, set_at, length-take, take-take, length-replicate}
 use Rattle.std.proofs.lemmas.List.{drop-take, take_all, take-append-drop, append-nil}
 use Rattle.std.proofs.Math.Seq.{take-append-add}
 use Rattle.vcd_grammar.specs.Digits.{extended, pad_of}
@@ -72,26 +72,16 @@ none_written old run top =
     ∙ ap (λ x. x ++ drop top old) (sym (append-nil (take top old)))
     ∙ ap (λ k. take top old ++ take 0 run ++ drop k old) place
 
--- the row once all digits are written behind those that are put before them
-pub written_extended : (new digits : List ℕ) (width i : ℕ) → width ≤ 64 → length digits ≤ width
-    → length digits ≤ i → i ≤ length digits
-    → new ≡ take (width - length digits) (replicate 64 (pad_of (slice_index digits 0))) ++ take i digits
-    ++ drop (width - length digits + i) (replicate 64 (pad_of (slice_index digits 0)))
-    → take width new ≡ extended width digits
+-- the digits that are put before a value are the first of what it is extended to
+pub pad_first : (width : ℕ) (digits : List ℕ) (pad : ℕ) → pad ≡ pad_of (slice_index digits 0)
+    → replicate (width - length digits) pad ≡ take (width - length digits) (extended width digits)
 unfolding extended
-written_extended new digits width i most fits past within e =
-    let pad = pad_of (slice_index digits 0) in
-    let top = width - length digits in
-    let rest = drop (top + i) (replicate 64 pad) in
-    let first : take top (replicate 64 pad) ≡ replicate top pad = take-replicate top 64 pad (omega (arith, most)) in
-    let all : take i digits ≡ digits = take_all i digits past in
-    let n : length (replicate top pad ++ digits) ≡ width =
-    omega (arith, length-append (replicate top pad) digits, length-replicate top pad, fits) in
-    let split : width ≡ length (replicate top pad ++ digits) + 0 = omega (arith, n) in
-    ap (take width) (e ∙ (λ j. first j ++ all j ++ rest))
-    ∙ ap (λ k. take k (replicate top pad ++ digits ++ rest)) split
-    ∙ take-append-add (replicate top pad ++ digits) rest 0
-    ∙ append-nil (replicate top pad ++ digits)
+pad_first width digits pad h =
+    let n = width - length digits in
+    let first = replicate n (pad_of (slice_index digits 0)) in
+    let long : n ≡ length first + 0 = omega (arith, length-replicate n (pad_of (slice_index digits 0))) in
+    ap (replicate n) h ∙ sym (append-nil first)
+    ∙ sym (ap (λ k. take k (first ++ digits)) long ∙ take-append-add first digits 0)
 
 -- ---- a line of one bit
 

@@ -160,6 +160,7 @@ impl Course {
     }
 
     /// The same, by the rules of the course.
+    #[inline(always)]
     fn ended(&self) -> Option<CourseEvent>
         ensures told { event_list result ≡ sample_by self.now.rules.edge
             self.now.rules.takes_first self.now.late.items (open_told self.now) }
@@ -190,6 +191,7 @@ impl Course {
     }
 
     /// The sample of these digits before the block.
+    #[inline(always)]
     fn sample(&self, before: &Rows) -> Option<CourseEvent>
         ensures told { event_list result ≡ Sampled (sample_of
             (sampled self.now.late.items (rows_told before.now) (rows_told self.now.block.inside)))

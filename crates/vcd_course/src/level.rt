@@ -1,6 +1,6 @@
 //! What the digits of a line say, sixteen of them at a time.
 
-ghost use Rattle.std.specs.Prelude.{◌≡◌, ◌≤◌, ◌<◌, ◌+◌, ◌==◌, [], ◌∷◌, length, take, drop, if◌then◌else◌};
+ghost use Rattle.std.specs.Prelude.{◌≡◌, ◌≤◌, ◌+◌, ◌==◌, [], ◌∷◌, length, take, drop, if◌then◌else◌};
 ghost use Rattle.vcd_grammar.specs.Digits.{is_unknown};
 ghost use Rattle.vcd_grammar.specs.Levels.{level_of, bits_from};
 
@@ -19,41 +19,47 @@ fn equal_at(row: &[u8], at: usize, byte: u8) -> u64
     v.simd_eq(u8x16::splat(byte)).to_bitmask()
 }
 
-/// A row as a number, with a bit for each digit that is this one.
+/// The sixteen bytes from a place on as a number, with a bit for each that is unknown.
 #[inline(always)]
-fn equal_in(row: &[u8], byte: u8) -> u64
-    requires { length row.now ≡ 64 }
-    ensures { result ≡ bits_from (λ b. b == byte) 0 row.now }
+fn unknown_at(row: &[u8], at: usize) -> u64
+    requires { at + 16 ≤ length row.now }
+    ensures { result ≡ bits_from is_unknown 0 (take 16 (drop at row.now)) }
 {
-    let mut bits: u64 = 0;
-    for block in 0..4 {
-        let next = equal_at(row, 16 * block, byte);
-        bits = bits * 65536 + next;
-    }
-    bits
+    let small = equal_at(row, at, b'x');
+    let large = equal_at(row, at, b'X');
+    small + large
 }
 
-/// A row as a number, with a bit for each digit that is unknown.
+/// What as many first ones of 64 digits say. Only the blocks of sixteen are read that they reach into.
 #[inline(always)]
-fn unknown_in(row: &[u8]) -> u64
-    requires { length row.now ≡ 64 }
-    ensures { result ≡ bits_from is_unknown 0 row.now }
+fn level_of_first(row: &[u8], width: usize) -> Level
+    requires long { length row.now ≡ 64 }
+    requires most { width ≤ 64 }
+    ensures { result ≡ level_of (take width row.now) }
 {
-    let small = equal_in(row, b'x');
-    let large = equal_in(row, b'X');
-    small + large
+    let mut asserted: u64 = 0;
+    let mut unknown: u64 = 0;
+    let mut block: usize = 0;
+    while 16 * block < width {
+        let low = equal_at(row, 16 * block, b'0');
+        let open = unknown_at(row, 16 * block);
+        asserted = asserted * 65536 + low;
+        unknown = unknown * 65536 + open;
+        block += 1;
+    }
+    let behind = 16 * block - width;
+    Level {
+        asserted: asserted >> behind,
+        unknown: unknown >> behind,
+    }
 }
 
 /// What as many first digits of a row say: 0 is asserted, x unknown.
 pub(crate) fn level_of_row(row: &[u8; 64], width: usize) -> Level
-    requires some { 0 < width }
-    requires most { width ≤ 64 }
+    requires { width ≤ 64 }
     ensures { result ≡ level_of (take width row.now) }
 {
-    let digits = row.as_slice();
-    let asserted = equal_in(digits, b'0') >> (64 - width);
-    let unknown = unknown_in(digits) >> (64 - width);
-    Level { asserted, unknown }
+    level_of_first(row.as_slice(), width)
 }
 
 /// The bit, where the test holds, and none where it does not.

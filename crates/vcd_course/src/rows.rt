@@ -107,9 +107,7 @@ impl Rows {
     {
         let line = tap.line as usize;
         let width = width_at(tap.line);
-        let row = tapped(self.rows[line], width, tap, digits);
-        self.levels[line] = level_of_row(&row, width);
-        self.rows[line] = row;
+        self.levels[line] = tapped(&mut self.rows[line], width, tap, digits);
     }
 
     /// The digit of the clock.
@@ -182,6 +180,7 @@ impl Rows {
     }
 
     /// The sample between these and those after them: of the late lines, those after.
+    #[inline(always)]
     pub(crate) fn sample(&self, late: &[u8], after: &Rows) -> Sample
         ensures { result
             ≡ sample_of (sampled late.now (rows_told self.now) (rows_told after.now)) }

@@ -1,6 +1,6 @@
 //! The sample of what the lines have.
 
-ghost use Rattle.std.specs.Prelude.{◌≡◌, ◌<◌, ℕ};
+ghost use Rattle.std.specs.Prelude.{◌≡◌, ◌<◌, ℕ, true};
 ghost use Rattle.vcd_grammar.specs.Levels.{control_of, asserted_at, unknown_at};
 ghost use Rattle.vcd_grammar.specs.Values.{sample_at, word_of};
 
@@ -22,6 +22,7 @@ fn unknown_at(levels: &[Level; 22], number: usize) -> u64
 }
 
 /// The control lines as one number, from what each signal has.
+#[inline(always)]
 fn control_of<F: Fn(usize) -> u64>(bits: F) -> u32
     requires { (n : ℕ) → n < 22 → F.pre bits n }
     ensures { (f : ℕ → ℕ) → ((n b : ℕ) → n < 22 → F.post bits n b → b ≡ f n) →
@@ -48,20 +49,61 @@ fn control_of<F: Fn(usize) -> u64>(bits: F) -> u32
 }
 
 /// The control lines that are asserted.
+#[inline(always)]
 fn asserted_lines(levels: &[Level; 22]) -> u32
     ensures { result ≡ control_of (asserted_at levels.now) }
 {
     control_of(|number| asserted_at(levels, number))
 }
 
-/// The control lines that are unknown.
-fn unknown_lines(levels: &[Level; 22]) -> u32
+/// Whether no control line is unknown; where one is, the answer is false.
+#[inline(always)]
+fn are_lines_known(levels: &[Level; 22]) -> bool
+    ensures { result ≡ true → control_of (unknown_at levels.now) ≡ 0 }
+{
+    let requests = unknown_at(levels, 1)
+        | unknown_at(levels, 2)
+        | unknown_at(levels, 3)
+        | unknown_at(levels, 4)
+        | unknown_at(levels, 5)
+        | unknown_at(levels, 6)
+        | unknown_at(levels, 7)
+        | unknown_at(levels, 8);
+    let rest = unknown_at(levels, 11)
+        | unknown_at(levels, 12)
+        | unknown_at(levels, 13)
+        | unknown_at(levels, 14)
+        | unknown_at(levels, 15)
+        | unknown_at(levels, 16)
+        | unknown_at(levels, 17)
+        | unknown_at(levels, 18);
+    let parity = unknown_at(levels, 20) | unknown_at(levels, 21);
+    requests | rest | parity == 0
+}
+
+/// The control lines that are unknown, line by line.
+#[cold]
+#[inline(never)]
+fn each_unknown_line(levels: &[Level; 22]) -> u32
     ensures { result ≡ control_of (unknown_at levels.now) }
 {
     control_of(|number| unknown_at(levels, number))
 }
 
+/// The control lines that are unknown: mostly none is.
+#[inline(always)]
+fn unknown_lines(levels: &[Level; 22]) -> u32
+    ensures { result ≡ control_of (unknown_at levels.now) }
+{
+    if are_lines_known(levels) {
+        0
+    } else {
+        each_unknown_line(levels)
+    }
+}
+
 /// A word of the bus, from what is asserted and what is unknown.
+#[inline(always)]
 fn word_of(asserted: u64, unknown: u64) -> Word
     ensures { result ≡ word_of asserted unknown }
 {
@@ -72,6 +114,7 @@ fn word_of(asserted: u64, unknown: u64) -> Word
 }
 
 /// The sample of what the signals have.
+#[inline(always)]
 pub(crate) fn sample_at(levels: &[Level; 22]) -> Sample
     ensures { result ≡ sample_at levels.now }
 {

@@ -2,78 +2,95 @@
 
 ghost use Rattle.std.specs.Prelude.{◌≡◌, ◌≤◌, ◌+◌, length, take, replicate, true};
 ghost use Rattle.vcd_grammar.specs.Digits.{extended};
+ghost use Rattle.vcd_grammar.specs.Levels.{level_of};
 ghost use Rattle.vcd_way.specs.declared.tap.Part.TheVariants as parts;
 ghost use Rattle.vcd_way.specs.Events.{inverted_if, with_part};
 ghost use Rattle.vcd_way.specs.Lawful.{is_part_within};
 
 use crate::digits::{pad_before, run_digit, tap_digit};
+use crate::level::level_of_row;
+use vcd_grammar::Level;
 use vcd_way::{BitRun, Part, Tap};
 
-/// The digits of a line of this width after the tap got a value.
-pub(crate) fn tapped(row: [u8; 64], width: usize, tap: &Tap, digits: &[u8]) -> [u8; 64]
+/// The row of a line of this width, where the tap gets a value. Tells what it says then.
+#[inline(always)]
+pub(crate) fn tapped(row: &mut [u8; 64], width: usize, tap: &Tap, digits: &[u8]) -> Level
     requires width { width ≤ 64 }
     requires part { is_part_within tap.now.part tap.now.width width ≡ true }
     requires fits { length digits.now ≤ tap.now.width }
-    ensures { take width result ≡ with_part tap.now.part
-        (inverted_if tap.now.inverted (extended tap.now.width digits.now)) (take width row) }
+    ensures row { take width row.new ≡ with_part tap.now.part
+        (inverted_if tap.now.inverted (extended tap.now.width digits.now)) (take width row.old) }
+    ensures level { result ≡ level_of (take width row.new) }
+{
+    put_tap(row, width, tap, digits);
+    level_of_row(row, width)
+}
+
+/// The digits of a line of this width after the tap got a value.
+#[inline(always)]
+fn put_tap(row: &mut [u8; 64], width: usize, tap: &Tap, digits: &[u8])
+    requires width { width ≤ 64 }
+    requires part { is_part_within tap.now.part tap.now.width width ≡ true }
+    requires fits { length digits.now ≤ tap.now.width }
+    ensures { take width row.new ≡ with_part tap.now.part
+        (inverted_if tap.now.inverted (extended tap.now.width digits.now)) (take width row.old) }
 {
     match tap.part {
-        Part::Whole => whole_row(width, tap, digits),
-        Part::Bits(run) => run_row(row, width, tap, &run, digits),
+        Part::Whole => put_whole(row, width, tap, digits),
+        Part::Bits(run) => *row = run_row(*row, width, tap, &run, digits),
     }
 }
 
 /// The digits of a line that the tap is.
-fn whole_row(width: usize, tap: &Tap, digits: &[u8]) -> [u8; 64]
+#[inline(always)]
+fn put_whole(row: &mut [u8; 64], width: usize, tap: &Tap, digits: &[u8])
     requires width { width ≤ 64 }
     requires whole { tap.now.width ≡ width }
     requires fits { length digits.now ≤ tap.now.width }
-    ensures { take width result ≡ inverted_if tap.now.inverted (extended tap.now.width digits.now) }
+    ensures { take width row.new ≡ inverted_if tap.now.inverted (extended tap.now.width digits.now) }
 {
     if tap.inverted {
-        inverted_row(width, tap, digits)
+        put_inverted(row, width, tap, digits);
     } else {
-        extended_row(width, digits)
+        put_extended(row, width, digits);
     }
 }
 
-/// A row of one digit. The digit 0, which is mostly wanted, costs no call.
-fn filled(digit: u8) -> [u8; 64]
-    ensures { result ≡ replicate 64 digit }
+/// So many first digits of a row become this one.
+#[inline(always)]
+fn fill_first(row: &mut [u8; 64], count: usize, digit: u8)
+    requires { count ≤ 64 }
+    ensures { take count row.new ≡ replicate count digit }
 {
-    if digit == b'0' {
-        [b'0'; 64]
-    } else {
-        [digit; 64]
+    for i in 0..count {
+        row[i] = digit;
     }
 }
 
 /// Digits that are extended to this width.
-fn extended_row(width: usize, digits: &[u8]) -> [u8; 64]
+#[inline(always)]
+fn put_extended(row: &mut [u8; 64], width: usize, digits: &[u8])
     requires width { width ≤ 64 }
     requires fits { length digits.now ≤ width }
-    ensures { take width result ≡ extended width digits.now }
+    ensures { take width row.new ≡ extended width digits.now }
 {
-    let mut row = filled(pad_before(digits));
     let missing = width - digits.len();
+    fill_first(row, missing, pad_before(digits));
     for i in 0..digits.len() {
         row[missing + i] = digits[i];
     }
-    row
 }
 
 /// The digits of a line that the tap is, each inverted where the tap is.
-fn inverted_row(width: usize, tap: &Tap, digits: &[u8]) -> [u8; 64]
+fn put_inverted(row: &mut [u8; 64], width: usize, tap: &Tap, digits: &[u8])
     requires width { width ≤ 64 }
     requires whole { tap.now.width ≡ width }
     requires fits { length digits.now ≤ tap.now.width }
-    ensures { take width result ≡ inverted_if tap.now.inverted (extended tap.now.width digits.now) }
+    ensures { take width row.new ≡ inverted_if tap.now.inverted (extended tap.now.width digits.now) }
 {
-    let mut row = [b'0'; 64];
     for i in 0..width {
         row[i] = tap_digit(tap, digits, i);
     }
-    row
 }
 
 /// The digits of a line of which the tap has a run of bits.

@@ -14,25 +14,25 @@ returns-clause-told c =
     let old = c.args.self.now in
     let xs = inverted_if tap.inverted (extended tap.width c.args.digits.now) in
     let old_row = get_or old.rows tap.line [] in
-    let row : take (width_in table tap.line) c.tapped-row.result
+    let row : take (width_in table tap.line) c.tapped.new.row
     ≡ with_part tap.part xs (take (width_in table tap.line) old_row) =
-    subst (λ n. take n c.tapped-row.result ≡ with_part tap.part xs (take n old_row)) c.width_at-width.ensures.width
-    c.tapped-row.ensures in
-    set_values table old.rows tap.line c.tapped-row.result old.long
+    subst (λ n. take n c.tapped.new.row ≡ with_part tap.part xs (take n old_row)) c.width_at-width.ensures.width
+    c.tapped.ensures.row in
+    set_values table old.rows tap.line c.tapped.new.row old.long
     ∙ ap (set (rows_told old) tap.line)
     (row ∙ ap (with_part tap.part xs) (sym (values_at table old.rows tap.line old.long)))
 
 pub returns-clause-rest : goal.returns-clause-rest
 returns-clause-rest c line other =
-    get_or-set_other c.args.self.now.rows c.args.tap.now.line line c.tapped-row.result [] other
+    get_or-set_other c.args.self.now.rows c.args.tap.now.line line c.tapped.new.row [] other
 
 pub invariant_of-self : goal.invariant_of-self
 invariant_of-self c =
     let i = c.args.tap.now.line in
     let old = c.args.self.now in
-    let row = c.tapped-row.result in
+    let row = c.tapped.new.row in
     record {
       long = length-set old.rows i row ∙ old.long;
-      says = set_says old.rows old.levels i row c.level_of_row.result old.long old.says
-          (c.level_of_row.ensures ∙ ap (λ n. level_of (take n row)) c.width_at-width.ensures.width);
+      says = set_says old.rows old.levels i row c.tapped.result old.long old.says
+          (c.tapped.ensures.level ∙ ap (λ n. level_of (take n row)) c.width_at-width.ensures.width);
     }

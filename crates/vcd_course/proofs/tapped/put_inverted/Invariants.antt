@@ -2,7 +2,7 @@
 use Rattle.std.proofs.Common.{◌≡◌, length, take}
 use Rattle.vcd_grammar.specs.Digits.{extended}
 use Rattle.vcd_way.specs.Events.{inverted_if}
-use Rattle.vcd_course.proofs.tapped.inverted_row.Given as goal
+use Rattle.vcd_course.proofs.tapped.put_inverted.Given as goal
 
 abbrev pub invariant-loop-i : goal.invariant-loop-i
 invariant-loop-i l = record {

@@ -4,7 +4,7 @@ use Rattle.vcd_grammar.specs.Digits.{extended}
 use Rattle.vcd_way.specs.Events.{inverted_if}
 use Rattle.vcd_course.proofs.DigitFacts.{length_extended, length_inverted}
 use Rattle.vcd_course.proofs.TappedFacts.{write_first}
-use Rattle.vcd_course.proofs.tapped.inverted_row.Goals as goal
+use Rattle.vcd_course.proofs.tapped.put_inverted.Goals as goal
 
 pub loop-i-preserved : goal.loop-i-preserved
 loop-i-preserved c =
