@@ -1,3 +1,4 @@
 pub mod Firsts
 pub mod Indices
 pub mod Within
+pub mod OneWord

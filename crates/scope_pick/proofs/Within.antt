@@ -7,6 +7,31 @@ use Rattle.scope_pick.specs.declared.wires.Named.{Named}
 use Rattle.scope_pick.specs.Groups.{in_scope, group_at, AreGroups}
 use Rattle.scope_pick.specs.Scopes.{lines, is_for, exact_in, like_in, first_in, is_rival, is_ambiguous, found_in, is_settled, is_whole, is_head, qualifies, qualified}
 
+-- the test passes only where the other one does
+abbrev pub PassesWith : {X : Type 0} → (X → Bool) → (X → Bool) → Type 0
+PassesWith {X} p g = (x : X) → g x ≡ false → p x ≡ false
+
+-- a search for what passes the other test too
+pub find-filtered : {X : Type 0} (p g : X → Bool) → PassesWith p g → (xs : List X)
+    → find p (filter g xs) ≡ find p xs
+find-filtered p g h [] = refl
+find-filtered p g h (x ∷ xs) = at (find-filtered p g h xs) (g x) refl
+  where
+    at : find p (filter g xs) ≡ find p xs → (b : Bool) → g x ≡ b → find p (filter g (x ∷ xs)) ≡ find p (x ∷ xs)
+    at more true same = rw same (ap (cond (p x) (Some x)) more)
+    at more false other = rw other (rw (h x other) more)
+
+-- whether one is there
+pub any-filtered : {X : Type 0} (p g : X → Bool) → PassesWith p g → (xs : List X)
+    → list_any p (filter g xs) ≡ list_any p xs
+any-filtered p g h [] = refl
+any-filtered p g h (x ∷ xs) = at (any-filtered p g h xs) (g x) refl
+  where
+    at : list_any p (filter g xs) ≡ list_any p xs → (b : Bool) → g x ≡ b
+        → list_any p (filter g (x ∷ xs)) ≡ list_any p (x ∷ xs)
+    at more true same = rw same (ap (λ o. p x || o) more)
+    at more false other = rw other (rw (h x other) more)
+
 -- the test passes only within the scope
 abbrev pub PassesWithin : (Named → Bool) → ℕ → Type 0
 PassesWithin p scope = (e : Named) → nat_eq e.scope scope ≡ false → p e ≡ false
@@ -14,32 +39,20 @@ PassesWithin p scope = (e : Named) → nat_eq e.scope scope ≡ false → p e �
 -- a search for what stands in the scope
 pub find-within : (p : Named → Bool) (scope : ℕ) → PassesWithin p scope → (ns : List Named)
     → find p (in_scope scope ns) ≡ find p ns
-find-within p scope h [] = refl
-find-within p scope h (e ∷ ns) = at (find-within p scope h ns) (nat_eq e.scope scope) refl
-  where
-    at : find p (in_scope scope ns) ≡ find p ns → (b : Bool) → nat_eq e.scope scope ≡ b
-        → find p (in_scope scope (e ∷ ns)) ≡ find p (e ∷ ns)
-    at more true same = rw same (ap (cond (p e) (Some e)) more)
-    at more false other = rw other (rw (h e other) more)
+find-within p scope h ns = find-filtered p (λ (e : Named). nat_eq e.scope scope) h ns
 
 -- whether one stands there
 pub any-within : (p : Named → Bool) (scope : ℕ) → PassesWithin p scope → (ns : List Named)
     → list_any p (in_scope scope ns) ≡ list_any p ns
-any-within p scope h [] = refl
-any-within p scope h (e ∷ ns) = at (any-within p scope h ns) (nat_eq e.scope scope) refl
-  where
-    at : list_any p (in_scope scope ns) ≡ list_any p ns → (b : Bool) → nat_eq e.scope scope ≡ b
-        → list_any p (in_scope scope (e ∷ ns)) ≡ list_any p (e ∷ ns)
-    at more true same = rw same (ap (λ o. p e || o) more)
-    at more false other = rw other (rw (h e other) more)
+any-within p scope h ns = any-filtered p (λ (e : Named). nat_eq e.scope scope) h ns
 
 -- what a search finds passes
-pub find-passes : (p : Named → Bool) (ns : List Named) (e : Named) → find p ns ≡ Some e → p e ≡ true
-find-passes p [] e is = search rules
-find-passes p (f ∷ ns) e is = at (find-passes p ns e) (p f) refl is
+pub find-passes : {X : Type 0} (p : X → Bool) (xs : List X) (x : X) → find p xs ≡ Some x → p x ≡ true
+find-passes p [] x is = search rules
+find-passes p (y ∷ ys) x is = at (find-passes p ys x) (p y) refl is
   where
-    at : (find p ns ≡ Some e → p e ≡ true) → (b : Bool) → p f ≡ b → cond b (Some f) (find p ns) ≡ Some e
-        → p e ≡ true
+    at : (find p ys ≡ Some x → p x ≡ true) → (b : Bool) → p y ≡ b → cond b (Some y) (find p ys) ≡ Some x
+        → p x ≡ true
     at more true passes same = grind (arith, same, passes)
     at more false fails same = more same
 

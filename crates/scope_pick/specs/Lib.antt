@@ -3,6 +3,7 @@ pub mod Places
 pub mod Headers
 pub mod Numbering
 pub mod Splits
+pub mod Words
 pub mod Wires
 pub mod Groups
 pub mod Scopes

@@ -8,7 +8,7 @@
 //! of headers makes the declarations. What a user names, and the one call over it all, is in scope_wiring.
 #![tactic(auto)]
 
-pub use groups::{group_at, groups_of};
+pub use groups::{Names, group_at, groups_of};
 pub use header::Header;
 pub use index::{after_last, before_last, index_in, index_of, indexed};
 pub use names::{is_exact_name, line_named, without_escape};
@@ -21,10 +21,13 @@ pub use scopes::{
     ScopeFault, buses, first_in, found_in, fullest, is_ambiguous, is_head, is_listed,
     is_scope_needed, is_settled, is_whole, picked, qualified,
 };
-pub use split::{Bit, BitName, base_of, bit_at, bit_in, bit_name, bits, is_first_bit, is_joined};
+pub use split::{
+    Bit, BitName, base_of, bit_at, bit_in, bit_name, bits, has_bits_from, is_first_bit, is_joined,
+};
 pub use told::{ambiguous_lines, other_names, unfound_lines};
 pub use variable::{Range, Variable, Written};
 pub use wires::{Named, named_lines, unfit_lines};
+pub use words::Words;
 
 mod groups;
 mod header;
@@ -37,3 +40,4 @@ mod split;
 mod told;
 mod variable;
 mod wires;
+mod words;

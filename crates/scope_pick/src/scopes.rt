@@ -4,7 +4,7 @@ ghost use Rattle.scope_pick.specs.Scopes.{lines, is_for, exact_in, like_in, firs
 ghost use Rattle.scope_pick.specs.Groups.{group_at};
 ghost use Rattle.scope_pick.specs.ScopeFaults.{IsPicked, IsScopeFault};
 
-use crate::groups::{group_at, groups_of};
+use crate::groups::{Names, group_at, groups_of};
 use crate::place::{is_line_needed, is_multi_bit};
 use crate::wires::Named;
 use std::alloc::{AllocError, Global};
@@ -42,9 +42,10 @@ pub fn picked(alloc: Global, names: &[Named], settled: &[u8]) -> Result<Option<N
     if scopes.is_empty() {
         return Err(ScopeFault::Missing);
     }
-    match fullest(names, settled, &scopes) {
-        Some(scope) => Ok(Some(scope)),
-        None => match buses(alloc, names, settled, &scopes) {
+    match fullest(alloc, names, settled, &scopes) {
+        Err(error) => Err(ScopeFault::Memory(error)),
+        Ok(Some(scope)) => Ok(Some(scope)),
+        Ok(None) => match buses(alloc, names, settled, &scopes) {
             Ok(apart) => Err(ScopeFault::Several(apart)),
             Err(error) => Err(ScopeFault::Memory(error)),
         },
@@ -90,6 +91,19 @@ pub fn buses(
     ensures { IfOk result (λ v.
         v.items ≡ filter (stands_alone names.now settled.now scopes.now) scopes.now) }
 {
+    let names = Names::new(alloc, names)?;
+    buses_among(alloc, &names, settled, scopes)
+}
+
+fn buses_among(
+    alloc: Global,
+    names: &Names<'_>,
+    settled: &[u8],
+    scopes: &[Named],
+) -> Result<Vec<Named>, AllocError>
+    ensures { IfOk result (λ v.
+        v.items ≡ filter (stands_alone names.now settled.now scopes.now) scopes.now) }
+{
     scopes
         .iter()
         .copied()
@@ -98,13 +112,13 @@ pub fn buses(
 }
 
 #[tactic(auto, unfolding(crate::specs::Scopes::stands_alone))]
-fn stands_alone(names: &[Named], settled: &[u8], others: &[Named], scope: Named) -> bool
+fn stands_alone(names: &Names<'_>, settled: &[u8], others: &[Named], scope: Named) -> bool
     ensures { result ≡ stands_alone names.now settled.now others.now scope }
 {
     !lies_in_any(names, settled, others, scope)
 }
 
-fn lies_in_any(names: &[Named], settled: &[u8], others: &[Named], scope: Named) -> bool
+fn lies_in_any(names: &Names<'_>, settled: &[u8], others: &[Named], scope: Named) -> bool
     ensures { result ≡ list_any (lies_in names.now settled.now scope) others.now }
 {
     others
@@ -113,7 +127,7 @@ fn lies_in_any(names: &[Named], settled: &[u8], others: &[Named], scope: Named) 
 }
 
 #[tactic(auto, unfolding(crate::specs::Scopes::lies_in))]
-fn lies_in(names: &[Named], settled: &[u8], scope: Named, other: Named) -> bool
+fn lies_in(names: &Names<'_>, settled: &[u8], scope: Named, other: Named) -> bool
     ensures { result ≡ lies_in names.now settled.now scope other }
 {
     is_same_bus(names, settled, other.scope, scope.scope)
@@ -285,7 +299,7 @@ fn are_settled(names: &[Named], settled: &[u8], scope: usize, lines: &[u8]) -> b
 }
 
 #[tactic(auto, unfolding(crate::specs::Scopes::is_same_bus))]
-fn is_same_bus(names: &[Named], settled: &[u8], scope: usize, other: usize) -> bool
+fn is_same_bus(names: &Names<'_>, settled: &[u8], scope: usize, other: usize) -> bool
     ensures { result ≡ is_same_bus names.now settled.now scope other }
 {
     has_lines_of(names, settled, scope, other, &LINES)
@@ -293,28 +307,34 @@ fn is_same_bus(names: &[Named], settled: &[u8], scope: usize, other: usize) -> b
             || shares_no_word(names, settled, scope, other, &LINES))
 }
 
-fn has_lines_of(names: &[Named], settled: &[u8], scope: usize, other: usize, lines: &[u8]) -> bool
+fn has_lines_of(names: &Names<'_>, settled: &[u8], scope: usize, other: usize, lines: &[u8]) -> bool
     ensures { result ≡ list_all (λ n. is_listed settled.now n
         || has_same (found_in names.now scope n) (found_in names.now other n)) lines.now }
 {
     lines.iter().all(|line| is_listed(settled, *line)
-        || has_same(found_in(names, scope, *line), found_in(names, other, *line)))
+        || has_same(names.found_in(scope, *line), names.found_in(other, *line)))
 }
 
-fn shares_words(names: &[Named], settled: &[u8], scope: usize, other: usize, lines: &[u8]) -> bool
+fn shares_words(names: &Names<'_>, settled: &[u8], scope: usize, other: usize, lines: &[u8]) -> bool
     ensures { result ≡ list_all (λ n. is_listed settled.now n
         || may_be_one_word (found_in names.now scope n) (found_in names.now other n)) lines.now }
 {
     lines.iter().all(|line| is_listed(settled, *line)
-        || may_be_one_word(found_in(names, scope, *line), found_in(names, other, *line)))
+        || may_be_one_word(names.found_in(scope, *line), names.found_in(other, *line)))
 }
 
-fn shares_no_word(names: &[Named], settled: &[u8], scope: usize, other: usize, lines: &[u8]) -> bool
+fn shares_no_word(
+    names: &Names<'_>,
+    settled: &[u8],
+    scope: usize,
+    other: usize,
+    lines: &[u8],
+) -> bool
     ensures { result ≡ list_all (λ n. is_listed settled.now n
         || may_be_two_words (found_in names.now scope n) (found_in names.now other n)) lines.now }
 {
     lines.iter().all(|line| is_listed(settled, *line)
-        || may_be_two_words(found_in(names, scope, *line), found_in(names, other, *line)))
+        || may_be_two_words(names.found_in(scope, *line), names.found_in(other, *line)))
 }
 
 #[tactic(auto, unfolding(crate::specs::Scopes::has_same))]
@@ -357,14 +377,27 @@ fn may_be_two_words(ours: Option<Named>, theirs: Option<Named>) -> bool
 }
 
 #[tactic(auto, unfolding(crate::specs::Scopes::is_fullest))]
-fn is_fullest(names: &[Named], settled: &[u8], others: &[Named], scope: Named) -> bool
+fn is_fullest(names: &Names<'_>, settled: &[u8], others: &[Named], scope: Named) -> bool
     ensures { result ≡ is_fullest names.now settled.now others.now scope }
 {
     others.iter().all(|other| is_same_bus(names, settled, scope.scope, other.scope))
 }
 
 /// Of these scopes the first that has the lines of all of them.
-pub fn fullest(names: &[Named], settled: &[u8], scopes: &[Named]) -> Option<Named>
+pub fn fullest(
+    alloc: Global,
+    names: &[Named],
+    settled: &[u8],
+    scopes: &[Named],
+) -> Result<Option<Named>, AllocError>
+    ensures { IfOk result (λ e.
+        e ≡ find (is_fullest names.now settled.now scopes.now) scopes.now) }
+{
+    let names = Names::new(alloc, names)?;
+    Ok(fullest_among(&names, settled, scopes))
+}
+
+fn fullest_among(names: &Names<'_>, settled: &[u8], scopes: &[Named]) -> Option<Named>
     ensures { result ≡ find (is_fullest names.now settled.now scopes.now) scopes.now }
 {
     scopes

@@ -194,8 +194,9 @@ fn has_bit(bits: &[Bit], bit: Bit, number: u32) -> bool
     }
 }
 
+/// Whether the word has all its bits, numbered from this number on.
 #[tactic(auto, unfolding(crate::specs::Splits::has_bits_from))]
-fn has_bits_from(bits: &[Bit], bit: Bit, base: u32) -> bool
+pub fn has_bits_from(bits: &[Bit], bit: Bit, base: u32) -> bool
     requires line { bit.line < 22 }
     requires small { base ≤ 3 }
     ensures { result ≡ has_bits_from bits.now bit base }

@@ -7,8 +7,9 @@ use crate::header::Header;
 use crate::names::{is_exact_name, line_named};
 use crate::numbering::is_wire_kind;
 use crate::place::place_of;
-use crate::split::{Bit, bit_at, bits, is_first_bit, is_joined};
+use crate::split::{Bit, bit_at, bits};
 use crate::variable::Variable;
+use crate::words::Words;
 use std::alloc::{AllocError, Global};
 
 /// A variable, or a word declared bit by bit, that is named like a line of the bus.
@@ -35,18 +36,23 @@ pub fn unfit_lines(alloc: Global, variables: &[Variable]) -> Result<Vec<Named>, 
 {
     let header = Header::new(alloc, variables)?;
     let bits = bits(alloc, &header)?;
-    unfit_among(alloc, &header, &bits)
+    let words = Words::new(alloc, &bits)?;
+    unfit_among(alloc, &header, &words)
 }
 
-fn unfit_among(alloc: Global, header: &Header<'_>, bits: &[Bit]) -> Result<Vec<Named>, AllocError>
+fn unfit_among(
+    alloc: Global,
+    header: &Header<'_>,
+    words: &Words<'_>,
+) -> Result<Vec<Named>, AllocError>
     ensures { IfOk result (λ v. v.items
-        ≡ filter_map (λ p. unfit_at header.now bits.now p.0 p.1) (enumerate_from 0 header.now)) }
+        ≡ filter_map (λ p. unfit_at header.now words.now p.0 p.1) (enumerate_from 0 header.now)) }
 {
     header
         .variables()
         .iter()
         .enumerate()
-        .filter_map(|(index, variable)| unfit_at(header, bits, index, variable))
+        .filter_map(|(index, variable)| unfit_at(header, words, index, variable))
         .collect(alloc)
 }
 
@@ -57,28 +63,38 @@ pub fn named_lines(alloc: Global, variables: &[Variable]) -> Result<Vec<Named>, 
 {
     let header = Header::new(alloc, variables)?;
     let bits = bits(alloc, &header)?;
-    named_among(alloc, &header, &bits)
+    let words = Words::new(alloc, &bits)?;
+    named_among(alloc, &header, &words)
 }
 
-fn named_among(alloc: Global, header: &Header<'_>, bits: &[Bit]) -> Result<Vec<Named>, AllocError>
+fn named_among(
+    alloc: Global,
+    header: &Header<'_>,
+    words: &Words<'_>,
+) -> Result<Vec<Named>, AllocError>
     ensures { IfOk result (λ v. v.items
-        ≡ filter_map (λ p. named_at header.now bits.now p.0 p.1) (enumerate_from 0 header.now)) }
+        ≡ filter_map (λ p. named_at header.now words.now p.0 p.1) (enumerate_from 0 header.now)) }
 {
     header
         .variables()
         .iter()
         .enumerate()
-        .filter_map(|(index, variable)| named_at(header, bits, index, variable))
+        .filter_map(|(index, variable)| named_at(header, words, index, variable))
         .collect(alloc)
 }
 
 #[tactic(auto, unfolding(crate::specs::Wires::named_at))]
-fn named_at(header: &Header<'_>, bits: &[Bit], index: usize, variable: &Variable) -> Option<Named>
-    ensures { result ≡ named_at header.now bits.now index variable.now }
+fn named_at(
+    header: &Header<'_>,
+    words: &Words<'_>,
+    index: usize,
+    variable: &Variable,
+) -> Option<Named>
+    ensures { result ≡ named_at header.now words.now index variable.now }
 {
     match whole_at(header, index, variable) {
         Some(name) => Some(name),
-        None => split_at(bits, bit_at(header, index, variable)),
+        None => split_at(words, bit_at(header, index, variable)),
     }
 }
 
@@ -99,14 +115,14 @@ fn whole_at(header: &Header<'_>, index: usize, variable: &Variable) -> Option<Na
 }
 
 #[tactic(auto, unfolding(crate::specs::Wires::split_at))]
-fn split_at(bits: &[Bit], bit: Option<Bit>) -> Option<Named>
+fn split_at(words: &Words<'_>, bit: Option<Bit>) -> Option<Named>
     requires { IfSome bit (λ b. b.line < 22) }
-    ensures { result ≡ split_at bits.now bit }
+    ensures { result ≡ split_at words.now bit }
 {
     match bit {
         None => None,
         Some(bit) => {
-            if is_first_bit(bits, bit) && is_joined(bits, bit) {
+            if words.is_first_bit(bit) && words.is_joined(bit) {
                 Some(as_word(bit))
             } else {
                 None
@@ -116,25 +132,30 @@ fn split_at(bits: &[Bit], bit: Option<Bit>) -> Option<Named>
 }
 
 #[tactic(auto, unfolding(crate::specs::Wires::unfit_at))]
-fn unfit_at(header: &Header<'_>, bits: &[Bit], index: usize, variable: &Variable) -> Option<Named>
-    ensures { result ≡ unfit_at header.now bits.now index variable.now }
+fn unfit_at(
+    header: &Header<'_>,
+    words: &Words<'_>,
+    index: usize,
+    variable: &Variable,
+) -> Option<Named>
+    ensures { result ≡ unfit_at header.now words.now index variable.now }
 {
     let bit = bit_at(header, index, variable);
     match bit {
-        Some(bit) => lone_bit(bits, Some(bit)),
+        Some(bit) => lone_bit(words, Some(bit)),
         None => unfit_line(header, index, variable, line_named(&variable.name)),
     }
 }
 
 #[tactic(auto, unfolding(crate::specs::Wires::lone_bit))]
-fn lone_bit(bits: &[Bit], bit: Option<Bit>) -> Option<Named>
+fn lone_bit(words: &Words<'_>, bit: Option<Bit>) -> Option<Named>
     requires { IfSome bit (λ b. b.line < 22) }
-    ensures { result ≡ lone_bit bits.now bit }
+    ensures { result ≡ lone_bit words.now bit }
 {
     match bit {
         None => None,
         Some(bit) => {
-            if is_joined(bits, bit) {
+            if words.is_joined(bit) {
                 None
             } else {
                 Some(as_word(bit))

@@ -3,6 +3,7 @@
 use crate::text::{put, put_line, put_number, put_path};
 use scope_pick::{Variable, Written, line_named, without_escape};
 use std::alloc::{AllocError, Global};
+use std::collections::BTreeMap;
 
 /// A variable that looks like a line, or a bit of it that does.
 #[derive(Clone, Copy, Debug)]
@@ -47,6 +48,42 @@ pub(crate) fn near_lines(alloc: Global, variables: &[Variable]) -> Result<Vec<Ne
         add_requests(&mut near, index, variable)?;
     }
     Ok(near)
+}
+
+/// Those of each scope, by its path.
+pub(crate) fn near_by_scope<'a>(
+    alloc: Global,
+    variables: &'a [Variable],
+    near: &[Near],
+) -> Result<BTreeMap<&'a [u8], Vec<Near>>, AllocError> {
+    let mut scopes = BTreeMap::new(alloc);
+    for one in near {
+        add_to_scope(alloc, &mut scopes, scope_of(variables, *one), *one)?;
+    }
+    Ok(scopes)
+}
+
+fn add_to_scope<'a>(
+    alloc: Global,
+    scopes: &mut BTreeMap<&'a [u8], Vec<Near>>,
+    scope: &'a [u8],
+    one: Near,
+) -> Result<(), AllocError> {
+    let mut near = match scopes.remove(scope) {
+        Some(near) => near,
+        None => Vec::new(alloc),
+    };
+    near.push(one)?;
+    scopes.insert(scope, near)?;
+    Ok(())
+}
+
+/// Those of the scope of this path.
+pub(crate) fn near_in<'s>(scopes: &'s BTreeMap<&[u8], Vec<Near>>, scope: &[u8]) -> &'s [Near] {
+    match scopes.get(scope) {
+        Some(near) => near,
+        None => &[],
+    }
 }
 
 fn add_near(near: &mut Vec<Near>, index: usize, line: Option<u8>) -> Result<(), AllocError> {

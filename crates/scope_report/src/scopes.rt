@@ -1,6 +1,6 @@
 //! What a scope has of the bus, and what lacks.
 
-use crate::near::{Near, best_of, near_lines, put_hint};
+use crate::near::{Near, best_of, near_by_scope, near_in, near_lines, put_hint};
 use crate::text::{put, put_line, put_listed, put_number, put_path, put_scope, put_shape};
 use scope_pick::{
     Named, Variable, ambiguous_lines, found_in, group_at, groups_of, is_line_needed, is_listed,
@@ -26,6 +26,8 @@ pub(crate) struct Heading<'a> {
     /// Those that are named like lines and cannot be them, by their scopes.
     unfit: BTreeMap<usize, Vec<Named>>,
     near: Vec<Near>,
+    /// Those that look like lines, by the paths of their scopes.
+    near_scopes: BTreeMap<&'a [u8], Vec<Near>>,
 }
 
 impl<'a> Heading<'a> {
@@ -33,13 +35,15 @@ impl<'a> Heading<'a> {
     pub(crate) fn new(alloc: Global, variables: &'a [Variable]) -> Result<Self, AllocError> {
         let names = named_lines(alloc, variables)?;
         let unfit = unfit_lines(alloc, variables)?;
+        let near = near_lines(alloc, variables)?;
         Ok(Heading {
             alloc,
             variables,
             groups: groups_of(alloc, &names)?,
             names,
             unfit: groups_of(alloc, &unfit)?,
-            near: near_lines(alloc, variables)?,
+            near_scopes: near_by_scope(alloc, variables, &near)?,
+            near,
         })
     }
 
@@ -228,12 +232,8 @@ impl<'a> Heading<'a> {
     }
 
     fn put_near(&self, text: &mut Vec<u8>, scope: usize, line: u8) -> Result<(), AllocError> {
-        for near in &self.near {
-            self.put_near_one(
-                text,
-                *near,
-                near.line == line && self.is_within(scope, near.index),
-            )?;
+        for near in near_in(&self.near_scopes, self.scope_path(scope)) {
+            self.put_near_one(text, *near, near.line == line)?;
         }
         Ok(())
     }
@@ -243,10 +243,6 @@ impl<'a> Heading<'a> {
             Some(variable) if is_one => put_hint(text, near, variable),
             _ => Ok(()),
         }
-    }
-
-    fn is_within(&self, scope: usize, index: usize) -> bool {
-        self.scope_path(scope) == self.scope_path(index)
     }
 
     fn scope_path(&self, index: usize) -> &[u8] {

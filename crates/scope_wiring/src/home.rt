@@ -78,20 +78,25 @@ fn home_by_default(alloc: Global, names: &[Named], settled: &[u8]) -> Result<Hom
         return Ok(Home::Nowhere);
     }
     let scopes = qualified(alloc, names, settled)?;
-    Ok(home_among(names, settled, &scopes))
+    home_among(alloc, names, settled, &scopes)
 }
 
 #[tactic(auto, unfolding(crate::specs::Homes::home_among))]
-fn home_among(names: &[Named], settled: &[u8], scopes: &[Named]) -> Home
-    ensures { result ≡ home_among names.now settled.now scopes.now }
+fn home_among(
+    alloc: Global,
+    names: &[Named],
+    settled: &[u8],
+    scopes: &[Named],
+) -> Result<Home, AllocError>
+    ensures { IfOk result (λ h. h ≡ home_among names.now settled.now scopes.now) }
 {
-    match fullest(names, settled, scopes) {
-        Some(scope) => Home::At(scope.scope),
+    match fullest(alloc, names, settled, scopes)? {
+        Some(scope) => Ok(Home::At(scope.scope)),
         None => {
             if scopes.len() == 0 {
-                Home::Refused(Cause::NoneWhole)
+                Ok(Home::Refused(Cause::NoneWhole))
             } else {
-                Home::Refused(Cause::Several)
+                Ok(Home::Refused(Cause::Several))
             }
         }
     }

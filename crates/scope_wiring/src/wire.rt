@@ -10,8 +10,8 @@ use crate::meaning::{Meaning, meaning_of};
 use crate::taps::{bit_tap, tap_named, tap_of};
 use crate::text::LineOption;
 use scope_pick::{
-    Bit, Header, Named, Range, Variable, base_of, bit_at, bit_in, bits, found_in, is_listed,
-    line_named, line_width,
+    Bit, Header, Named, Names, Range, Variable, Words, bit_at, bits, is_listed, line_named,
+    line_width,
 };
 use std::alloc::{AllocError, Global};
 use vcd_way::Tap;
@@ -122,7 +122,7 @@ fn is_taken(index: usize, name: Option<Named>) -> bool
 
 #[tactic(auto, unfolding(crate::specs::Wirings::line_wire))]
 fn line_wire(
-    names: &[Named],
+    names: &Names<'_>,
     settled: &[u8],
     scope: usize,
     index: usize,
@@ -134,7 +134,7 @@ fn line_wire(
     match line {
         None => None,
         Some(line) => {
-            if !is_listed(settled, line) && is_taken(index, found_in(names, scope, line)) {
+            if !is_listed(settled, line) && is_taken(index, names.found_in(scope, line)) {
                 wire_if(index, tap_of(line, variable, false))
             } else {
                 None
@@ -189,23 +189,23 @@ fn bit_from(bit: Bit, base: Option<u32>) -> Option<Wire>
 
 #[tactic(auto, unfolding(crate::specs::Wirings::bit_wire))]
 fn bit_wire(
-    bits: &[Bit],
-    names: &[Named],
+    words: &Words<'_>,
+    names: &Names<'_>,
     settled: &[u8],
     scope: usize,
     bit: Option<Bit>,
 ) -> Option<Wire>
     requires { IfSome bit (λ b. b.line < 22) }
-    ensures { result ≡ bit_wire bits.now names.now settled.now scope bit }
+    ensures { result ≡ bit_wire words.now names.now settled.now scope bit }
 {
     match bit {
         None => None,
         Some(bit) => {
             if !is_listed(settled, bit.line)
-                && is_word_taken(bit, found_in(names, scope, bit.line))
-                && is_first(bit, bit_in(bits, bit, bit.number))
+                && is_word_taken(bit, names.found_in(scope, bit.line))
+                && is_first(bit, words.bit_in(bit, bit.number))
             {
-                bit_from(bit, base_of(bits, bit))
+                bit_from(bit, words.base_of(bit))
             } else {
                 None
             }
@@ -216,15 +216,15 @@ fn bit_wire(
 #[tactic(auto, unfolding(crate::specs::Wirings::wire_in))]
 fn wire_in(
     header: &Header<'_>,
-    bits: &[Bit],
-    names: &[Named],
+    words: &Words<'_>,
+    names: &Names<'_>,
     settled: &[u8],
     scope: usize,
     index: usize,
     variable: &Variable,
 ) -> Option<Wire>
     ensures { result
-        ≡ wire_in header.now bits.now names.now settled.now scope index variable.now }
+        ≡ wire_in header.now words.now names.now settled.now scope index variable.now }
 {
     match line_wire(
         names,
@@ -235,25 +235,25 @@ fn wire_in(
         line_named(&variable.name),
     ) {
         Some(wire) => Some(wire),
-        None => bit_wire(bits, names, settled, scope, bit_at(header, index, variable)),
+        None => bit_wire(words, names, settled, scope, bit_at(header, index, variable)),
     }
 }
 
 #[tactic(auto, unfolding(crate::specs::Wirings::wire_at))]
 fn wire_at(
     header: &Header<'_>,
-    bits: &[Bit],
-    names: &[Named],
+    words: &Words<'_>,
+    names: &Names<'_>,
     settled: &[u8],
     home: Home,
     index: usize,
     variable: &Variable,
 ) -> Option<Wire>
-    ensures { result ≡ wire_at header.now bits.now names.now settled.now home index variable.now }
+    ensures { result ≡ wire_at header.now words.now names.now settled.now home index variable.now }
 {
     match home {
         Home::Nowhere => None,
-        Home::At(scope) => wire_in(header, bits, names, settled, scope, index, variable),
+        Home::At(scope) => wire_in(header, words, names, settled, scope, index, variable),
         Home::Refused(_) => None,
     }
 }
@@ -262,20 +262,20 @@ fn wire_at(
 fn found_wires(
     alloc: Global,
     header: &Header<'_>,
-    bits: &[Bit],
-    names: &[Named],
+    words: &Words<'_>,
+    names: &Names<'_>,
     settled: &[u8],
     home: Home,
 ) -> Result<Vec<Wire>, AllocError>
     ensures { IfOk result (λ v.
-        v.items ≡ found_wires header.now bits.now names.now settled.now home) }
+        v.items ≡ found_wires header.now words.now names.now settled.now home) }
 {
     header
         .variables()
         .iter()
         .enumerate()
         .filter_map(|(index, variable)| {
-            wire_at(header, bits, names, settled, home, index, variable)
+            wire_at(header, words, names, settled, home, index, variable)
         })
         .collect(alloc)
 }
@@ -295,7 +295,9 @@ pub(crate) fn wires_with(
 {
     let header = Header::new(alloc, variables)?;
     let bits = bits(alloc, &header)?;
-    let found = found_wires(alloc, &header, &bits, names, settled, home)?;
+    let words = Words::new(alloc, &bits)?;
+    let names = Names::new(alloc, names)?;
+    let found = found_wires(alloc, &header, &words, &names, settled, home)?;
     let mut wires = option_wires(alloc, variables, home, options)?;
     wires.extend_from_slice(&found)?;
     Ok(wires)

@@ -24,13 +24,13 @@ some empty n xs ys h full len same e =
     let t : empty ≡ true = h ∙ ap (λ k. nat_eq k 0) z in
     cc
 
-pub returns-in-Some : goal.returns-in-Some
-returns-in-Some c =
-    sym (along _ _ _ (c.deref.ensures.value ∙ c.in-Ok.ensures)) ∙ sym c.in-Some.ensures
+pub returns-in-Ok-Some : goal.returns-in-Ok-Some
+returns-in-Ok-Some c =
+    sym (along _ _ _ (c.deref.ensures.value ∙ c.in-Ok.ensures)) ∙ sym c.in-Ok-Some.ensures ∙ c.in-Ok-Some.field-0-is
 
 pub returns-in-Ok-buses : goal.returns-in-Ok-buses
 returns-in-Ok-buses c = (
   some _ _ _ _ c.is_empty.ensures c.if-is_empty.false c.deref.ensures.len (c.deref.ensures.value ∙ c.in-Ok.ensures),
-  c.in-Ok-buses.ensures ∙ apart _ _ _ (c.deref-in-None.ensures.value ∙ c.in-Ok.ensures),
-  sym (along _ _ _ (c.deref.ensures.value ∙ c.in-Ok.ensures)) ∙ sym c.in-None.ensures,
+  c.in-Ok-buses.ensures ∙ apart _ _ _ (c.deref-in-Ok-None.ensures.value ∙ c.in-Ok.ensures),
+  sym (along _ _ _ (c.deref.ensures.value ∙ c.in-Ok.ensures)) ∙ sym c.in-Ok-None.ensures ∙ c.in-Ok-None.field-0-is,
 )
