@@ -196,19 +196,20 @@ pub no-dump : (p : PrefaceReader) (fed text left : List ℕ) → HasRead p fed �
 no-dump p fed text left h e many = by p.is_over refl
   where
     by : (o : Bool) → p.is_over ≡ o → is_no_dump text ≡ true
-    by true k = ap (λ n. nat_le preface_limit n) (ap (λ x. length (preface_of x)) e ∙ h.over k left) ∙ many
+    by true k =
+        ap (λ n. nat_le preface_limit n) (ap (λ x. length (preface_of x)) e ∙ ap length (h.over k left) ∙ sym h.count) ∙ many
     by false k =
         let size : length (preface_of text) ≡ length fed + length (preface_from p.starts left) =
         ap (λ x. length (preface_of x)) e ∙ ap length (h.goes_on k left) ∙ length-append fed (preface_from p.starts left) in
-        let all : p.count ≡ length fed = h.all k in
         le-leb preface_limit (length (preface_of text))
-        (omega (arith, size, all, leb-true preface_limit p.count many))
+        (omega (arith, size, h.few, leb-true preface_limit p.count many))
 
 -- one that is over is no longer in the whole text
 pub is-dump-over : (p : PrefaceReader) (fed text left : List ℕ) → HasRead p fed → text ≡ fed ++ left → p.is_over ≡ true
     → nat_le preface_limit p.count ≡ false → is_no_dump text ≡ false
 is-dump-over p fed text left h e over few =
-    dump-few (length (preface_of text)) p.count (ap (λ x. length (preface_of x)) e ∙ h.over over left) few
+    dump-few (length (preface_of text)) p.count
+    (ap (λ x. length (preface_of x)) e ∙ ap length (h.over over left) ∙ sym h.count) few
 
 -- so it is where first bytes show a fault
 pub fault-dump : (p : PrefaceReader) (fed piece text left : List ℕ) (fault : VcdFault) → HasRead p (fed ++ piece)
@@ -225,20 +226,14 @@ late-over p fed taken h few size late = by p.is_over refl
     by : (o : Bool) → p.is_over ≡ o → o ≡ true
     by true k = refl
     by false k =
-        let all : p.count ≡ length fed = h.all k in
+        let all : p.count ≡ length fed = h.count ∙ ap length (all-quiet p fed h k) in
         let less : p.count < 1048576 = leb-false preface_limit p.count few in
         absurd (omega (arith, all, less, size, late))
 
 -- nor at the end of a text
-pub is-dump-end : (p : PrefaceReader) (fed text : List ℕ) → HasRead p fed → text ≡ fed
-    → nat_le preface_limit p.count ≡ false → is_no_dump text ≡ false
-is-dump-end p fed text h e few = by p.is_over refl
-  where
-    by : (o : Bool) → p.is_over ≡ o → is_no_dump text ≡ false
-    by true k = is-dump-over p fed text [] h (e ∙ sym (append-nil fed)) k few
-    by false k =
-        dump-few (length (preface_of text)) p.count
-        (ap (λ x. length (preface_of x)) e ∙ ap length (all-quiet p fed h k) ∙ sym (h.all k)) few
+pub is-dump-end : (p : PrefaceReader) (fed : List ℕ) → HasRead p fed → nat_le preface_limit p.count ≡ false
+    → is_no_dump fed ≡ false
+is-dump-end p fed h few = dump-few (length (preface_of fed)) p.count (sym h.count) few
 
 -- ---- one more byte
 
@@ -246,39 +241,46 @@ is-dump-end p fed text h e few = by p.is_over refl
 pub with-dollar : (old new : PrefaceReader) (fed : List ℕ) (b : ℕ) → HasRead old fed → old.is_over ≡ false
     → (old.starts && (b == 36)) ≡ true → new.is_over ≡ true → new.count ≡ old.count → HasRead new (fed ++ b ∷ [])
 with-dollar old new fed b h open dollar over same = record {
-  over = λ k more.
-      ap (λ x. length (preface_of x)) (append_assoc fed (b ∷ []) more)
-      ∙ ap length (h.goes_on open (b ∷ more)
-      ∙ ap (λ d. fed ++ (if d then [] else b ∷ preface_from (is_white b) more)) dollar ∙ append-nil fed)
-      ∙ sym (h.all open) ∙ sym same;
+  over = λ k more. ap preface_of (append_assoc fed (b ∷ []) more) ∙ ends more ∙ sym (ends []);
   goes_on = λ k. absurd (false≢true (sym k ∙ over));
-  all = λ k. absurd (false≢true (sym k ∙ over));
+  count = same ∙ h.count ∙ ap length (all-quiet old fed h open ∙ sym (ends []));
   few = (let size = length-append fed (b ∷ []) in omega (arith, size, h.few, same));
 }
+  where
+    ends : (more : List ℕ) → preface_of (fed ++ b ∷ more) ≡ fed
+    ends more =
+        h.goes_on open (b ∷ more)
+        ∙ ap (λ d. fed ++ (if d then [] else b ∷ preface_from (is_white b) more)) dollar ∙ append-nil fed
 
 -- another byte
 pub with-byte : (old new : PrefaceReader) (fed : List ℕ) (b : ℕ) → HasRead old fed → old.is_over ≡ false
     → (old.starts && (b == 36)) ≡ false → new.is_over ≡ false → new.count ≡ old.count + 1 → new.starts ≡ is_white b
     → HasRead new (fed ++ b ∷ [])
-with-byte old new fed b h open other still same white =
-    let size : length (fed ++ b ∷ []) ≡ length fed + 1 = length-append fed (b ∷ []) in
-    record {
-      over = λ k. absurd (false≢true (sym still ∙ k));
-      goes_on = λ k more.
-          ap preface_of (append_assoc fed (b ∷ []) more) ∙ h.goes_on open (b ∷ more)
-          ∙ ap (λ d. fed ++ (if d then [] else b ∷ preface_from (is_white b) more)) other
-          ∙ sym (append_assoc fed (b ∷ []) (preface_from (is_white b) more))
-          ∙ ap (λ w. (fed ++ b ∷ []) ++ preface_from w more) (sym white);
-      all = λ k. same ∙ ap (λ n. n + 1) (h.all open) ∙ sym size;
-      few = omega (arith, size, h.few, same);
-    }
+with-byte old new fed b h open other still same white = record {
+  over = λ k. absurd (false≢true (sym still ∙ k));
+  goes_on = λ k more.
+      ap preface_of (append_assoc fed (b ∷ []) more) ∙ goes_on more
+      ∙ sym (append_assoc fed (b ∷ []) (preface_from (is_white b) more))
+      ∙ ap (λ w. (fed ++ b ∷ []) ++ preface_from w more) (sym white);
+  count = same ∙ ap (λ n. n + 1) (h.count ∙ ap length (all-quiet old fed h open)) ∙ sym size
+      ∙ ap length (sym (goes_on []));
+  few = omega (arith, size, h.few, same);
+}
+  where
+    size : length (fed ++ b ∷ []) ≡ length fed + 1
+    size = length-append fed (b ∷ [])
+
+    goes_on : (more : List ℕ) → preface_of (fed ++ b ∷ more) ≡ fed ++ b ∷ preface_from (is_white b) more
+    goes_on more =
+        h.goes_on open (b ∷ more) ∙ ap (λ d. fed ++ (if d then [] else b ∷ preface_from (is_white b) more)) other
 
 -- behind the `$`
 pub behind-dollar : (old : PrefaceReader) (fed : List ℕ) (b : ℕ) → HasRead old fed → old.is_over ≡ true
     → HasRead old (fed ++ b ∷ [])
 behind-dollar old fed b h over = record {
-  over = λ k more. ap (λ x. length (preface_of x)) (append_assoc fed (b ∷ []) more) ∙ h.over over (b ∷ more);
+  over = λ k more.
+      ap preface_of (append_assoc fed (b ∷ []) more) ∙ h.over over (b ∷ more) ∙ sym (h.over over (b ∷ []));
   goes_on = λ k. absurd (false≢true (sym k ∙ over));
-  all = λ k. absurd (false≢true (sym k ∙ over));
+  count = h.count ∙ ap length (sym (h.over over (b ∷ [])));
   few = (let size = length-append fed (b ∷ []) in omega (arith, size, h.few));
 }

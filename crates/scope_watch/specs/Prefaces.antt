@@ -22,7 +22,7 @@ is_no_dump text = nat_le preface_limit (length (preface_of text))
 
 -- a reader has read the preface of these first bytes of a text, up to its `$` where that has come
 pub record HasRead (p : PrefaceReader) (fed : List ℕ) : Type 0 where
-  pub over : p.is_over ≡ true → (more : List ℕ) → length (preface_of (fed ++ more)) ≡ p.count
+  pub over : p.is_over ≡ true → (more : List ℕ) → preface_of (fed ++ more) ≡ preface_of fed
   pub goes_on : p.is_over ≡ false → (more : List ℕ) → preface_of (fed ++ more) ≡ fed ++ preface_from p.starts more
-  pub all : p.is_over ≡ false → p.count ≡ length fed
+  pub count : p.count ≡ length (preface_of fed)
   pub few : p.count ≤ length fed

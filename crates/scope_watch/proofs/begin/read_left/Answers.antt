@@ -27,7 +27,7 @@ returns-then-count-eq0-clause-read g c = λ tells.
     headed-end c.at_end.result at.0 _ _ _ (c.at_end.ensures.ended at.0 at.1)
     (at.3 tells ∙ ap (λ x. at.0 ++ x) (c.in_ok-count.ensures.bytes tells
     ∙ (λ i. take (zero i) c.read_piece.new.room ++ none i)) ∙ append-nil at.0)
-    none (sym at.2) (is-dump-end c.pieces.preface at.0 at.0 at.4 refl at.5)
+    none (sym at.2) (is-dump-end c.pieces.preface at.0 at.4 at.5)
 
 pub pieces-preserved : goal.pieces-preserved
 pieces-preserved g c =
