@@ -1,6 +1,7 @@
 -- The text before the first `$`, for a reader of headers.
 use Rattle.std.proofs.Common.{◌≡◌, ℕ, ◌+◌, ◌≤◌, ◌<◌, ◌-◌, zero, suc, Bool, true, false, ◌&&◌, ◌||◌, ◌==◌, if◌then◌else◌, List, [], ◌∷◌, ◌++◌, length, nat_le}
-use Rattle.std.proofs.Common.{Option, Some, None, refl, sym, ap, subst, ◌∙◌, append-nil, append_assoc, length-append, arith, ◌^◌, leb-false, leb-true, le-leb}
+use Rattle.std.proofs.Common.{Option, Some, None, refl, sym, ap, subst, ◌∙◌, append-nil, append_assoc, length-append, arith, ◌^◌, leb-false, leb-true, le-leb, ◌⊎◌, inl, inr, eqb-true, take, take_all, get_or}
+use Rattle.std.proofs.lemmas.List.{take_more}
 use Rattle.std.proofs.lemmas.Bool.{false≢true}
 use Rattle.vcd_grammar.specs.declared.fault.VcdFault.{VcdFault}
 use Rattle.vcd_grammar.specs.Tokens.{Token, is_white, is_long, longest, ended_at, grown_at, counted, run_behind, tokens_from, tokens_so_far}
@@ -35,9 +36,14 @@ if-one : (b : Bool) (t : Token) → (b ≡ true → is_dollar t.word ≡ false) 
 if-one true t h = (h refl, tt)
 if-one false t h = tt
 
+-- no byte
+abbrev is_empty : List ℕ → Bool
+is_empty [] = true
+is_empty (b ∷ bs) = false
+
 -- a run stands open in which no word begins with `$`: a word may begin behind it where it is empty
 record IsQuiet (starts : Bool) (run : List ℕ) : Type 0 where
-  none : (length run == 0) ≡ starts
+  none : is_empty run ≡ starts
   quiet : is_dollar run ≡ false
 
 -- the run with one more byte
@@ -50,12 +56,12 @@ quiet-grown starts [] b q h = by starts q.none h
     by false e k = absurd (false≢true (sym e))
 quiet-grown starts (r ∷ run) b q h = q.quiet
 
-grown-some : (run : List ℕ) (b : ℕ) → (length (run ++ b ∷ []) == 0) ≡ false
+grown-some : (run : List ℕ) (b : ℕ) → is_empty (run ++ b ∷ []) ≡ false
 grown-some [] b = refl
 grown-some (r ∷ run) b = refl
 
 -- a run that is too long is not empty
-long-some : (run : List ℕ) → is_long run ≡ true → (length run == 0) ≡ false
+long-some : (run : List ℕ) → is_long run ≡ true → is_empty run ≡ false
 long-some [] h = absurd (false≢true h)
 long-some (r ∷ run) h = refl
 
@@ -135,16 +141,16 @@ quiet-known m some f h =
     (quiet-tokens 0 true [] some (record { none = refl; quiet = refl }) h)
 
 -- such bytes hold no whole header
-quiet-open : (m : ValueRules) (some : List ℕ) → FitsRules m any_header → preface_of some ≡ some
+quiet-early : (m : ValueRules) (some : List ℕ) → FitsRules m any_header → preface_of some ≡ some
     → is_past_header_at (gathered_so_far m some).spot ≡ false
-quiet-open m some f h =
+quiet-early m some f h =
     ap (λ (s : DumpState (List Declaration)). is_past_header_at s.spot) (quiet-known m some f h)
     ∙ ap (λ b. is_past_header_at (if b then AtPreface else AtHeader)) f.skips_preface
 
 -- and show no fault
 quiet-sound : (m : ValueRules) (some : List ℕ) → FitsRules m any_header → preface_of some ≡ some
     → header_fault_so_far m some ≡ None
-quiet-sound m some f h = by (is_past_header_at (gathered_so_far m some).spot) (quiet-open m some f h)
+quiet-sound m some f h = by (is_past_header_at (gathered_so_far m some).spot) (quiet-early m some f h)
   where
     by : (b : Bool) → b ≡ false → (if b then None else (gathered_so_far m some).fault) ≡ None
     by true e = absurd (false≢true (sym e))
@@ -157,8 +163,8 @@ wide-fits = record { widest = refl; skips_preface = refl }
 
 -- while its `$` has not come, all that was read is before it
 all-quiet : (p : PrefaceReader) (fed : List ℕ) → HasRead p fed → p.is_over ≡ false → preface_of fed ≡ fed
-all-quiet p fed h open =
-    ap preface_of (sym (append-nil fed)) ∙ h.goes_on open [] ∙ append-nil fed
+all-quiet p fed h early =
+    ap preface_of (sym (append-nil fed)) ∙ h.goes_on early [] ∙ append-nil fed
 
 -- with bytes that hold a whole header it has come
 pub over-header : (p : PrefaceReader) (fed head more : List ℕ) → HasRead p fed → fed ≡ head ++ more
@@ -169,7 +175,7 @@ over-header p fed head more h e header = by p.is_over refl
     by true k = refl
     by false k =
         let all : preface_of (head ++ more) ≡ head ++ more = ap preface_of (sym e) ∙ all-quiet p fed h k ∙ e in
-        sym (quiet-open wide_rules head wide-fits (quiet-first true head more all)) ∙ header.over
+        sym (quiet-early wide_rules head wide-fits (quiet-first true head more all)) ∙ header.over
 
 -- and with bytes that show a fault
 pub over-fault : (p : PrefaceReader) (fed : List ℕ) (fault : VcdFault) → HasRead p fed → ShowsFault fed fault
@@ -237,32 +243,54 @@ is-dump-end p fed h few = dump-few (length (preface_of fed)) p.count (sym h.coun
 
 -- ---- one more byte
 
+-- of a piece
+pub byte-taken : (p : PrefaceReader) (fed piece : List ℕ) (at b d : ℕ) → at < length piece → b ≡ get_or piece at d
+    → HasRead p ((fed ++ take at piece) ++ b ∷ []) → HasRead p (fed ++ take (at + 1) piece)
+byte-taken p fed piece at b d less same h =
+    subst (λ x. HasRead p x)
+    (append_assoc fed (take at piece) (b ∷ [])
+    ∙ ap (λ x. fed ++ x) (ap (λ y. take at piece ++ y ∷ []) same ∙ sym (take_more piece at d less))) h
+
+-- all bytes of a piece
+pub piece-taken : (p : PrefaceReader) (fed piece : List ℕ) (at : ℕ) → length piece ≤ at
+    → HasRead p (fed ++ take at piece) → HasRead p (fed ++ piece)
+piece-taken p fed piece at all h = subst (λ x. HasRead p (fed ++ x)) (take_all at piece all) h
+
 -- a `$` that begins a word
 pub with-dollar : (old new : PrefaceReader) (fed : List ℕ) (b : ℕ) → HasRead old fed → old.is_over ≡ false
     → (old.starts && (b == 36)) ≡ true → new.is_over ≡ true → new.count ≡ old.count → HasRead new (fed ++ b ∷ [])
-with-dollar old new fed b h open dollar over same = record {
+with-dollar old new fed b h early dollar over same = record {
   over = λ k more. ap preface_of (append_assoc fed (b ∷ []) more) ∙ ends more ∙ sym (ends []);
   goes_on = λ k. absurd (false≢true (sym k ∙ over));
-  count = same ∙ h.count ∙ ap length (all-quiet old fed h open ∙ sym (ends []));
+  count = same ∙ h.count ∙ ap length (all-quiet old fed h early ∙ sym (ends []));
   few = (let size = length-append fed (b ∷ []) in omega (arith, size, h.few, same));
 }
   where
     ends : (more : List ℕ) → preface_of (fed ++ b ∷ more) ≡ fed
     ends more =
-        h.goes_on open (b ∷ more)
+        h.goes_on early (b ∷ more)
         ∙ ap (λ d. fed ++ (if d then [] else b ∷ preface_from (is_white b) more)) dollar ∙ append-nil fed
+
+-- a byte that is no such `$`
+pub no-dollar : (starts : Bool) (b : ℕ) → ((starts ≡ true) × (b ≡ 36 → ⊥)) ⊎ (starts ≡ false) → (starts && (b == 36)) ≡ false
+no-dollar starts b (inl h) = by (b == 36) refl
+  where
+    by : (d : Bool) → (b == 36) ≡ d → (starts && (b == 36)) ≡ false
+    by true e = absurd (h.1 (eqb-true b 36 e))
+    by false e = ap (λ x. x && (b == 36)) h.0 ∙ e
+no-dollar starts b (inr h) = ap (λ x. x && (b == 36)) h
 
 -- another byte
 pub with-byte : (old new : PrefaceReader) (fed : List ℕ) (b : ℕ) → HasRead old fed → old.is_over ≡ false
     → (old.starts && (b == 36)) ≡ false → new.is_over ≡ false → new.count ≡ old.count + 1 → new.starts ≡ is_white b
     → HasRead new (fed ++ b ∷ [])
-with-byte old new fed b h open other still same white = record {
+with-byte old new fed b h early other still same white = record {
   over = λ k. absurd (false≢true (sym still ∙ k));
   goes_on = λ k more.
       ap preface_of (append_assoc fed (b ∷ []) more) ∙ goes_on more
       ∙ sym (append_assoc fed (b ∷ []) (preface_from (is_white b) more))
       ∙ ap (λ w. (fed ++ b ∷ []) ++ preface_from w more) (sym white);
-  count = same ∙ ap (λ n. n + 1) (h.count ∙ ap length (all-quiet old fed h open)) ∙ sym size
+  count = same ∙ ap (λ n. n + 1) (h.count ∙ ap length (all-quiet old fed h early)) ∙ sym size
       ∙ ap length (sym (goes_on []));
   few = omega (arith, size, h.few, same);
 }
@@ -272,7 +300,7 @@ with-byte old new fed b h open other still same white = record {
 
     goes_on : (more : List ℕ) → preface_of (fed ++ b ∷ more) ≡ fed ++ b ∷ preface_from (is_white b) more
     goes_on more =
-        h.goes_on open (b ∷ more) ∙ ap (λ d. fed ++ (if d then [] else b ∷ preface_from (is_white b) more)) other
+        h.goes_on early (b ∷ more) ∙ ap (λ d. fed ++ (if d then [] else b ∷ preface_from (is_white b) more)) other
 
 -- behind the `$`
 pub behind-dollar : (old : PrefaceReader) (fed : List ℕ) (b : ℕ) → HasRead old fed → old.is_over ≡ true
