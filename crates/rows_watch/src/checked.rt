@@ -249,3 +249,29 @@ fn headers_tell_variables_and_sections(rt: HostRuntime) {
         Finding::Refused(_) => assert!(rt; false),
     }
 }
+
+/// So many bytes without a `$` that begins a word are no dump.
+const PREFACE: usize = 1_048_576;
+
+/// What stands before a header, the header itself, and whether the whole is seen to be no dump.
+static PREFACES: [(usize, &'static str, bool); 4] = [
+    (PREFACE - 1, "", false),
+    (PREFACE, "", true),
+    (PREFACE - 2, "x", true),
+    (PREFACE - 2, "\n", false),
+];
+
+#[test]
+fn a_header_begins_within_a_mebibyte(rt: HostRuntime) {
+    let alloc = rt.alloc();
+    for (count, behind, is_none) in PREFACES.iter() {
+        let mut text = vec![in alloc; b'\t'; *count].ok().expect(&rt, "memory");
+        let rest = joined(alloc, &[behind, HEADER]).ok().expect(&rt, "memory");
+        text.extend_from_slice(&rest).ok().expect(&rt, "memory");
+        for size in [4_096, 3_000_000] {
+            let answer = checked(alloc, &text, size, &[]);
+            assert!(rt; answer.is_err() == *is_none);
+            assert!(rt; !*is_none || matches!(&answer, Err(ScopeStop::NoHeader)));
+        }
+    }
+}

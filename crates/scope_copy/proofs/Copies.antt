@@ -65,6 +65,7 @@ pub put-stop : (stop : ScopeStop) (seen : List DumpEvent → Type 0) (p : Part) 
     → IsPutAs (Err stop) p there way text old new
 put-stop (stops.Bad fault) seen p there way text old new h = h
 put-stop stops.ReadFault seen p there way text old new h = tt
+put-stop stops.NoHeader seen p there way text old new h = h
 put-stop stops.TooLong seen p there way text old new h = h
 put-stop stops.TooMany seen p there way text old new h = h
 put-stop stops.WriteFault seen p there way text old new h = tt
@@ -142,6 +143,7 @@ pub copied-header : (stop : ScopeStop) (choice : Choice) (p : Part) (s : Samplin
     → IsHeaded (Err stop) text left → IsCopied (Err stop) choice p s text old new
 copied-header (stops.Bad fault) choice p s text left old new h = inl h
 copied-header stops.ReadFault choice p s text left old new h = tt
+copied-header stops.NoHeader choice p s text left old new h = h
 copied-header stops.TooLong choice p s text left old new h = h
 copied-header stops.TooMany choice p s text left old new h = absurd h
 copied-header stops.WriteFault choice p s text left old new h = tt
@@ -159,7 +161,8 @@ copied-values (stops.Bad fault) choice p s h w there way text old new wired e f 
       fault_is = subst (λ x. first_fault_by x text ≡ Some fault) e f;
     })
 copied-values stops.ReadFault choice p s h w there way text old new wired e f = tt
-copied-values stops.TooLong choice p s h w there way text old new wired e f = f
+copied-values stops.NoHeader choice p s h w there way text old new wired e f = absurd f
+copied-values stops.TooLong choice p s h w there way text old new wired e f = (f, wired.declares.is_dump)
 copied-values stops.TooMany choice p s h w there way text old new wired e f =
     record {
       header = h;

@@ -1,5 +1,5 @@
 -- What is written of a dump.
-use Rattle.std.specs.Prelude.{◌≡◌, ◌<◌, ◌≤◌, ◌^◌, ◌⊎◌, ℕ, List, ◌++◌, Bool, All, length, Some, None, option_map, Result, Ok, Err}
+use Rattle.std.specs.Prelude.{◌≡◌, ◌<◌, ◌≤◌, ◌^◌, ◌⊎◌, ℕ, List, ◌++◌, Bool, true, All, length, Some, None, option_map, Result, Ok, Err}
 use Rattle.fsb_signal.specs.declared.sample.Sample.{Sample}
 use Rattle.vcd_grammar.specs.Judging.{marks_of_lines}
 use Rattle.vcd_grammar.specs.Reading.{Reads}
@@ -21,7 +21,8 @@ use Rattle.scope_watch.specs.declared.stop.ScopeStop.TheVariants as stops
 use Rattle.scope_watch.specs.declared.header.Header.{Header}
 use Rattle.scope_watch.specs.declared.values.Sampling.{Sampling}
 use Rattle.scope_watch.specs.Checking.{Declares, IsWiredBy, IsFaultBehind, TellsMany}
-use Rattle.scope_watch.specs.Heading.{IsHeaderFault}
+use Rattle.scope_watch.specs.Heading.{IsHeaderFault, IsTooLong}
+use Rattle.scope_watch.specs.Prefaces.{is_no_dump}
 use Rattle.scope_watch.specs.Watching.{rules_for}
 use Rattle.scope_write.specs.Samples.{AreShown, Has64Lines}
 use Rattle.scope_write.specs.Text.{shown_dump}
@@ -55,6 +56,7 @@ pub record IsPut (told : CopiedText) (p : Part) (there : List Bool) (way : Way (
 abbrev pub IsPutAs : Result CopiedText ScopeStop → Part → List Bool → Way (List Declaration) → List ℕ → List ℕ → List ℕ → Type 0
 IsPutAs (Ok told) p there way text old new = IsPut told p there way text old new
 IsPutAs (Err (stops.Bad fault)) p there way text old new = first_fault_by way text ≡ Some fault
+IsPutAs (Err stops.NoHeader) p there way text old new = ⊥
 IsPutAs (Err stops.TooLong) p there way text old new = 2 ^ 40 < length text
 IsPutAs (Err stops.TooMany) p there way text old new = 10 ^ 18 ≤ length (events_by way text)
 IsPutAs (Err stops.WriteFault) p there way text old new = Unit {0}
@@ -78,7 +80,8 @@ IsCopyFinding (findings.Copied w told) choice p s h text old new =
 abbrev pub IsCopied : Result Copied ScopeStop → Choice → Part → Sampling → List ℕ → List ℕ → List ℕ → Type 0
 IsCopied (Ok copied) choice p s text old new = IsCopyFinding copied.finding choice p s copied.header text old new
 IsCopied (Err (stops.Bad fault)) choice p s text old new = IsHeaderFault text fault ⊎ IsFaultBehind choice s text fault
-IsCopied (Err stops.TooLong) choice p s text old new = 2 ^ 40 < length text
+IsCopied (Err stops.NoHeader) choice p s text old new = is_no_dump text ≡ true
+IsCopied (Err stops.TooLong) choice p s text old new = IsTooLong text
 IsCopied (Err stops.TooMany) choice p s text old new = TellsMany (10 ^ 18) choice s text
 IsCopied (Err stops.WriteFault) choice p s text old new = Unit {0}
 IsCopied (Err stops.Memory) choice p s text old new = Unit {0}

@@ -58,6 +58,7 @@ pub found-stop : (stop : ScopeStop) (seen : List DumpEvent → Type 0) (p : Part
     → IsWatched (Err stop) seen most_counted way text → IsFoundAs (Err stop) p m way text
 found-stop (stops.Bad fault) seen p m way text never h = h
 found-stop stops.ReadFault seen p m way text never h = tt
+found-stop stops.NoHeader seen p m way text never h = h
 found-stop stops.TooLong seen p m way text never h = h
 found-stop stops.TooMany seen p m way text never h = h
 found-stop stops.WriteFault seen p m way text never h = never refl
@@ -87,6 +88,7 @@ pub explained-header : (stop : ScopeStop) (choice : Choice) (p : Part) (s : Samp
     → IsHeaded (Err stop) text left → IsExplainedAs (Err stop) choice p s text
 explained-header (stops.Bad fault) choice p s text left h = inl h
 explained-header stops.ReadFault choice p s text left h = tt
+explained-header stops.NoHeader choice p s text left h = h
 explained-header stops.TooLong choice p s text left h = h
 explained-header stops.TooMany choice p s text left h = absurd h
 explained-header stops.WriteFault choice p s text left h = h
@@ -98,7 +100,8 @@ pub explained-values : (stop : ScopeStop) (choice : Choice) (p : Part) (s : Samp
 explained-values (stops.Bad fault) choice p s h w m text wired e =
     inr (record { header = h; wiring = w; wired = wired; fault_is = e })
 explained-values stops.ReadFault choice p s h w m text wired e = tt
-explained-values stops.TooLong choice p s h w m text wired e = e
+explained-values stops.NoHeader choice p s h w m text wired e = absurd e
+explained-values stops.TooLong choice p s h w m text wired e = (e, wired.declares.is_dump)
 explained-values stops.TooMany choice p s h w m text wired e =
     record { header = h; wiring = w; wired = wired; many = e }
 explained-values stops.WriteFault choice p s h w m text wired e = e

@@ -1,5 +1,5 @@
 -- What is said of the first broken clock of a dump.
-use Rattle.std.specs.Prelude.{◌≡◌, ◌<◌, ◌≤◌, ◌^◌, ◌⊎◌, ℕ, List, length, Option, Some, None, Result, Ok, Err}
+use Rattle.std.specs.Prelude.{◌≡◌, ◌<◌, ◌≤◌, ◌^◌, ◌⊎◌, ℕ, true, List, length, Option, Some, None, Result, Ok, Err}
 use Rattle.fsb_signal.specs.declared.marks.Marks.{Marks}
 use Rattle.vcd_grammar.specs.Judging.{marks_of_lines}
 use Rattle.vcd_way.specs.Declarations.{Declaration}
@@ -20,7 +20,8 @@ use Rattle.scope_watch.specs.declared.stop.ScopeStop.TheVariants as stops
 use Rattle.scope_watch.specs.declared.header.Header.{Header}
 use Rattle.scope_watch.specs.declared.values.Sampling.{Sampling}
 use Rattle.scope_watch.specs.Checking.{Declares, IsWiredBy, IsFaultBehind, TellsMany}
-use Rattle.scope_watch.specs.Heading.{IsHeaderFault}
+use Rattle.scope_watch.specs.Heading.{IsHeaderFault, IsTooLong}
+use Rattle.scope_watch.specs.Prefaces.{is_no_dump}
 use Rattle.scope_watch.specs.Watching.{rules_for}
 use Rattle.scope_explain.specs.declared.explained.Explained.{Explained}
 use Rattle.scope_explain.specs.declared.explain.Explanation.{Explanation}
@@ -40,6 +41,7 @@ pub record IsFound (found : Option Explained) (p : Part) (m : Marks) (way : Way 
 abbrev pub IsFoundAs : Result (Option Explained) ScopeStop → Part → Marks → Way (List Declaration) → List ℕ → Type 0
 IsFoundAs (Ok found) p m way text = IsFound found p m way text
 IsFoundAs (Err (stops.Bad fault)) p m way text = first_fault_by way text ≡ Some fault
+IsFoundAs (Err stops.NoHeader) p m way text = ⊥
 IsFoundAs (Err stops.TooLong) p m way text = 2 ^ 40 < length text
 IsFoundAs (Err stops.TooMany) p m way text = most_counted ≤ length (events_by way text)
 IsFoundAs (Err stops.WriteFault) p m way text = ⊥
@@ -70,7 +72,8 @@ IsExplanation (explanations.Broken e) choice p s text = IsFoundOf (Some e) choic
 abbrev pub IsExplainedAs : Result Explanation ScopeStop → Choice → Part → Sampling → List ℕ → Type 0
 IsExplainedAs (Ok found) choice p s text = IsExplanation found choice p s text
 IsExplainedAs (Err (stops.Bad fault)) choice p s text = IsHeaderFault text fault ⊎ IsFaultBehind choice s text fault
-IsExplainedAs (Err stops.TooLong) choice p s text = 2 ^ 40 < length text
+IsExplainedAs (Err stops.NoHeader) choice p s text = is_no_dump text ≡ true
+IsExplainedAs (Err stops.TooLong) choice p s text = IsTooLong text
 IsExplainedAs (Err stops.TooMany) choice p s text = TellsMany most_counted choice s text
 IsExplainedAs (Err stops.WriteFault) choice p s text = ⊥
 IsExplainedAs (Err stops.Memory) choice p s text = Unit {0}

@@ -44,6 +44,16 @@ uncut-stop dump save cut tells held dumped choice part s old new (scopes.Bad fau
   is_copied = copied t h;
   of_text = tt;
 }
+uncut-stop dump save cut tells held dumped choice part s old new scopes.NoHeader read write copied = λ t h. record {
+  choice = choice;
+  part = part;
+  s = s;
+  old = old;
+  new = new;
+  stop = scopes.NoHeader;
+  is_copied = copied t h;
+  of_text = tt;
+}
 uncut-stop dump save cut tells held dumped choice part s old new scopes.TooLong read write copied = λ t h. record {
   choice = choice;
   part = part;

@@ -85,9 +85,10 @@ sampling_of wires = record { edge = edge_of wires.edge; takes_first = wires.is_f
 
 -- ---- how a command ends that reads a dump
 
--- it is not judged where the dump is faulty or too long; where reading or memory failed it doesn't end
+-- it is not judged where the file is no dump or too long; where reading or memory failed it doesn't end
 abbrev pub EndsStopped : ScopeStop → Ending → Type 0
 EndsStopped (stops.Bad fault) ending = ending ≡ endings.Unjudged
+EndsStopped stops.NoHeader ending = ending ≡ endings.Unjudged
 EndsStopped stops.TooLong ending = ending ≡ endings.Unjudged
 EndsStopped stops.TooMany ending = ending ≡ endings.Unjudged
 EndsStopped stops.ReadFault ending = ⊥

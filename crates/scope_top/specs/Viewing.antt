@@ -136,6 +136,7 @@ Shows views choice s dumped name (Err stop) f = Untouched f
 -- a stop that the text of a dump makes
 abbrev pub IsOfText : ScopeStop → Type 0
 IsOfText (scopes.Bad fault) = Unit {0}
+IsOfText scopes.NoHeader = Unit {0}
 IsOfText scopes.TooLong = Unit {0}
 IsOfText scopes.TooMany = Unit {0}
 IsOfText scopes.ReadFault = ⊥
@@ -145,6 +146,7 @@ IsOfText scopes.Memory = ⊥
 -- why the clocks around a broken one are not written, where their copy stopped so
 abbrev pub uncut : ScopeStop → ViewStop
 uncut (scopes.Bad fault) = stops.Changed
+uncut scopes.NoHeader = stops.Changed
 uncut scopes.TooLong = stops.Changed
 uncut scopes.TooMany = stops.Changed
 uncut scopes.ReadFault = stops.Dump

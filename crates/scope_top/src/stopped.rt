@@ -5,12 +5,15 @@ ghost use Rattle.scope_top.specs.Performing.{EndsStopped};
 
 use crate::answer::{Answer, Stream};
 use crate::stop::Stop;
-use scope_report::{Ending, fault_text, limit_text};
+use scope_report::{Ending, fault_text, limit_text, unread_text};
 use scope_watch::ScopeStop;
 use std::alloc::Global;
 
 /// How many bytes are asked of a dump at a time, at most.
 pub(crate) const PIECE: usize = 65_536;
+
+/// What is said of a file that is seen early to be no dump.
+const NO_HEADER: &str = "no dump: no word of its first 1,048,576 bytes begins with $";
 
 /// Tells why a dump was not read, where this is said of its text. No command that judges a dump writes while it reads,
 /// so `WriteFault` never comes.
@@ -22,6 +25,7 @@ pub(crate) fn stop_answer(alloc: Global, name: &str, stop: ScopeStop) -> Result<
 {
     let text = match stop {
         ScopeStop::Bad(fault) => fault_text(alloc, name, &fault)?,
+        ScopeStop::NoHeader => unread_text(alloc, name, NO_HEADER)?,
         ScopeStop::TooLong => limit_text(alloc, name, "2^40 bytes")?,
         ScopeStop::TooMany => limit_text(alloc, name, "2^32 - 1 clocks or holes")?,
         ScopeStop::ReadFault => return Err(Stop::Dump),

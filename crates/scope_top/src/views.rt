@@ -268,6 +268,8 @@ fn uncut(stop: ScopeStop) -> ViewStop
         ScopeStop::Memory => ViewStop::Memory,
         ScopeStop::ReadFault => ViewStop::Dump,
         ScopeStop::WriteFault => ViewStop::Cut,
-        ScopeStop::Bad(_) | ScopeStop::TooLong | ScopeStop::TooMany => ViewStop::Changed,
+        ScopeStop::Bad(_) | ScopeStop::NoHeader | ScopeStop::TooLong | ScopeStop::TooMany => {
+            ViewStop::Changed
+        }
     }
 }

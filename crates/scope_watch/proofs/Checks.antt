@@ -53,6 +53,7 @@ declares-of m b text left h = by h.stands.place
           first = ap (λ x. x ++ last) (ap tokens_so_far p.whole ∙ tokens_longer head fed
               ∙ ap (λ x. x ++ behind) (sym p.tokens)) ∙ append_assoc h.tokens behind last;
           shows = h.shows;
+          is_dump = h.is_dump;
         }
     by (inr p) = record {
       tokens = h.tokens;
@@ -60,6 +61,7 @@ declares-of m b text left h = by h.stands.place
       header = h.stands.header;
       first = sym p.tokens ∙ sym (append-nil h.tokens);
       shows = h.shows;
+      is_dump = h.is_dump;
     }
 
 -- ---- stops
@@ -73,6 +75,7 @@ pub judged-stop : (stop : ScopeStop) (seen : List DumpEvent → Type 0) (plan : 
     → IsWatched (Err stop) seen most_counted way text → IsJudgedAs (Err stop) plan marks way text
 judged-stop (stops.Bad fault) seen plan marks way text never h = h
 judged-stop stops.ReadFault seen plan marks way text never h = tt
+judged-stop stops.NoHeader seen plan marks way text never h = h
 judged-stop stops.TooLong seen plan marks way text never h = h
 judged-stop stops.TooMany seen plan marks way text never h = h
 judged-stop stops.WriteFault seen plan marks way text never h = never refl
@@ -105,6 +108,7 @@ pub checked-header : (stop : ScopeStop) (choice : Choice) (plan : Plan) (s : Sam
     → IsHeaded (Err stop) text left → IsChecked (Err stop) choice plan s text
 checked-header (stops.Bad fault) choice plan s text left h = inl h
 checked-header stops.ReadFault choice plan s text left h = tt
+checked-header stops.NoHeader choice plan s text left h = h
 checked-header stops.TooLong choice plan s text left h = h
 checked-header stops.TooMany choice plan s text left h = absurd h
 checked-header stops.WriteFault choice plan s text left h = h
@@ -116,7 +120,8 @@ pub checked-values : (stop : ScopeStop) (choice : Choice) (plan : Plan) (s : Sam
 checked-values (stops.Bad fault) choice plan s h w marks text wired e =
     inr (record { header = h; wiring = w; wired = wired; fault_is = e })
 checked-values stops.ReadFault choice plan s h w marks text wired e = tt
-checked-values stops.TooLong choice plan s h w marks text wired e = e
+checked-values stops.NoHeader choice plan s h w marks text wired e = absurd e
+checked-values stops.TooLong choice plan s h w marks text wired e = (e, wired.declares.is_dump)
 checked-values stops.TooMany choice plan s h w marks text wired e =
     record { header = h; wiring = w; wired = wired; many = e }
 checked-values stops.WriteFault choice plan s h w marks text wired e = e

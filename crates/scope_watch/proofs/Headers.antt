@@ -27,7 +27,8 @@ use Rattle.scope_watch.specs.declared.stop.ScopeStop.{ScopeStop}
 use Rattle.scope_watch.specs.declared.stop.ScopeStop.TheVariants as watched
 use Rattle.scope_watch.specs.Stops.{IsStopOfReading}
 use Rattle.scope_watch.specs.Heading.{any_header, Holds, Opens, FedByte, Fed, ShowsFault, HasEnded, IsEnded}
-use Rattle.scope_watch.specs.Heading.{HasBegun, IsBegunWith, BeginsBy, ShowsInHeader, IsReadUp}
+use Rattle.scope_watch.specs.Heading.{HasBegun, IsBegunWith, BeginsBy, ShowsInHeader, IsTooLong, IsReadUp}
+use Rattle.scope_watch.specs.Prefaces.{is_no_dump}
 
 -- ---- one more token
 
@@ -203,8 +204,9 @@ byte-fault (stops.Bad fault) r fed piece at b d less same h =
 
 -- a stop of a source
 pub headed-stop : (stop : ScopeStop) (text left : List ℕ) → IsStopOfReading stop
-    → (stop ≡ watched.TooLong → 2 ^ 40 < length text) → IsReadUp (Err stop) text left
+    → (stop ≡ watched.TooLong → IsTooLong text) → IsReadUp (Err stop) text left
 headed-stop (watched.Bad fault) text left h long = absurd h
+headed-stop watched.NoHeader text left h long = absurd h
 headed-stop watched.ReadFault text left h long = tt
 headed-stop watched.TooLong text left h long = long refl
 headed-stop watched.TooMany text left h long = h
@@ -221,8 +223,8 @@ long-text text fed left taken e size long =
 -- ---- the end of a header
 
 ended-by : (b : Begun) (text : List ℕ) (taken : ℕ) (m : ValueRules) → FitsRules m any_header → taken ≡ length text
-    → HasEnded b text taken → BeginsBy m b text []
-ended-by b text taken m f size h = record {
+    → is_no_dump text ≡ false → HasEnded b text taken → BeginsBy m b text []
+ended-by b text taken m f size dump h = record {
   tokens = tokens_of text;
   stands = record {
     header = h.header m f;
@@ -232,29 +234,31 @@ ended-by b text taken m f size h = record {
     taken = omega (arith, h.taken, size);
   };
   shows = h.shows m f;
+  is_dump = dump;
 }
 
 ended-in : (answer : Result Begun ScopeStop) (text : List ℕ) (taken : ℕ) → IsEnded answer text taken → taken ≡ length text
-    → IsReadUp answer text []
-ended-in (Ok b) text taken h size = λ m f. ended-by b text taken m f size h
-ended-in (Err (watched.Bad fault)) text taken h size = inr h
-ended-in (Err watched.ReadFault) text taken h size = tt
-ended-in (Err watched.TooLong) text taken h size = absurd h
-ended-in (Err watched.TooMany) text taken h size = h
-ended-in (Err watched.WriteFault) text taken h size = h
-ended-in (Err watched.Memory) text taken h size = tt
+    → is_no_dump text ≡ false → IsReadUp answer text []
+ended-in (Ok b) text taken h size dump = λ m f. ended-by b text taken m f size dump h
+ended-in (Err (watched.Bad fault)) text taken h size dump = (inr h, dump)
+ended-in (Err watched.NoHeader) text taken h size dump = absurd h
+ended-in (Err watched.ReadFault) text taken h size dump = tt
+ended-in (Err watched.TooLong) text taken h size dump = absurd h
+ended-in (Err watched.TooMany) text taken h size dump = h
+ended-in (Err watched.WriteFault) text taken h size dump = h
+ended-in (Err watched.Memory) text taken h size dump = tt
 
 -- the header of a text that was read to its end
 pub headed-end : (answer : Result Begun ScopeStop) (fed text left : List ℕ) (taken : ℕ) → IsEnded answer fed taken
-    → text ≡ fed → left ≡ [] → taken ≡ length fed → IsReadUp answer text left
-headed-end answer fed text left taken h e none size =
+    → text ≡ fed → left ≡ [] → taken ≡ length fed → is_no_dump fed ≡ false → IsReadUp answer text left
+headed-end answer fed text left taken h e none size dump =
     subst (λ x. IsReadUp answer x left) (sym e) (subst (λ x. IsReadUp answer fed x) (sym none)
-    (ended-in answer fed taken h size))
+    (ended-in answer fed taken h size dump))
 
 begun-by : (b : Begun) (head rest text left : List ℕ) (taken : ℕ) (m : ValueRules) → FitsRules m any_header
-    → text ≡ head ++ (rest ++ left) → taken + length left ≡ length text → HasBegun b head rest taken
-    → BeginsBy m b text left
-begun-by b head rest text left taken m f e size h = record {
+    → text ≡ head ++ (rest ++ left) → taken + length left ≡ length text → is_no_dump text ≡ false
+    → HasBegun b head rest taken → BeginsBy m b text left
+begun-by b head rest text left taken m f e size dump h = record {
   tokens = tokens_so_far head;
   stands = record {
     header = h.header m f;
@@ -264,20 +268,22 @@ begun-by b head rest text left taken m f e size h = record {
     taken = ap (λ n. n + length left) h.taken ∙ size;
   };
   shows = h.shows m f;
+  is_dump = dump;
 }
 
 -- the header of a text that goes on behind it
 pub headed-inside : (answer : Result Begun ScopeStop) (head rest text left : List ℕ) (taken : ℕ)
     → IsBegunWith answer head rest taken → text ≡ head ++ (rest ++ left) → taken + length left ≡ length text
-    → IsReadUp answer text left
-headed-inside (Ok b) head rest text left taken h e size =
-    λ m f. begun-by b head rest text left taken m f e size h
-headed-inside (Err watched.Memory) head rest text left taken h e size = tt
-headed-inside (Err (watched.Bad fault)) head rest text left taken h e size = absurd h
-headed-inside (Err watched.ReadFault) head rest text left taken h e size = tt
-headed-inside (Err watched.TooLong) head rest text left taken h e size = absurd h
-headed-inside (Err watched.TooMany) head rest text left taken h e size = h
-headed-inside (Err watched.WriteFault) head rest text left taken h e size = h
+    → is_no_dump text ≡ false → IsReadUp answer text left
+headed-inside (Ok b) head rest text left taken h e size dump =
+    λ m f. begun-by b head rest text left taken m f e size dump h
+headed-inside (Err watched.Memory) head rest text left taken h e size dump = tt
+headed-inside (Err (watched.Bad fault)) head rest text left taken h e size dump = absurd h
+headed-inside (Err watched.NoHeader) head rest text left taken h e size dump = absurd h
+headed-inside (Err watched.ReadFault) head rest text left taken h e size dump = tt
+headed-inside (Err watched.TooLong) head rest text left taken h e size dump = absurd h
+headed-inside (Err watched.TooMany) head rest text left taken h e size dump = h
+headed-inside (Err watched.WriteFault) head rest text left taken h e size dump = h
 
 -- a fault that a piece shows
 pub headed-fault : (fed piece text left : List ℕ) (fault : VcdFault) → ShowsFault (fed ++ piece) fault

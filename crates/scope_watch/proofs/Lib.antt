@@ -1,3 +1,4 @@
+mod Prefaces
 mod Headers
 mod Wiring
 mod Steps

@@ -16,6 +16,7 @@ use Rattle.scope_watch.specs.Watching.{Finishes, IsStopOfWatching}
 pub finishes-source : (stop : ScopeStop) (seen : List DumpEvent → Type 0) (most : ℕ) (m : ValueRules) (w : Wiring)
     (head fed : List ℕ) → IsStopOfReading stop → Finishes (Err stop) seen most m w head fed
 finishes-source (stops.Bad fault) seen most m w head fed h = absurd h
+finishes-source stops.NoHeader seen most m w head fed h = h
 finishes-source stops.ReadFault seen most m w head fed h = tt
 finishes-source stops.TooLong seen most m w head fed h = tt
 finishes-source stops.TooMany seen most m w head fed h = absurd h
@@ -26,6 +27,7 @@ pub finishes-watcher : (stop : ScopeStop) (seen : List DumpEvent → Type 0) (mo
     (head fed : List ℕ) → IsStopOfWatching stop → (stop ≡ stops.TooMany → most ≤ length (told_to_end m w head fed))
     → Finishes (Err stop) seen most m w head fed
 finishes-watcher (stops.Bad fault) seen most m w head fed h many = absurd h
+finishes-watcher stops.NoHeader seen most m w head fed h many = h
 finishes-watcher stops.ReadFault seen most m w head fed h many = tt
 finishes-watcher stops.TooLong seen most m w head fed h many = tt
 finishes-watcher stops.TooMany seen most m w head fed h many = many refl

@@ -26,6 +26,7 @@ use Rattle.scope_watch.specs.declared.values.Sampling.{Sampling}
 use Rattle.scope_watch.specs.declared.values.Ended.{Ended}
 use Rattle.scope_watch.specs.Limit.{IsLimit}
 use Rattle.scope_watch.specs.Heading.{StandsBehind, IsInside, IsWhole, ShowsInHeader, IsHeaderFault, IsReadUp, IsHeaded, any_header}
+use Rattle.scope_watch.specs.Prefaces.{is_no_dump}
 use Rattle.scope_watch.specs.Watching.{rules_for, EndsBadly, Finishes, IsWatched}
 
 -- the laws of vcd_joined and vcd_way that are drawn on
@@ -107,6 +108,7 @@ inside laws c s w head fed seen most (Ok ended) h long f = record {
   shown = subst (λ x. seen x) (sym (laws.events c (rules_for s) w head fed h)) f.shown;
 }
 inside laws c s w head fed seen most (Err (stops.Bad fault)) h long f = fault-inside laws c s w head fed fault h f
+inside laws c s w head fed seen most (Err stops.NoHeader) h long f = f
 inside laws c s w head fed seen most (Err stops.TooLong) h long f = long refl
 inside laws c s w head fed seen most (Err stops.ReadFault) h long f = tt
 inside laws c s w head fed seen most (Err stops.TooMany) h long f =
@@ -174,6 +176,7 @@ whole laws c s w text seen most (Ok ended) h long f = record {
   shown = subst (λ x. seen x) (told-none (of_values (rules_for s)) w ∙ sym (laws.all c (rules_for s) w text h)) f.shown;
 }
 whole laws c s w text seen most (Err (stops.Bad fault)) h long f = absurd (no-bad (of_values (rules_for s)) w fault f)
+whole laws c s w text seen most (Err stops.NoHeader) h long f = f
 whole laws c s w text seen most (Err stops.TooLong) h long f = long refl
 whole laws c s w text seen most (Err stops.ReadFault) h long f = tt
 whole laws c s w text seen most (Err stops.TooMany) h long f =
@@ -241,14 +244,15 @@ first-bad laws text fault (inl shown) = λ c m f.
 first-bad laws text fault (inr e) = λ c m f. laws.whole c m text (not-past _ _ fault (e m f)) ∙ e m f
 
 pub header-bad : (laws : HeaderLaws) (text : List ℕ) (fault : VcdFault) → ShowsInHeader text fault
-    → IsHeaderFault text fault
-header-bad laws text fault shown = (shown, first-bad laws text fault shown)
+    → is_no_dump text ≡ false → IsHeaderFault text fault
+header-bad laws text fault shown dump = (shown, first-bad laws text fault shown, dump)
 
 -- what was read up to the end of a header
 pub headed : (laws : HeaderLaws) (answer : Result Begun ScopeStop) (text left : List ℕ) → IsReadUp answer text left
     → IsHeaded answer text left
 headed laws (Ok b) text left h = h
-headed laws (Err (stops.Bad fault)) text left h = header-bad laws text fault h
+headed laws (Err (stops.Bad fault)) text left h = header-bad laws text fault h.0 h.1
+headed laws (Err stops.NoHeader) text left h = h
 headed laws (Err stops.ReadFault) text left h = tt
 headed laws (Err stops.TooLong) text left h = h
 headed laws (Err stops.TooMany) text left h = h

@@ -1,5 +1,5 @@
 -- What is found of a dump.
-use Rattle.std.specs.Prelude.{◌≡◌, ◌<◌, ◌≤◌, ◌^◌, ◌⊎◌, ℕ, List, ◌++◌, length, Some, None, option_map, Result, Ok, Err}
+use Rattle.std.specs.Prelude.{true, false, ◌≡◌, ◌<◌, ◌≤◌, ◌^◌, ◌⊎◌, ℕ, List, ◌++◌, length, Some, None, option_map, Result, Ok, Err}
 use Rattle.fsb_signal.specs.declared.marks.Marks.{Marks}
 use Rattle.vcd_grammar.specs.declared.fault.VcdFault.{VcdFault}
 use Rattle.vcd_grammar.specs.Judging.{marks_of_lines}
@@ -27,7 +27,8 @@ use Rattle.scope_watch.specs.declared.check.Checked.{Checked}
 use Rattle.scope_watch.specs.declared.check.JudgedText.{JudgedText}
 use Rattle.scope_watch.specs.declared.check.Finding.{Finding}
 use Rattle.scope_watch.specs.declared.check.Finding.TheVariants as findings
-use Rattle.scope_watch.specs.Heading.{Shows, IsHeaderFault}
+use Rattle.scope_watch.specs.Heading.{Shows, IsHeaderFault, IsTooLong}
+use Rattle.scope_watch.specs.Prefaces.{is_no_dump}
 use Rattle.scope_watch.specs.Limit.{IsLimit}
 use Rattle.scope_watch.specs.Watching.{rules_for}
 
@@ -44,6 +45,7 @@ pub record IsJudgedText (told : JudgedText) (plan : Plan) (marks : Marks) (way :
 abbrev pub IsJudgedAs : Result JudgedText ScopeStop → Plan → Marks → Way (List Declaration) → List ℕ → Type 0
 IsJudgedAs (Ok told) plan marks way text = IsJudgedText told plan marks way text
 IsJudgedAs (Err (stops.Bad fault)) plan marks way text = first_fault_by way text ≡ Some fault
+IsJudgedAs (Err stops.NoHeader) plan marks way text = ⊥
 IsJudgedAs (Err stops.TooLong) plan marks way text = 2 ^ 40 < length text
 IsJudgedAs (Err stops.TooMany) plan marks way text = most_counted ≤ length (events_by way text)
 IsJudgedAs (Err stops.WriteFault) plan marks way text = ⊥
@@ -57,6 +59,7 @@ pub record Declares (m : ValueRules) (h : Header) (text : List ℕ) : Type 0 whe
   pub header : IsHeader m tokens
   pub first : tokens_of text ≡ tokens ++ more
   pub shows : Shows h (gathered_in m tokens)
+  pub is_dump : is_no_dump text ≡ false
 
 -- the wires are picked of the header's variables, as the user chooses
 pub record IsWiredBy (choice : Choice) (s : Sampling) (h : Header) (w : Wiring) (text : List ℕ) : Type 0 where
@@ -90,7 +93,8 @@ pub record TellsMany (most : ℕ) (choice : Choice) (s : Sampling) (text : List 
 abbrev pub IsChecked : Result Checked ScopeStop → Choice → Plan → Sampling → List ℕ → Type 0
 IsChecked (Ok checked) choice plan s text = IsFinding checked.finding choice plan s checked.header text
 IsChecked (Err (stops.Bad fault)) choice plan s text = IsHeaderFault text fault ⊎ IsFaultBehind choice s text fault
-IsChecked (Err stops.TooLong) choice plan s text = 2 ^ 40 < length text
+IsChecked (Err stops.NoHeader) choice plan s text = is_no_dump text ≡ true
+IsChecked (Err stops.TooLong) choice plan s text = IsTooLong text
 IsChecked (Err stops.TooMany) choice plan s text = TellsMany most_counted choice s text
 IsChecked (Err stops.WriteFault) choice plan s text = ⊥
 IsChecked (Err stops.Memory) choice plan s text = Unit {0}

@@ -23,6 +23,7 @@ use Rattle.scope_watch.specs.declared.header.Behind.{Behind}
 use Rattle.scope_watch.specs.declared.header.Begun.{Begun}
 use Rattle.scope_watch.specs.declared.stop.ScopeStop.{ScopeStop}
 use Rattle.scope_watch.specs.declared.stop.ScopeStop.TheVariants as watched
+use Rattle.scope_watch.specs.Prefaces.{is_no_dump}
 
 -- what is let pass in the header of any tool's dump
 abbrev pub any_header : HeaderRules
@@ -112,34 +113,42 @@ pub record BeginsBy (m : ValueRules) (b : Begun) (text left : List ℕ) : Type 0
   pub tokens : List Token
   pub stands : StandsBehind m b.behind tokens text left
   pub shows : Shows b.header (gathered_in m tokens)
+  pub is_dump : is_no_dump text ≡ false
 
 -- the text has this fault in its header: some of its first bytes show it, or it ends there
 abbrev pub ShowsInHeader : List ℕ → VcdFault → Type 0
 ShowsInHeader text fault =
     ShowsFault text fault ⊎ ((m : ValueRules) → FitsRules m any_header → header_fault_of m text ≡ Some fault)
 
+-- the text is too long, and is not seen before to be no dump
+abbrev pub IsTooLong : List ℕ → Type 0
+IsTooLong text = (2 ^ 40 < length text) × (is_no_dump text ≡ false)
+
 -- what was answered of the header of a text, of which these bytes are left in the source
 abbrev pub IsReadUp : Result Begun ScopeStop → List ℕ → List ℕ → Type 0
 IsReadUp (Ok begun) text left = (m : ValueRules) → FitsRules m any_header → BeginsBy m begun text left
-IsReadUp (Err (watched.Bad fault)) text left = ShowsInHeader text fault
-IsReadUp (Err watched.TooLong) text left = 2 ^ 40 < length text
+IsReadUp (Err (watched.Bad fault)) text left = ShowsInHeader text fault × (is_no_dump text ≡ false)
+IsReadUp (Err watched.NoHeader) text left = is_no_dump text ≡ true
+IsReadUp (Err watched.TooLong) text left = IsTooLong text
 IsReadUp (Err watched.ReadFault) text left = Unit {0}
 IsReadUp (Err watched.Memory) text left = Unit {0}
 IsReadUp (Err watched.TooMany) text left = ⊥
 IsReadUp (Err watched.WriteFault) text left = ⊥
 
--- the text has this fault in its header: its first bytes show it there or it ends there, and in each way that keeps
--- declarations it is the first one
+-- the text has this fault in its header: its first bytes show it there or it ends there, in each way that keeps
+-- declarations it is the first one, and the text is not seen before to be no dump
 abbrev pub IsHeaderFault : List ℕ → VcdFault → Type 0
 IsHeaderFault text fault =
     ShowsInHeader text fault
     × ((c : Choice) (m : ValueRules) → FitsRules m any_header → first_fault_by (choosing c m) text ≡ Some fault)
+    × (is_no_dump text ≡ false)
 
 -- what is told of the header of a text, of which these bytes are left in the source
 abbrev pub IsHeaded : Result Begun ScopeStop → List ℕ → List ℕ → Type 0
 IsHeaded (Ok begun) text left = (m : ValueRules) → FitsRules m any_header → BeginsBy m begun text left
 IsHeaded (Err (watched.Bad fault)) text left = IsHeaderFault text fault
-IsHeaded (Err watched.TooLong) text left = 2 ^ 40 < length text
+IsHeaded (Err watched.NoHeader) text left = is_no_dump text ≡ true
+IsHeaded (Err watched.TooLong) text left = IsTooLong text
 IsHeaded (Err watched.ReadFault) text left = Unit {0}
 IsHeaded (Err watched.Memory) text left = Unit {0}
 IsHeaded (Err watched.TooMany) text left = ⊥

@@ -1,4 +1,5 @@
 pub mod Stops
+pub mod Prefaces
 pub mod Heading
 pub mod Buses
 pub mod Limit

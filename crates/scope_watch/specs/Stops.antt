@@ -13,6 +13,7 @@ stop_of watches.Memory = stops.Memory
 -- a stop that comes of reading a source, and says nothing of its text but that it is too long
 abbrev pub IsStopOfReading : ScopeStop → Type 0
 IsStopOfReading (stops.Bad fault) = ⊥
+IsStopOfReading stops.NoHeader = ⊥
 IsStopOfReading stops.ReadFault = Unit {0}
 IsStopOfReading stops.TooLong = Unit {0}
 IsStopOfReading stops.TooMany = ⊥

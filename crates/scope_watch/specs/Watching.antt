@@ -53,6 +53,7 @@ pub record Seen (seen : List DumpEvent → Type 0) (m : ValueRules) (w : Wiring)
 -- a stop of the watcher, or for want of memory
 abbrev pub IsStopOfWatching : ScopeStop → Type 0
 IsStopOfWatching (stops.Bad fault) = ⊥
+IsStopOfWatching stops.NoHeader = ⊥
 IsStopOfWatching stops.ReadFault = ⊥
 IsStopOfWatching stops.TooLong = ⊥
 IsStopOfWatching stops.TooMany = Unit {0}
@@ -76,6 +77,7 @@ EndsBadly m w head fed fault =
 abbrev pub Finishes : Result Ended ScopeStop → (List DumpEvent → Type 0) → ℕ → ValueRules → Wiring → List ℕ → List ℕ → Type 0
 Finishes (Ok ended) seen most m w head fed = EndsWell ended seen m w head fed
 Finishes (Err (stops.Bad fault)) seen most m w head fed = EndsBadly m w head fed fault
+Finishes (Err stops.NoHeader) seen most m w head fed = ⊥
 Finishes (Err stops.TooMany) seen most m w head fed = most ≤ length (told_to_end m w head fed)
 Finishes (Err stops.WriteFault) seen most m w head fed = Unit {0}
 Finishes (Err stops.Memory) seen most m w head fed = Unit {0}
@@ -85,6 +87,7 @@ Finishes (Err stops.TooLong) seen most m w head fed = Unit {0}
 -- a stop at the end of a text
 abbrev pub IsStopOfEnd : ScopeStop → Type 0
 IsStopOfEnd (stops.Bad fault) = Unit {0}
+IsStopOfEnd stops.NoHeader = ⊥
 IsStopOfEnd stops.ReadFault = ⊥
 IsStopOfEnd stops.TooLong = ⊥
 IsStopOfEnd stops.TooMany = Unit {0}
@@ -103,6 +106,7 @@ pub record IsRead (ended : Ended) (seen : List DumpEvent → Type 0) (way : Way 
 abbrev pub IsWatched : Result Ended ScopeStop → (List DumpEvent → Type 0) → ℕ → Way (List Declaration) → List ℕ → Type 0
 IsWatched (Ok ended) seen most way text = IsRead ended seen way text
 IsWatched (Err (stops.Bad fault)) seen most way text = first_fault_by way text ≡ Some fault
+IsWatched (Err stops.NoHeader) seen most way text = ⊥
 IsWatched (Err stops.TooLong) seen most way text = 2 ^ 40 < length text
 IsWatched (Err stops.TooMany) seen most way text = most ≤ length (events_by way text)
 IsWatched (Err stops.WriteFault) seen most way text = Unit {0}

@@ -11,6 +11,7 @@ use crate::header::{Begun, Behind, Header};
 use crate::laws::faults_stay;
 use crate::parts::{sections_of, variables_of};
 use crate::piece::{read_piece, read_rest};
+use crate::preface::PrefaceReader;
 use crate::stop::ScopeStop;
 use fsb_io::{Failed, Source};
 use std::alloc::{AllocError, Global};
@@ -25,7 +26,8 @@ const HEADER_RULES: HeaderRules = HeaderRules {
 };
 
 /// Begins the source under the name and reads up to the end of its header, in pieces that fit the room. The piece in
-/// which the header ends is kept. A fault is told once the source was read to its end.
+/// which the header ends is kept. A fault is told once the source was read to its end. A text that is no dump is read no
+/// further than the piece that shows it.
 pub fn read_header<S: Source>(
     alloc: Global,
     name: &str,
@@ -64,6 +66,7 @@ fn read_left<S: Source>(alloc: Global, source: &mut S, room: &mut [u8]) -> Resul
     ensures holds_stays { IsTrue S.tells → S.holds source.new ≡ S.holds source.old }
 {
     let mut reader = HeaderReader::new(alloc, HEADER_RULES)?;
+    let mut preface = PrefaceReader::new();
     let mut taken: u64 = 0;
     'pieces: loop {
         let count = read_piece(source, taken, room)?;
@@ -71,6 +74,10 @@ fn read_left<S: Source>(alloc: Global, source: &mut S, room: &mut [u8]) -> Resul
             return at_end(alloc, &mut reader, taken);
         }
         taken += count as u64;
+        preface.take(&room[..count]);
+        if preface.is_too_long() {
+            return Err(ScopeStop::NoHeader);
+        }
         match feed(&mut reader, &room[..count]) {
             Ok(None) => {}
             Ok(Some(used)) => return inside(alloc, reader, &room[used..count], taken),

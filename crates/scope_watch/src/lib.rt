@@ -25,6 +25,7 @@ mod header;
 mod laws;
 mod parts;
 mod piece;
+mod preface;
 mod stop;
 mod values;
 mod watcher;

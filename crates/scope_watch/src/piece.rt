@@ -9,6 +9,9 @@ use fsb_io::Source;
 /// The longest dump, in bytes.
 const DUMP_LIMIT: u64 = 1 << 40;
 
+/// The most bytes that are read at once.
+const PIECE_LIMIT: u64 = 1 << 20;
+
 /// Reads once into the front of the room, where so many bytes were taken before. Answers how many came; 0 is the end.
 /// It takes one byte past the limit at most.
 pub(crate) fn read_piece<S: Source>(
@@ -19,6 +22,7 @@ pub(crate) fn read_piece<S: Source>(
     requires some { 0 < length room.old }
     requires few { taken ≤ 2 ^ 40 }
     ensures len { length room.new ≡ length room.old }
+    ensures late { result ≡ Err ScopeStop.TooLong → 2 ^ 40 < taken + 2 ^ 20 }
     ensures within { IfOk result (λ count. count ≤ length room.old) }
     ensures few { IfOk result (λ count. taken + count ≤ 2 ^ 40) }
     ensures bytes { IsTrue S.tells →
@@ -33,7 +37,8 @@ pub(crate) fn read_piece<S: Source>(
     ensures name_stays { IsTrue S.tells → S.begun_as source.new ≡ S.begun_as source.old }
     ensures holds_stays { IsTrue S.tells → S.holds source.new ≡ S.holds source.old }
 {
-    let most = ((DUMP_LIMIT - taken).min(room.len() as u64 - 1) + 1) as usize;
+    let room_len = PIECE_LIMIT.min(room.len() as u64);
+    let most = ((DUMP_LIMIT - taken).min(room_len - 1) + 1) as usize;
     let Ok(count) = source.read(&mut room[..most]) else {
         return Err(ScopeStop::ReadFault);
     };

@@ -6,6 +6,8 @@ use vcd_grammar::VcdFault;
 pub enum ScopeStop {
     /// The file is no dump; this is its first fault.
     Bad(VcdFault),
+    /// The file is no dump: no `$` begins a word among its first 2^20 bytes.
+    NoHeader,
     /// The source failed in this call.
     ReadFault,
     /// The file has more than 2^40 bytes.
