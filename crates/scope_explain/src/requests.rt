@@ -1,6 +1,6 @@
 //! The requests of the samples of a part.
 
-ghost use Rattle.std.specs.Prelude.{◌≡◌, ◌<◌, ◌≤◌, ◌^◌, ◌+◌, ◌×◌, [], ◌∷◌, ◌++◌, IfOk, OnOk};
+ghost use Rattle.std.specs.Prelude.{◌≡◌, ◌<◌, ◌≤◌, ◌^◌, ◌+◌, [], ◌∷◌, ◌++◌, IfOk, OnOk};
 ghost use Rattle.fsb_trace.specs.At.{Trace};
 ghost use Rattle.fsb_laws.specs.Orderly.{Orderly};
 ghost use Rattle.fsb_recent.specs.Recent.{AreAround};
