@@ -80,7 +80,8 @@ fn put_line(text: &mut Vec<u8>, widths: &[usize; 9], line: &[String]) -> Result<
         text.extend_from_slice(cell.as_bytes())?;
         gap = width.saturating_sub(cell.len()).saturating_add(2);
     }
-    text.push(b'\n')
+    text.push(b'\n')?;
+    Ok(())
 }
 
 fn put_spaces(text: &mut Vec<u8>, count: usize) -> Result<(), AllocError> {

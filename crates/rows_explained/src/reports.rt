@@ -228,7 +228,6 @@ const AROUND: [Row; 5] = [
   the requests in flight:
     first  agent  kind  address  snoop  response  outcome  end  reply
     2      0      read  40       -      -         -        -    -
-
 ",
     ),
     (
@@ -240,7 +239,6 @@ const AROUND: [Row; 5] = [
   the requests in flight:
     first  agent  kind  address  snoop  response  outcome  end  reply
     5      0      -     -        -      -         -        -    -
-
 ",
     ),
     (
@@ -255,7 +253,6 @@ const AROUND: [Row; 5] = [
   the requests in flight:
     first  agent  kind  address  snoop  response  outcome  end  reply
     8      0      read  40       -      -         -        -    -
-
 ",
     ),
     (
@@ -273,7 +270,6 @@ const AROUND: [Row; 5] = [
     4      0      read        1000     8 DEFER   10        deferred  10   23
     23     p      reply       ID 0     27        29        replied   -    -
     26     1      invalidate  1000     30 HIT    -         -         -    -
-
 ",
     ),
     (
@@ -291,7 +287,6 @@ const AROUND: [Row; 5] = [
   the requests in flight:
     first  agent  kind        address  snoop     response  outcome   end  reply
     24     1      invalidate  1000     28 HIT    31        granted   -    -
-
 ",
     ),
 ];
@@ -352,7 +347,6 @@ const LAST_LOADS: &str = "
     110    0      read  40       114    116       granted  119  -
     122    0      read  40       126    128       granted  131  -
     134    0      read  40       138    140       granted  143  -
-
 ";
 
 #[test]
