@@ -16,7 +16,7 @@ ghost use Rattle.fsb_laws.specs.OneMore.{cancels, responds};
 ghost use Rattle.fsb_laws.specs.Orderly.{Orderly};
 ghost use Rattle.fsb_laws.specs.Progress.{response_count, transfer_of};
 ghost use Rattle.fsb_heads.specs.Heads.{snooped_count, value_before};
-ghost use Rattle.fsb_owner_feed.specs.Table.{IsRowOf};
+ghost use Rattle.fsb_owner_feed.specs.Table.{IsRowOf, Stands as TableStands, fed as fed_to};
 ghost use Rattle.fsb_why.specs.Explains.{Explains, Tells};
 ghost use Rattle.fsb_why_queue.specs.Data.{SaysMover, SaysTransfer, SaysUnderWay};
 ghost use Rattle.fsb_why_queue.specs.Next.{IsNext, SaysAsked, SaysNext};
@@ -221,6 +221,14 @@ impl Queue {
             ended: None,
             answered: None,
         }
+    }
+
+    /// The table of the requests of the samples fed.
+    pub fn table(&self) -> &Table
+        ensures stands { (h : Trace) → Stands self.now h → TableStands result.now h }
+        ensures fed { fed_to result.now ≡ fed self.now }
+    {
+        &self.table
     }
 
     /// The request that is snooped next, with the sample of this clock.

@@ -4,8 +4,8 @@ use crate::dumps::{report, written};
 use fsb_io::Memory;
 use fsb_signal::Sample;
 use rows_store::{
-    ADS, AERR, BNR, BPRI, BREQ0, BREQ1, Blur, CLEAR, Clock, DBSY, DRDY, HIT, HITM,
-    LEAST_RULE_NAMED, LOCK, REQUEST_SPACING_BROKEN, REQUEST_WITHOUT_WINNER, RS0, RS1, RS2, TRDY,
+    ADS, AERR, BNR, BPRI, BREQ0, BREQ1, Blur, CANCELLED_BY_ADDRESS_ERROR, CLEAR, Clock, DBSY,
+    DEFERRED_AND_REPLIED, DRDY, HIT, HITM, LEAST_RULE_NAMED, LOCK, REQUEST_SPACING_BROKEN, REQUEST_WITHOUT_WINNER, RS0, RS1, RS2, TRDY,
     blurred, sample,
 };
 use std::alloc::{AllocError, Global};
@@ -215,6 +215,145 @@ fn reports_say_why_an_answer_breaks_a_rule(rt: HostRuntime) {
     for (at, row) in ANSWERED.iter().enumerate() {
         assert!(rt; matches!(is_said(rt.alloc(), row), Ok(true)), "row {at}");
     }
+}
+
+/// What a report has of the requests around the broken clock, as it stands there.
+const AROUND: [Row; 5] = [
+    (
+        0,
+        &READ,
+        5,
+        (HIT, 0, 0),
+        "
+  the requests in flight:
+    first  agent  kind  address  snoop  response  outcome  end  reply
+    2      0      read  40       -      -         -        -    -
+",
+    ),
+    (
+        3,
+        &READ,
+        3,
+        (BREQ0, 0x2, 0x2),
+        "
+  the requests in flight:
+    first  agent  kind  address  snoop  response  outcome  end  reply
+    5      0      -     -        -      -         -        -    -
+",
+    ),
+    (
+        0,
+        &CANCELLED_BY_ADDRESS_ERROR,
+        10,
+        (AERR, 0, 0),
+        "
+  the last requests that were over before:
+    first  agent  kind  address  snoop  response  outcome  end  reply
+    2      0      read  40       -      -         aerr     -    -
+  the requests in flight:
+    first  agent  kind  address  snoop  response  outcome  end  reply
+    8      0      read  40       -      -         -        -    -
+",
+    ),
+    (
+        2,
+        &DEFERRED_AND_REPLIED,
+        29,
+        (AERR | DBSY | DRDY, 0, 0),
+        "
+  the last requests that were over before:
+    first  agent  kind        address  snoop     response  outcome   end  reply
+    7      1      invalidate  1000     11 DEFER  13        retried   13   -
+    16     1      invalidate  1000     20 DEFER  22        retried   22   -
+  the requests in flight:
+    first  agent  kind        address  snoop     response  outcome   end  reply
+    4      0      read        1000     8 DEFER   10        deferred  10   23
+    23     p      reply       ID 0     27        29        replied   -    -
+    26     1      invalidate  1000     30 HIT    -         -         -    -
+",
+    ),
+    (
+        0,
+        &DEFERRED_AND_REPLIED,
+        32,
+        (AERR | DBSY | DRDY, 0, 0),
+        "
+  the last requests that were over before:
+    first  agent  kind        address  snoop     response  outcome   end  reply
+    5      1      invalidate  1000     9 DEFER   11        retried   11   -
+    14     1      invalidate  1000     18 DEFER  20        retried   20   -
+    2      0      read        1000     6 DEFER   8         deferred  8    21
+    21     p      reply       ID 0     25        27        replied   30   -
+  the requests in flight:
+    first  agent  kind        address  snoop     response  outcome   end  reply
+    24     1      invalidate  1000     28 HIT    31        granted   -    -
+",
+    ),
+];
+
+/// Whether the report of the row's dump has these lines.
+fn is_shown(alloc: Global, row: &Row) -> Result<bool, Memory> {
+    let samples = waveform(alloc, row)?;
+    let dump = written(alloc, &samples, false)?;
+    let said = report(alloc, dump.holds(), &["check", "x.vcd"])?;
+    Ok(said.contains(row.4.replace(alloc, "\n  ", " ")?.as_str()))
+}
+
+#[test]
+fn reports_show_the_requests_around_the_clock(rt: HostRuntime) {
+    for (at, row) in AROUND.iter().enumerate() {
+        assert!(rt; matches!(is_shown(rt.alloc(), row), Ok(true)), "row {at}");
+    }
+}
+
+/// A read of agent 0 with its data, and nothing behind it.
+const LOAD: [Clock; 12] = [
+    (BREQ0, 0, 0),
+    (BREQ0, 0, 0),
+    (BREQ0 | ADS, 0x6, 0x8),
+    (0, 0x2, 0x2),
+    (0, 0, 0),
+    (0, 0, 0),
+    (0, 0, 0),
+    (0, 0, 0),
+    (RS0 | RS1 | RS2 | DBSY | DRDY, 0, 0),
+    (DBSY | DRDY, 0, 0),
+    (DBSY | DRDY, 0, 0),
+    (DRDY, 0, 0),
+];
+
+/// The report of twelve such reads, one after the other, and a wrong clock behind them.
+fn report_of_loads(alloc: Global) -> Result<String, Memory> {
+    let mut samples = Vec::new(alloc);
+    for clock in 0..144 {
+        samples.push(sample(LOAD[clock % 12]))?;
+    }
+    samples.push(sample((AERR, 0, 0)))?;
+    let dump = written(alloc, &samples, false)?;
+    report(alloc, dump.holds(), &["check", "x.vcd"])
+}
+
+/// The last ten of them; none is in flight.
+const LAST_LOADS: &str = "
+  the last requests that were over before:
+    first  agent  kind  address  snoop  response  outcome  end  reply
+    26     0      read  40       30     32        granted  35   -
+    38     0      read  40       42     44        granted  47   -
+    50     0      read  40       54     56        granted  59   -
+    62     0      read  40       66     68        granted  71   -
+    74     0      read  40       78     80        granted  83   -
+    86     0      read  40       90     92        granted  95   -
+    98     0      read  40       102    104       granted  107  -
+    110    0      read  40       114    116       granted  119  -
+    122    0      read  40       126    128       granted  131  -
+    134    0      read  40       138    140       granted  143  -
+";
+
+#[test]
+fn reports_show_the_last_ten_requests(rt: HostRuntime) {
+    let text = report_of_loads(rt.alloc()).expect(&rt, "memory");
+    let wanted = LAST_LOADS.replace(rt.alloc(), "\n  ", " ").expect(&rt, "memory");
+    assert!(rt; text.contains(wanted.as_str()), "{text}");
 }
 
 /// Whether the report of these two samples says this.

@@ -3,7 +3,7 @@
 use arrayvec::ArrayVec;
 use scope_check::{Begin, Bound, Part, Verdict};
 use scope_parts::{End, PartFound, PartsFound, Plan};
-use scope_report::check_text;
+use scope_report::{Grounds, check_text};
 use scope_ring::Ring;
 use scope_wiring::{Choice, Home, Wiring};
 use std::alloc::{AllocError, Global};
@@ -302,7 +302,7 @@ fn report(alloc: Global, found: &PartsFound, comment: &[&str]) -> Result<String,
         None,
         None,
         &ring,
-        &[],
+        &Grounds::none(alloc),
     )?;
     String::from_str(alloc, std::str::from_utf8(&text).unwrap_or("no text"))
 }

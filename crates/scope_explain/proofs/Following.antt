@@ -17,7 +17,9 @@ use Rattle.fsb_reasons.specs.declared.reason.Reason.{Reason}
 use Rattle.scope_explain.specs.Reasons.{AreReasonsOf, phase_numbers}
 use Rattle.scope_explain.specs.declared.explaining.Explaining.{Explaining}
 use Rattle.scope_explain.specs.Explained.{IsExplainedAt}
-use Rattle.scope_explain.specs.Standing.{Follows, StandsWith}
+use Rattle.scope_explain.specs.Standing.{AreFoundAt, Follows, StandsWith}
+use Rattle.fsb_recent.specs.declared.recent.Around.{Around}
+use Rattle.fsb_recent.specs.Recent.{AreAround}
 
 as_broken-some : (p : Option (ℕ × ℕ)) (b : Broken) → Some b ≡ as_broken p → p ≡ Some (b.clock, b.rule)
 unfolding as_broken
@@ -54,6 +56,10 @@ module _ (m : Marks) (w : Trace) (x : Sample) where
   whole c e =
       ap (λ n. take n (w ++ x ∷ [])) (ap (λ n. n + 1) e ∙ sym (one_more w x).size) ∙ take-length (w ++ x ∷ [])
 
+  all_before : (c : ℕ) → c ≡ length w → take c (w ++ x ∷ []) ≡ w
+  all_before c e =
+      ap (λ n. take n (w ++ x ∷ [])) e ∙ take-append-le (length w) w (x ∷ []) (omega arith) ∙ take-length w
+
   -- where the checker tells nothing, no rule is broken
   pub none-broken : (o : Option Broken) → is_some o ≡ false → o ≡ as_broken (verdict m (w ++ x ∷ []))
       → verdict m (w ++ x ∷ []) ≡ None
@@ -61,42 +67,44 @@ module _ (m : Marks) (w : Trace) (x : Sample) where
   none-broken (Some b) off e = absurd (let no : ⊥ = cc in no)
 
   -- the reasons of the last clock are those of the first broken one
-  pub now-explained : (b : Broken) (reasons : List Reason) → verdict m w ≡ None
-      → Some b ≡ as_broken (verdict m (w ++ x ∷ [])) → AreReasonsOf phase_numbers m (w ++ x ∷ []) (length w) reasons
-      → IsExplainedAt b.clock b.rule reasons m (w ++ x ∷ [])
-  now-explained b reasons none e are =
+  pub now-explained : (b : Broken) (reasons : List Reason) (around : Around) → verdict m w ≡ None
+      → Some b ≡ as_broken (verdict m (w ++ x ∷ [])) → AreFoundAt m (w ++ x ∷ []) w reasons around
+      → IsExplainedAt b.clock b.rule reasons around m (w ++ x ∷ [])
+  now-explained b reasons around none e are =
       let found = as_broken-some (verdict m (w ++ x ∷ [])) b e in
       let clock = last b.clock b.rule none found in
       let here : AreReasonsOf phase_numbers m (w ++ x ∷ []) b.clock reasons =
-      subst (λ n. AreReasonsOf phase_numbers m (w ++ x ∷ []) n reasons) (sym clock) are in
+      subst (λ n. AreReasonsOf phase_numbers m (w ++ x ∷ []) n reasons) (sym clock) are.reasons_are in
       record {
         found = found;
         reasons_are = subst (λ v. AreReasonsOf phase_numbers m v b.clock reasons) (sym (whole b.clock clock)) here;
+        around_are = subst (AreAround around) (sym (all_before b.clock clock)) are.around_are;
       }
 
   -- what is said of the first broken clock stays
-  pub still-explained : (c j : ℕ) (reasons : List Reason) → IsExplainedAt c j reasons m w
-      → IsExplainedAt c j reasons m (w ++ x ∷ [])
-  still-explained c j reasons s =
+  pub still-explained : (c j : ℕ) (reasons : List Reason) (around : Around) → IsExplainedAt c j reasons around m w
+      → IsExplainedAt c j reasons around m (w ++ x ∷ [])
+  still-explained c j reasons around s =
       let low : c < length w = (verdict-least m w c j s.found).0 in
       let room : c + 1 ≤ length w = omega (arith, low) in
       record {
         found = kept c j s.found;
         reasons_are = subst (λ v. AreReasonsOf phase_numbers m v c reasons)
             (sym (take-append-le (c + 1) w (x ∷ []) room)) s.reasons_are;
+        around_are = subst (AreAround around) (sym (take-append-le c w (x ∷ []) (omega (arith, low)))) s.around_are;
       }
 
   -- the same of what a machine has found
   pub found-now : (o : Option Broken) (k : Explaining) → is_some o ≡ true → verdict m w ≡ None
-      → o ≡ as_broken (verdict m (w ++ x ∷ [])) → AreReasonsOf phase_numbers m (w ++ x ∷ []) (length w) k.reasons.items
+      → o ≡ as_broken (verdict m (w ++ x ∷ [])) → AreFoundAt m (w ++ x ∷ []) w k.reasons.items k.around
       → StandsWith o k m (w ++ x ∷ [])
   found-now None k on none e are = absurd (let no : ⊥ = cc in no)
-  found-now (Some b) k on none e are = now-explained b k.reasons.items none e are
+  found-now (Some b) k on none e are = now-explained b k.reasons.items k.around none e are
 
   pub found-before : (o : Option Broken) (k : Explaining) → is_some o ≡ true → StandsWith o k m w
       → StandsWith o k m (w ++ x ∷ [])
   found-before None k on s = absurd (let no : ⊥ = cc in no)
-  found-before (Some b) k on s = still-explained b.clock b.rule k.reasons.items s
+  found-before (Some b) k on s = still-explained b.clock b.rule k.reasons.items k.around s
 
   pub found-none : (o : Option Broken) (k : Explaining) → is_some o ≡ false → Follows k m (w ++ x ∷ [])
       → StandsWith o k m (w ++ x ∷ [])

@@ -1,3 +1,4 @@
+pub mod Requests
 pub mod Reasons
 pub mod Explained
 pub mod Standing

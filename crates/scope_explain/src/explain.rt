@@ -69,7 +69,7 @@ fn explain_values<S: Source>(
     ensures later { S.faults source.old ≤ S.faults source.new }
     ensures holds_stays { IsTrue S.tells → S.holds source.new ≡ S.holds source.old }
 {
-    let mut explainer = Explainer::new(alloc, part, marks);
+    let mut explainer = Explainer::new(alloc, part, marks)?;
     watch_values(alloc, source, room, behind, wires, sampling, &mut explainer)?;
     Ok(explainer.explaining.explained())
 }

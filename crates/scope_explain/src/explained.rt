@@ -9,6 +9,7 @@ ghost use Rattle.fsb_why.specs.Look.{Stands as WhyStands};
 ghost use Rattle.fsb_why_queue.specs.Queue.{Stands as QueueStands, fed};
 ghost use Rattle.scope_explain.specs.Reasons.{AreReasonsOf, SaysWhy, is_answered};
 
+use fsb_recent::Around;
 use fsb_reasons::{Reason, reasons_name_broken_rules};
 use fsb_signal::Sample;
 use fsb_why::Why;
@@ -24,6 +25,8 @@ pub struct Explained {
     pub rule: u8,
     /// A reason for each rule that is broken there and `is_answered`, in the order of the rules.
     pub reasons: Vec<Reason>,
+    /// The requests in flight after the clocks before it, and the last ten that were over in them.
+    pub around: Around,
 }
 
 /// Whether reasons are found for the rule of this number.

@@ -1,13 +1,13 @@
 //! The watcher that explains what it is shown.
 
-ghost use Rattle.std.specs.Prelude.{◌≡◌, []};
+ghost use Rattle.std.specs.Prelude.{◌≡◌, [], IfOk};
 ghost use Rattle.scope_explain.specs.Standing.{HasExplained};
 
 use crate::explaining::Explaining;
 use fsb_signal::Marks;
 use scope_check::{Part, Parting, TooMany};
 use scope_watch::{EventWatcher, WatchStop};
-use std::alloc::Global;
+use std::alloc::{AllocError, Global};
 use vcd_course::CourseEvent;
 
 /// Follows the clocks of a part of a dump with these marks.
@@ -21,17 +21,18 @@ pub(crate) struct Explainer {
 
 impl Explainer {
     /// Before the first event.
-    pub(crate) fn new(alloc: Global, part: Part, marks: Marks) -> Explainer
-        ensures part { result.part ≡ part }
-        ensures marks { result.marks ≡ marks }
-        ensures none { HasExplained result result [] }
+    pub(crate) fn new(alloc: Global, part: Part, marks: Marks) -> Result<Explainer, AllocError>
+        ensures part { IfOk result (λ explainer. explainer.part ≡ part) }
+        ensures marks { IfOk result (λ explainer. explainer.marks ≡ marks) }
+        ensures none { IfOk result (λ explainer. HasExplained explainer explainer []) }
     {
-        Explainer {
+        let explaining = Explaining::new(alloc, marks)?;
+        Ok(Explainer {
             parting: Parting::new(part),
-            explaining: Explaining::new(alloc, marks),
+            explaining,
             part,
             marks,
-        }
+        })
     }
 }
 

@@ -1,21 +1,27 @@
 //! The machine that follows the samples of a part.
 
-ghost use Rattle.std.specs.Prelude.{◌≡◌, ◌≢◌, ◌<◌, ◌≤◌, ◌++◌, ◌∷◌, [], Err, OnOk, length};
+ghost use Rattle.std.specs.Prelude.{◌≡◌, ◌≢◌, ◌<◌, ◌≤◌, ◌^◌, ◌++◌, ◌∷◌, [], Err, IfOk, OnOk, length};
 ghost use Rattle.fsb_signal.specs.declared.marks.Marks.{Marks};
 ghost use Rattle.fsb_trace.specs.At.{Trace};
+ghost use Rattle.fsb_laws.specs.Orderly.{Orderly};
+ghost use Rattle.fsb_why.specs.Look.{Stands as WhyStands};
+ghost use Rattle.fsb_why_queue.specs.Queue.{fed};
 ghost use Rattle.scope_check.specs.Bounds.{most_counted};
 ghost use Rattle.scope_explain.specs.Explained.{IsExplainedBy};
-ghost use Rattle.scope_explain.specs.Standing.{Follows, Stands};
+ghost use Rattle.scope_explain.specs.Requests.{Stands as RequestsStand};
+ghost use Rattle.scope_explain.specs.Standing.{AreFoundAt, Follows, Stands};
 
 use crate::explained::{Explained, put_reasons};
+use crate::requests::Requests;
 use fsb_io::Memory;
 use fsb_reasons::Reason;
+use fsb_recent::Around;
 use fsb_rules::{Broken, Checker};
 use fsb_signal::{Marks, Sample};
 use fsb_why::Why;
-use fsb_why_queue::{Queue, unbroken_traces_are_orderly};
+use fsb_why_queue::unbroken_traces_are_orderly;
 use scope_watch::WatchStop;
-use std::alloc::Global;
+use std::alloc::{AllocError, Global};
 
 /// How many clocks of a part are followed, at most.
 const MOST: u32 = 4_294_967_280;
@@ -30,26 +36,50 @@ const RULES: [u8; 20] = [
 pub(crate) struct Explaining {
     checker: Checker,
     why: Why,
-    queue: Queue,
+    requests: Requests,
     /// How many samples came up to the broken rule.
     count: u32,
     found: Option<Broken>,
     reasons: Vec<Reason>,
+    around: Around,
+    alloc: Global,
+}
+
+// Puts the reasons of the clock of this sample, which breaks a rule, and the requests around it.
+fn put_found(
+    alloc: Global,
+    reasons: &mut Vec<Reason>,
+    around: &mut Around,
+    why: &Why,
+    requests: &Requests,
+    sample: &Sample,
+) -> Result<(), AllocError>
+    requires { fed requests.now.queue < 2 ^ 32 }
+    ensures { (m : Marks) (h : Trace) → WhyStands why.now m (h ++ sample.now ∷ []) →
+        RequestsStand requests.now h → Orderly h → reasons.old.items ≡ [] →
+        OnOk result (AreFoundAt m (h ++ sample.now ∷ []) h reasons.new.items around.new) }
+{
+    put_reasons(reasons, &RULES, why, &requests.queue, sample)?;
+    *around = requests.around(alloc)?;
+    Ok(())
 }
 
 impl Explaining {
     /// Before the first sample of a part of a dump with these marks.
-    pub(crate) fn new(alloc: Global, marks: Marks) -> Explaining
-        ensures { Stands result marks [] }
+    pub(crate) fn new(alloc: Global, marks: Marks) -> Result<Explaining, AllocError>
+        ensures { IfOk result (λ explaining. Stands explaining marks []) }
     {
-        Explaining {
+        let requests = Requests::new(alloc)?;
+        Ok(Explaining {
             checker: Checker::new(marks),
             why: Why::new(marks),
-            queue: Queue::new(alloc),
+            requests,
             count: 0,
             found: None,
             reasons: Vec::new(alloc),
-        }
+            around: Around::none(alloc),
+            alloc,
+        })
     }
 
     /// Takes the next sample. Behind a broken rule nothing is done.
@@ -84,12 +114,19 @@ impl Explaining {
         self.found = self.checker.feed(sample);
         self.count += 1;
         if self.found.is_some() {
-            match put_reasons(&mut self.reasons, &RULES, &self.why, &self.queue, sample) {
+            match put_found(
+                self.alloc,
+                &mut self.reasons,
+                &mut self.around,
+                &self.why,
+                &self.requests,
+                sample,
+            ) {
                 Ok(()) => Ok(()),
                 Err(_) => Err(WatchStop::Memory),
             }
         } else {
-            match self.queue.feed(sample) {
+            match self.requests.feed(sample) {
                 Ok(()) => Ok(()),
                 Err(Memory) => Err(WatchStop::Memory),
             }
@@ -106,6 +143,7 @@ impl Explaining {
                 clock: broken.clock,
                 rule: broken.rule,
                 reasons: self.reasons,
+                around: self.around,
             }),
         }
     }

@@ -3,13 +3,12 @@
 use crate::lines::put_home;
 use crate::notices::{put_cut_comment, put_limit_behind, put_lost_levels, put_traffic};
 use crate::parts::{put_behind, put_holes, put_parts, put_starts};
-use crate::reasons::put_reasons;
+use crate::reasons::{Grounds, put_reasons};
 use crate::rules::{put_gist, title_of};
 use crate::scale::time_of;
 use crate::scopes::Heading;
 use crate::text::{put, put_bytes, put_count, put_listed, put_number};
 use crate::verdict::{put_verdict, verdict_over};
-use reason_texts::Sentence;
 use scope_check::{Begin, Bound, Verdict};
 use scope_draw::drawing;
 use scope_parts::PartsFound;
@@ -25,8 +24,9 @@ use vcd_scan::EarlyEnd;
 const DATA: u8 = 19;
 
 /// What was judged of a file, and found: the scope and the lines that are not there, the verdict, the reasons of the first
-/// broken clock, and of the first broken rule what it asks, and the lines around the broken clock, which the ring has kept; then the parts, where there are
-/// several, and what of the file was not judged, as the end of one that ends early.
+/// broken clock, of the first broken rule what it asks, the requests around that clock, and the lines around it, which the
+/// ring has kept; then the parts, where there are several, and what of the file was not judged, as the end of one that ends
+/// early.
 pub fn check_text(
     alloc: Global,
     file: &str,
@@ -38,14 +38,14 @@ pub fn check_text(
     early_end: Option<EarlyEnd>,
     limit: Option<u64>,
     last: &Ring,
-    reasons: &[Sentence],
+    grounds: &Grounds,
 ) -> Result<Vec<u8>, AllocError> {
     let scale = scale_of(alloc, remarks)?;
     let heading = Heading::new(alloc, variables)?;
     let settled = settled_lines(alloc, &choice.lines, &choice.without)?;
     let mut text = Vec::new(alloc);
     put_wires(&mut text, alloc, file, variables, choice, wiring)?;
-    put_found(&mut text, alloc, found, scale, last, reasons)?;
+    put_found(&mut text, alloc, found, scale, last, grounds)?;
     put_unread_data(&mut text, wiring)?;
     put_judged(&mut text, alloc, found, scale)?;
     put_early_end(&mut text, early_end)?;
@@ -115,7 +115,7 @@ fn put_found(
     found: &PartsFound,
     scale: Option<Scale>,
     last: &Ring,
-    reasons: &[Sentence],
+    grounds: &Grounds,
 ) -> Result<(), AllocError> {
     match verdict_over(found) {
         Verdict::Nothing => put_nothing(text, alloc, found, last),
@@ -124,9 +124,10 @@ fn put_found(
             let time = time_of(alloc, stamp, scale)?;
             put_verdict(text, found, &time, title_of(rule))?;
             put(text, "\n")?;
-            put_reasons(text, alloc, rule, reasons)?;
+            put_reasons(text, alloc, rule, &grounds.sentences)?;
             put_rule(text, rule)?;
             put_traffic(text, found, last)?;
+            grounds.put_requests(text, alloc)?;
             put_drawing(text, alloc, clock, last)
         }
     }

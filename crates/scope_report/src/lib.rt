@@ -13,6 +13,7 @@ pub use check::check_text;
 pub use ending::{Ending, ending_of, status};
 pub use fault::{fault_text, limit_text, unread_text, unscaled_text};
 pub use lines::lines_text;
+pub use reasons::Grounds;
 pub use refusal::refusal_text;
 pub use rules::{rule_list, rule_text};
 pub use verdict::{put_verdict, verdict_over};

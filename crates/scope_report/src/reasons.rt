@@ -2,11 +2,40 @@
 
 use crate::rules::title_of;
 use crate::text::put;
+use fsb_recent::Around;
 use reason_texts::Sentence;
+use request_texts::put_around;
 use std::alloc::{AllocError, Global};
 
 /// How many columns a line of a sentence has, at most, where its words are not longer.
 const COLUMNS: usize = 90;
+
+/// Why rules are broken at the first broken clock, as far as that is known.
+#[derive(Debug, Drop)]
+pub struct Grounds {
+    /// A sentence for each of the rules that is explained, the least rule's first; their clocks are counted as in the dump.
+    pub sentences: Vec<Sentence>,
+    /// The requests around the clock.
+    pub around: Around,
+    /// How many clocks of the dump come before those that the rows of the requests count.
+    pub before: u32,
+}
+
+impl Grounds {
+    /// Nothing is known. It takes no memory.
+    pub fn none(alloc: Global) -> Grounds {
+        Grounds {
+            sentences: Vec::new(alloc),
+            around: Around::none(alloc),
+            before: 0,
+        }
+    }
+
+    /// Appends the requests around the clock, if there are any.
+    pub(crate) fn put_requests(&self, text: &mut Vec<u8>, alloc: Global) -> Result<(), AllocError> {
+        put_around(text, alloc, &self.around, self.before)
+    }
+}
 
 /// Appends a sentence for each rule that is broken at the clock, of which this is the least: its own is the first, and the
 /// others have their numbers and titles.

@@ -17,9 +17,8 @@ use crate::stopped::{PIECE, stop_answer};
 use crate::viewed::{Viewed, unviewed, viewed_as};
 use crate::views::{same_sampling, show_found};
 use fsb_io::{Sink, Source};
-use reason_texts::Sentence;
 use scope_parts::Plan;
-use scope_report::{Ending, check_text, ending_of, refusal_text, verdict_over};
+use scope_report::{Ending, Grounds, check_text, ending_of, refusal_text, verdict_over};
 use scope_tries::{broken_found, hints_of, hints_text, tries_of};
 use scope_watch::{Checked, Finding, Sampling, check_dump};
 use scope_wiring::Choice;
@@ -219,8 +218,8 @@ fn tried_answer<S: Source>(
 {
     let tries = again.tries;
     let found = &checked.finding;
-    let reasons = reasons_of(alloc, name, choice, plan.first, again.sampling, found, dump);
-    let mut answer = found_answer(alloc, name, choice, checked, &reasons)?;
+    let grounds = reasons_of(alloc, name, choice, plan.first, again.sampling, found, dump);
+    let mut answer = found_answer(alloc, name, choice, checked, &grounds)?;
     match (tries, broken_found(&checked.finding)) {
         (Some(edge), Some(broken)) => {
             let hints = hints_of(alloc, name, choice, plan, edge, broken, dump)?;
@@ -238,12 +237,12 @@ fn found_answer(
     name: &str,
     choice: &Choice,
     checked: &Checked,
-    reasons: &[Sentence],
+    grounds: &Grounds,
 ) -> Result<Answer, AllocError>
     ensures { IfOk result (λ answer. answer.ending ≡ ending_found checked.now.finding) }
 {
     let ending = ending_found(&checked.finding);
-    let (stream, text) = found_text(alloc, name, choice, checked, reasons)?;
+    let (stream, text) = found_text(alloc, name, choice, checked, grounds)?;
     Ok(Answer {
         ending,
         stream,
@@ -257,7 +256,7 @@ fn found_text(
     name: &str,
     choice: &Choice,
     checked: &Checked,
-    reasons: &[Sentence],
+    grounds: &Grounds,
 ) -> Result<(Stream, Vec<u8>), AllocError> {
     let header = &checked.header;
     match &checked.finding {
@@ -277,7 +276,7 @@ fn found_text(
                 told.early_end,
                 told.limit,
                 &told.last,
-                reasons,
+                grounds,
             )?;
             Ok((Stream::Out, text))
         }

@@ -1,4 +1,4 @@
-//! The reasons of a rejected dump, which is read once more for them.
+//! The reasons of a rejected dump and the requests around its broken clock, for which it is read once more.
 
 ghost use Rattle.std.specs.Prelude.{◌≡◌, ◌≤◌, IsTrue, length};
 
@@ -8,6 +8,7 @@ use reason_texts::{Sentence, counted_behind};
 use scope_check::{Part, Verdict};
 use scope_explain::{Explained, Explanation, explained_of};
 use scope_parts::PartFound;
+use scope_report::Grounds;
 use scope_watch::{Finding, Sampling};
 use scope_wiring::Choice;
 use std::alloc::{AllocError, Global};
@@ -27,7 +28,7 @@ pub(crate) fn sampling_again(is_again: bool, sampling: &Sampling) -> Option<Samp
     }
 }
 
-/// The reasons of the first broken clock of a dump in which this was found, counted as its clocks are. There are none where
+/// The reasons of the first broken clock of a dump in which this was found, and the requests around it. There are none where
 /// nothing is broken, the broken part begins later, so that it isn't known who had the bus last, or reading once more fails.
 pub(crate) fn reasons_of<S: Source>(
     alloc: Global,
@@ -37,16 +38,16 @@ pub(crate) fn reasons_of<S: Source>(
     sampling: Option<Sampling>,
     finding: &Finding,
     dump: &mut S,
-) -> Vec<Sentence>
+) -> Grounds
     requires { length name.now ≤ 4096 }
     ensures later { S.faults dump.old ≤ S.faults dump.new }
     ensures holds_stays { IsTrue S.tells → S.holds dump.new ≡ S.holds dump.old }
 {
     match (sampling, first_fault(finding)) {
         (Some(sampling), Some(fault)) => {
-            read_again(alloc, name, choice, part, sampling, &fault, dump).unwrap_or(Vec::new(alloc))
+            read_again(alloc, name, choice, part, sampling, &fault, dump).unwrap_or(Grounds::none(alloc))
         }
-        _ => Vec::new(alloc),
+        _ => Grounds::none(alloc),
     }
 }
 
@@ -70,27 +71,35 @@ fn read_again<S: Source>(
     sampling: Sampling,
     fault: &PartFound,
     dump: &mut S,
-) -> Result<Vec<Sentence>, AllocError>
+) -> Result<Grounds, AllocError>
     requires { length name.now ≤ 4096 }
     ensures later { S.faults dump.old ≤ S.faults dump.new }
     ensures holds_stays { IsTrue S.tells → S.holds dump.new ≡ S.holds dump.old }
 {
     let mut room = vec![in alloc; 0; PIECE]?;
     match explained_of(alloc, name, dump, &mut room, choice, part, sampling) {
-        Ok(Explanation::Broken(explained)) => sentences_of(alloc, &explained, fault),
-        _ => Ok(Vec::new(alloc)),
+        Ok(Explanation::Broken(explained)) => grounds_of(alloc, explained, fault),
+        _ => Ok(Grounds::none(alloc)),
     }
 }
 
-// The sentences of what was explained, if that is this broken clock.
-fn sentences_of(
+// What was explained, if that is of this broken clock.
+fn grounds_of(
     alloc: Global,
-    explained: &Explained,
+    explained: Explained,
     fault: &PartFound,
-) -> Result<Vec<Sentence>, AllocError> {
-    match clocks_before(explained, fault) {
-        None => Ok(Vec::new(alloc)),
-        Some(before) => sentences_behind(alloc, explained, before),
+) -> Result<Grounds, AllocError> {
+    match clocks_before(&explained, fault) {
+        None => Ok(Grounds::none(alloc)),
+        Some(before) => {
+            let sentences = sentences_behind(alloc, &explained, before)?;
+            let around = explained.around;
+            Ok(Grounds {
+                sentences,
+                around,
+                before,
+            })
+        }
     }
 }
 

@@ -6,7 +6,7 @@ pub returns-in-Ok-clause-stands : goal.returns-in-Ok-clause-stands
 returns-in-Ok-clause-stands c = λ m w f.
     let x = c.args.sample.now in
     found-now m w x c.feed-self.result _ (sym c.if-is_some.ensures) f.unbroken (c.feed-self.ensures.verdict m w f.checker)
-    (c.in-Ok.ensures m w (c.feed.ensures m w f.why) f.queue (c.unbroken_traces_are_orderly.ensures m w f.unbroken)
+    (c.in-Ok.ensures m w (c.feed.ensures m w f.why) f.requests (c.unbroken_traces_are_orderly.ensures m w f.unbroken)
     f.no_reasons)
 
 pub returns-in-Ok-feed-clause-stands : goal.returns-in-Ok-feed-clause-stands
@@ -20,7 +20,7 @@ returns-in-Ok-feed-clause-stands c = λ m w f.
       unbroken = unbroken;
       checker = c.feed-self.ensures.stands m w f.checker;
       why = c.feed.ensures m w f.why;
-      queue = c.in-Ok-feed.ensures.stands w f.queue (orderly m w f.unbroken) (orderly m (w ++ x ∷ []) unbroken);
+      requests = c.in-Ok-feed.ensures.stands w f.requests (orderly m w f.unbroken) (orderly m (w ++ x ∷ []) unbroken);
       count = omega (arith, f.count, length-append w (x ∷ []));
       few = omega (arith, more, f.few);
       no_reasons = f.no_reasons;

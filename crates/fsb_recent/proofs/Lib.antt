@@ -1,0 +1,2 @@
+mod FirstClocks
+mod Kept
