@@ -1,0 +1,4 @@
+mod Judging
+mod Places
+mod Passing
+mod Wholes
