@@ -1,5 +1,5 @@
 -- The verdict of coherence of samples, with one more.
-use Rattle.std.proofs.Common.{◌≡◌, ◌∙◌, ℕ, ◌+◌, ◌<◌, ◌≤◌, true, false, nat_lt, Option, Some, None, List, [], ◌∷◌, ◌++◌, length, refl, sym, ap, subst, arith, inl, inr}
+use Rattle.std.proofs.Common.{◌≡◌, ◌∙◌, ℕ, ◌+◌, ◌<◌, true, false, Option, Some, None, List, [], ◌∷◌, ◌++◌, length, refl, sym, ap, subst, arith, inl, inr}
 use Rattle.std.specs.Option.{is_some}
 use Rattle.std.proofs.lemmas.Bool.{cases_lt, le-ltb, lt-ltb}
 use Rattle.fsb_count.specs.Clocks.{first_where}
@@ -98,14 +98,14 @@ module _ (m : Marks) (first : List Joint) (w : Trace) (x : Sample) where
   pub no-phase : None ≡ as_broken (verdict m (w ++ x ∷ [])) → verdict m (w ++ x ∷ []) ≡ None
   no-phase e = as_broken-none (verdict m (w ++ x ∷ [])) e
 
-  pub owner-now : (b : OwnerBroken) → None ≡ as_broken (verdict m (w ++ x ∷ []))
+  pub owner-now : (b : OwnerBroken) → verdict m (w ++ x ∷ []) ≡ None
       → Some b ≡ as_owner_broken (ownership_verdict first (w ++ x ∷ []))
       → coherence_verdict m first (w ++ x ∷ []) ≡ Some (b.clock, b.rule)
-  owner-now b none e = alone (no-phase none) ∙ as_owner-some (ownership_verdict first (w ++ x ∷ [])) b e
+  owner-now b none e = alone none ∙ as_owner-some (ownership_verdict first (w ++ x ∷ [])) b e
 
-  pub none-now : None ≡ as_broken (verdict m (w ++ x ∷ [])) → None ≡ as_owner_broken (ownership_verdict first (w ++ x ∷ []))
+  pub none-now : verdict m (w ++ x ∷ []) ≡ None → None ≡ as_owner_broken (ownership_verdict first (w ++ x ∷ []))
       → coherence_verdict m first (w ++ x ∷ []) ≡ None
-  none-now none e = alone (no-phase none) ∙ as_owner-none (ownership_verdict first (w ++ x ∷ [])) e
+  none-now none e = alone none ∙ as_owner-none (ownership_verdict first (w ++ x ∷ [])) e
 
   -- what was found stays
   pub found-before : (o : Option Incoherent) (k : Cohering) → is_some o ≡ true → StandsWith o k m first w
@@ -124,3 +124,8 @@ pub told : (o : Option Incoherent) (k : Cohering) (m : Marks) (first : List Join
     → pair_of o ≡ coherence_verdict m first w
 told None k m first w s = sym s.unbroken
 told (Some b) k m first w s = sym s
+
+pub stands-none : (o : Option Incoherent) (k : Cohering) (m : Marks) (first : List Joint) (w : Trace) → o ≡ None
+    → Follows k m first w → StandsWith o k m first w
+stands-none None k m first w e f = f
+stands-none (Some b) k m first w e f = absurd (let no : ⊥ = cc in no)

@@ -1,5 +1,5 @@
 -- What the judge of a part stands for, with one more event.
-use Rattle.std.proofs.Common.{◌≡◌, ◌∙◌, ℕ, ◌+◌, ◌<◌, ◌||◌, not, Bool, true, false, List, [], ◌∷◌, ◌++◌, length, length-append, Option, None, refl, sym, ap, subst, arith}
+use Rattle.std.proofs.Common.{◌≡◌, ◌∙◌, ℕ, ◌+◌, ◌<◌, ◌≤◌, ◌||◌, not, Bool, true, false, List, [], ◌∷◌, ◌++◌, length, length-append, Option, None, Result, Ok, Err, OnOk, refl, sym, ap, subst, arith}
 use Rattle.fsb_signal.specs.declared.marks.Marks.{Marks}
 use Rattle.fsb_signal.specs.declared.sample.Sample.{Sample}
 use Rattle.fsb_trace.specs.At.{Trace}
@@ -18,6 +18,7 @@ use Rattle.scope_coherence.specs.declared.part.PartTold.{PartTold}
 use Rattle.scope_coherence.specs.Cohering.{Stands}
 use Rattle.scope_coherence.specs.Found.{first_joints, pair_of}
 use Rattle.scope_coherence.specs.Parting.{Counts, HasBegun, IsAt, IsNext, IsReady, PartStands, TellsPart}
+use Rattle.scope_check.proofs.Counting.{clocks-few}
 use Rattle.scope_coherence.proofs.Judging.{none-first}
 
 -- ---- the counts
@@ -30,13 +31,13 @@ clocks-more (Resumed u ∷ es) s t = clocks-more es s t
 
 clocks-hole : (es : List DumpEvent) (t : Option Stamp) → clocks_of (es ++ Hole t ∷ []) ≡ clocks_of es
 clocks-hole [] t = refl
-clocks-hole (Sampled x u ∷ es) t = ap (λ n. 1 + n) (clocks-hole es t)
+clocks-hole (Sampled x u ∷ es) t = let h = clocks-hole es t in omega (arith, h)
 clocks-hole (Hole u ∷ es) t = clocks-hole es t
 clocks-hole (Resumed u ∷ es) t = clocks-hole es t
 
 clocks-resumed : (es : List DumpEvent) (t : Option Stamp) → clocks_of (es ++ Resumed t ∷ []) ≡ clocks_of es
 clocks-resumed [] t = refl
-clocks-resumed (Sampled x u ∷ es) t = ap (λ n. 1 + n) (clocks-resumed es t)
+clocks-resumed (Sampled x u ∷ es) t = let h = clocks-resumed es t in omega (arith, h)
 clocks-resumed (Hole u ∷ es) t = clocks-resumed es t
 clocks-resumed (Resumed u ∷ es) t = clocks-resumed es t
 
@@ -77,6 +78,11 @@ counts-resumed start stopped es t c = record {
   start = c.start ∙ sym (clocks-resumed es t);
   stopped = sym (stopped-resumed es t);
 }
+
+-- so many clocks are not more than the events
+pub many-waited : (most start : ℕ) (stopped : Bool) (es : List DumpEvent) → most ≤ start → Counts start stopped es
+    → most ≤ length es
+many-waited most start stopped es full c = let few = clocks-few es in let size = c.start in omega (arith, full, size, few)
 
 -- ---- the judge
 
@@ -195,3 +201,25 @@ module _ (x : PartJudge) (t : PartTold) (p : Part) (m : Marks) (es before : List
               ∙ ap (λ v. coherence_verdict m (first_joints t.is_later) v) (sym empty);
         };
       }
+
+-- what a sample that was judged leaves, where the judge was ready for it
+pub fed-answer : {T E : Type 0} (r : Result T E) (x : PartJudge) (p : Part) (m : Marks) (after more : List DumpEvent)
+    (w : Trace) (y : Sample) (c : Cohering) (t : Option CourseStamp) → IsReady x p m after w
+    → OnOk r (Stands c m (first_joints (later_at p after)) (w ++ y ∷ []))
+    → OnOk r (PartStands (record x { cohering = c; stamp = t }) p m more after (w ++ y ∷ []))
+fed-answer (Ok u) x p m after more w y c t ready new = fed x p m after more w y c t ready new
+fed-answer (Err e) x p m after more w y c t ready new = tt
+
+none-at : (b : Bool) (x : PartJudge) (p : Part) (m : Marks) (before : List DumpEvent) → IsAt b x p m [] [] []
+    → IsAt b x p m [] before []
+none-at false x p m before h = h
+none-at true x p m before h = absurd (let some = h.0.some in omega (arith, some))
+
+-- before the first event the part may stand anywhere
+pub none-before : (x : PartJudge) (p : Part) (m : Marks) (before : List DumpEvent) → PartStands x p m [] [] []
+    → PartStands x p m [] before []
+none-before x p m before s = record {
+  begin = s.begin;
+  marked = s.marked;
+  at = none-at x.has_begun x p m before s.at;
+}

@@ -1,5 +1,5 @@
 -- Where a part stands in events does not change when more of them come.
-use Rattle.std.proofs.Common.{◌≡◌, ◌∙◌, ◌<◌, Bool, true, false, not, ℕ, List, [], ◌∷◌, ◌++◌, length, refl, sym, ap, subst, append_assoc, append-nil, arith}
+use Rattle.std.proofs.Common.{◌≡◌, ◌∙◌, ◌<◌, Bool, true, false, not, List, [], ◌∷◌, ◌++◌, length, refl, sym, ap, subst, append_assoc, append-nil, arith}
 use Rattle.fsb_signal.specs.declared.sample.Sample.{Sample}
 use Rattle.vcd_way.specs.Events.{DumpEvent, Sampled, Hole, Resumed, samples_among}
 use Rattle.scope_check.specs.declared.part.Part.{Part}
@@ -119,16 +119,16 @@ module _ {g : Parting} {p : Part} {es : List DumpEvent} {w : List Sample} (s : H
       (none-behind s.part s.behind (no-part none) s.parted.begun)
 
   -- it stays where it is
-  pub stays-there : {h : Parting} {e : DumpEvent} {v : List Sample} (n : HasParted h p (es ++ e ∷ []) v) → 0 < length w
+  pub stays-there : {h : Parting} (e : DumpEvent) {v : List Sample} (n : HasParted h p (es ++ e ∷ []) v) → 0 < length w
       → n.before ≡ s.before
-  stays-there {h} {e} {v} n some =
+  stays-there {h} e {v} n some =
       before-cases p es s.before s.part s.behind n.before n.part n.behind e s.parted n.parted
       (some-part w s.part s.samples_are some)
 
   -- or it begins behind all events so far
-  pub begins-there : {h : Parting} {e : DumpEvent} {v : List Sample} (n : HasParted h p (es ++ e ∷ []) v) → 0 < length v
+  pub begins-there : {h : Parting} (e : DumpEvent) {v : List Sample} (n : HasParted h p (es ++ e ∷ []) v) → 0 < length v
       → w ≡ [] → n.before ≡ es
-  begins-there {h} {e} {v} n some none =
+  begins-there {h} e {v} n some none =
       opened-cases p es s.before s.behind n.before n.part n.behind e
       (subst (λ l. IsParted p es s.before l s.behind) (no-part none) s.parted) n.parted
       (some-part v n.part n.samples_are some) (none-behind s.part s.behind (no-part none) s.parted.begun)

@@ -1,5 +1,5 @@
 -- What is judged of a dump, from what was read of it.
-use Rattle.std.proofs.Common.{◌≡◌, ◌∙◌, ℕ, ◌<◌, inl, inr, List, [], ◌∷◌, ◌++◌, Result, Err, length, option_map, refl, sym, ap, subst, append-nil, arith}
+use Rattle.std.proofs.Common.{◌≡◌, ◌∙◌, ℕ, inl, inr, List, [], ◌∷◌, Result, Err, length, option_map, refl, sym, ap, subst, arith}
 use Rattle.fsb_signal.specs.declared.marks.Marks.{Marks}
 use Rattle.fsb_signal.specs.declared.sample.Sample.{Sample}
 use Rattle.fsb_owner_verdict.specs.Coherence.{coherence_verdict}
@@ -23,7 +23,6 @@ use Rattle.scope_watch.specs.Heading.{IsHeaded}
 use Rattle.scope_watch.specs.Watching.{rules_for, IsRead, IsWatched}
 use Rattle.scope_coherence.specs.declared.answer.CoheredPart.{CoheredPart}
 use Rattle.scope_coherence.specs.declared.coherer.Coherer.{Coherer}
-use Rattle.scope_coherence.specs.declared.part.PartJudge.{PartJudge}
 use Rattle.scope_coherence.specs.declared.part.PartTold.{PartTold}
 use Rattle.scope_coherence.specs.Found.{first_joints, pair_of}
 use Rattle.scope_coherence.specs.Parting.{HasCohered, PartStands, TellsBehind, TellsPart}

@@ -1,7 +1,9 @@
 -- The samples that were judged.
-use Rattle.std.specs.Prelude.{◌≡◌, ◌≤◌, List, length, Option, Some, None}
+use Rattle.std.specs.Prelude.{◌≡◌, ◌≤◌, ◌+◌, List, [], ◌∷◌, ◌++◌, length, Option, Some, None}
 use Rattle.fsb_signal.specs.declared.marks.Marks.{Marks}
+use Rattle.fsb_signal.specs.declared.sample.Sample.{Sample}
 use Rattle.fsb_trace.specs.At.{Trace}
+use Rattle.fsb_trace.specs.Verdict.{verdict}
 use Rattle.fsb_rules.specs.Checker.{Stands as CheckerStands}
 use Rattle.fsb_owners.specs.Joint.{Joint}
 use Rattle.fsb_owner_verdict.specs.Coherence.{coherence_verdict}
@@ -16,6 +18,16 @@ pub record Follows (x : Cohering) (m : Marks) (first : List Joint) (w : Trace) :
   pub coherence : CoherenceStands x.coherence first w
   pub count : x.count ≡ length w
   pub few : fed x.coherence ≤ x.count
+  pub none : x.found ≡ None
+
+-- no phase rule is broken by these samples and one more, which the judge of the phase rules was fed alone, and no rule of
+-- ownership by these
+pub record IsSound (x : Cohering) (m : Marks) (first : List Joint) (w : Trace) (next : Sample) : Type 0 where
+  pub sound : verdict m (w ++ next ∷ []) ≡ None
+  pub checker : CheckerStands x.checker m (w ++ next ∷ [])
+  pub coherence : CoherenceStands x.coherence first w
+  pub count : x.count ≡ length w + 1
+  pub few : fed x.coherence + 1 ≤ x.count
   pub none : x.found ≡ None
 
 -- or this is found of them

@@ -16,9 +16,9 @@ use Rattle.scope_coherence.specs.Cohering.{Stands}
 use Rattle.scope_coherence.specs.Found.{first_joints, pair_of}
 
 -- so many clocks came among these events, and the dump stopped there or did not
-pub record Counts (start : ℕ) (stopped : Bool) (es : List DumpEvent) : Type 0 where
-  pub start : start ≡ clocks_of es
-  pub stopped : stopped ≡ has_stopped es
+pub record Counts (n : ℕ) (b : Bool) (es : List DumpEvent) : Type 0 where
+  pub start : n ≡ clocks_of es
+  pub stopped : b ≡ has_stopped es
 
 -- the part has begun behind some events: the machine was made for a part that begins there, and fed its samples
 pub record HasBegun (x : Cohering) (p : Part) (m : Marks) (before : List DumpEvent) (w : Trace) : Type 0 where

@@ -7,7 +7,7 @@ ghost use Rattle.fsb_owners.specs.Joint.{Joint};
 ghost use Rattle.fsb_owner_verdict.specs.Coherence.{coherence_verdict};
 ghost use Rattle.scope_check.specs.Bounds.{most_counted};
 ghost use Rattle.fsb_cohere.specs.Cohere.{Stands as CoherenceStands, fed};
-ghost use Rattle.scope_coherence.specs.Cohering.{Follows, Stands};
+ghost use Rattle.scope_coherence.specs.Cohering.{Follows, IsSound, Stands};
 ghost use Rattle.scope_coherence.specs.Found.{first_joints, pair_of};
 
 use fsb_cohere::{Coherence, sound_samples_keep_order};
@@ -92,15 +92,30 @@ impl Cohering {
         ensures counts { result ≢ Err WatchStop.TooMany }
         ensures writes_nothing { result ≢ Err WatchStop.WriteFault }
     {
-        sound_samples_keep_order();
         self.count += 1;
-        if let Some(broken) = self.checker.feed(sample) {
-            self.found = Some(Incoherent {
-                clock: broken.clock,
-                rule: broken.rule,
-            });
-            return Ok(());
+        let broken = self.checker.feed(sample);
+        match broken {
+            Some(broken) => {
+                self.found = Some(Incoherent {
+                    clock: broken.clock,
+                    rule: broken.rule,
+                });
+                Ok(())
+            }
+            None => self.judge_ownership(sample),
         }
+    }
+
+    // Takes the next sample, with which no phase rule is broken.
+    fn judge_ownership(&mut self, sample: &Sample) -> Result<(), WatchStop>
+        requires { fed self.old.coherence < 4294967280 }
+        ensures stands { (m : Marks) (first : List Joint) (w : Trace) →
+            IsSound self.old m first w sample.now →
+            OnOk result (Stands self.new m first (w ++ sample.now ∷ [])) }
+        ensures counts { result ≢ Err WatchStop.TooMany }
+        ensures writes_nothing { result ≢ Err WatchStop.WriteFault }
+    {
+        sound_samples_keep_order();
         match self.coherence.feed(sample) {
             Err(Memory) => Err(WatchStop::Memory),
             Ok(None) => Ok(()),

@@ -102,7 +102,8 @@ impl PartJudge {
                 }
                 self.start += 1;
             }
-            Told::Hole | Told::Resumed => self.has_stopped = true,
+            Told::Hole => self.has_stopped = true,
+            Told::Resumed => self.has_stopped = true,
         }
         Ok(())
     }
@@ -148,10 +149,18 @@ impl PartJudge {
             PartStands self.now p m es before w → TellsPart result p m es before w }
     {
         let is_later = begins_later(self.begin, self.start, self.has_stopped);
+        if !self.has_begun {
+            return PartTold {
+                start: self.start,
+                is_later,
+                found: None,
+                stamp: None,
+            };
+        }
         PartTold {
             start: self.start,
             is_later,
-            found: if self.has_begun { self.cohering.found() } else { None },
+            found: self.cohering.found(),
             stamp: self.stamp,
         }
     }
