@@ -181,6 +181,7 @@ fn dump_of<'a>(order: &Order<'a>) -> &'a str {
     match order {
         Order::Lines { dump } => *dump,
         Order::Check { dump, .. } => *dump,
+        Order::Coherence { dump, .. } => *dump,
         Order::Pick { dump, .. } => *dump,
         Order::Rule { .. } => "",
     }
@@ -190,6 +191,7 @@ fn dump_of<'a>(order: &Order<'a>) -> &'a str {
 fn lines_of<'a>(order: &Order<'a>) -> &'a str {
     match order {
         Order::Check { wires, .. } => wires.file.unwrap_or(""),
+        Order::Coherence { wires, .. } => wires.file.unwrap_or(""),
         Order::Pick { wires, .. } => wires.file.unwrap_or(""),
         Order::Lines { .. } | Order::Rule { .. } => "",
     }
@@ -199,7 +201,8 @@ fn lines_of<'a>(order: &Order<'a>) -> &'a str {
 fn views_of<'a>(order: &Order<'a>) -> Views<'a> {
     match order {
         Order::Check { views, .. } => *views,
-        Order::Lines { .. } | Order::Pick { .. } | Order::Rule { .. } => NO_VIEWS,
+        Order::Lines { .. } | Order::Coherence { .. } => NO_VIEWS,
+        Order::Pick { .. } | Order::Rule { .. } => NO_VIEWS,
     }
 }
 

@@ -88,6 +88,11 @@ fn told_order(alloc: Global, order: &Order<'_>) -> Result<String, AllocError> {
             let views = told_views(alloc, *views)?;
             format!(in alloc; "check {dump}; {wires}; {part}{views}")
         }
+        Order::Coherence { wires, part, dump } => {
+            let wires = told_wires(alloc, wires)?;
+            let part = told_part(alloc, part)?;
+            format!(in alloc; "coherence {dump}; {wires}; {part}")
+        }
         Order::Pick { wires, part, dump } => {
             let wires = told_wires(alloc, wires)?;
             let part = told_part(alloc, part)?;
@@ -112,7 +117,7 @@ pub(crate) fn told(alloc: Global, row: &str) -> Result<String, AllocError> {
 }
 
 /// Command lines, and what each asks for.
-const ORDERS: [(&str, &str); 46] = [
+const ORDERS: [(&str, &str); 47] = [
     (
         "check|--save|a.gtkw|a.vcd",
         "check a.vcd; NOTHING; at - from - to - quiet 32 save a.gtkw",
@@ -130,6 +135,10 @@ const ORDERS: [(&str, &str); 46] = [
     (
         "check|a.vcd",
         "check a.vcd; NOTHING; at - from - to - quiet 32",
+    ),
+    (
+        "coherence|--from|3|a.vcd",
+        "coherence a.vcd; NOTHING; at - from 3 to - quiet 32",
     ),
     (
         "pick|a.vcd",

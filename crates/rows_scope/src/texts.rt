@@ -28,39 +28,39 @@ pub(crate) const CLOCK: &str =
 const REFUSED: [(&str, &str); 82] = [
     (
         "foo|a.vcd",
-        "2 error: unrecognized subcommand 'foo'\nthe commands: lines, check, pick, rule; each has --help\n",
+        "2 error: unrecognized subcommand 'foo'\nthe commands: lines, check, coherence, pick, rule; each has --help\n",
     ),
     (
         "table|a.vcd",
-        "2 error: unrecognized subcommand 'table'\nthe commands: lines, check, pick, rule; each has --help\n",
+        "2 error: unrecognized subcommand 'table'\nthe commands: lines, check, coherence, pick, rule; each has --help\n",
     ),
     (
         "stats|a.vcd",
-        "2 error: unrecognized subcommand 'stats'\nthe commands: lines, check, pick, rule; each has --help\n",
+        "2 error: unrecognized subcommand 'stats'\nthe commands: lines, check, coherence, pick, rule; each has --help\n",
     ),
     (
         "draw|a.vcd",
-        "2 error: unrecognized subcommand 'draw'\nthe commands: lines, check, pick, rule; each has --help\n",
+        "2 error: unrecognized subcommand 'draw'\nthe commands: lines, check, coherence, pick, rule; each has --help\n",
     ),
     (
         "vectors|a.vcd",
-        "2 error: unrecognized subcommand 'vectors'\nthe commands: lines, check, pick, rule; each has --help\n",
+        "2 error: unrecognized subcommand 'vectors'\nthe commands: lines, check, coherence, pick, rule; each has --help\n",
     ),
     (
         "plan|a.vcd",
-        "2 error: unrecognized subcommand 'plan'\nthe commands: lines, check, pick, rule; each has --help\n",
+        "2 error: unrecognized subcommand 'plan'\nthe commands: lines, check, coherence, pick, rule; each has --help\n",
     ),
     (
         "help",
-        "2 error: unrecognized subcommand 'help'\nthe commands: lines, check, pick, rule; each has --help\n",
+        "2 error: unrecognized subcommand 'help'\nthe commands: lines, check, coherence, pick, rule; each has --help\n",
     ),
     (
         "Check|a.vcd",
-        "2 error: unrecognized subcommand 'Check'\nthe commands: lines, check, pick, rule; each has --help\n",
+        "2 error: unrecognized subcommand 'Check'\nthe commands: lines, check, coherence, pick, rule; each has --help\n",
     ),
     (
         "chekc|a.vcd",
-        "2 error: unrecognized subcommand 'chekc'\nthe commands: lines, check, pick, rule; each has --help\n",
+        "2 error: unrecognized subcommand 'chekc'\nthe commands: lines, check, coherence, pick, rule; each has --help\n",
     ),
     (
         "lines",
@@ -381,7 +381,7 @@ fn no_words_have_no_command(rt: HostRuntime) {
 
 const NO_COMMAND: &str = "\
 error: 'p6scope' requires a subcommand but one was not provided
-  [subcommands: lines, check, pick, rule]
+  [subcommands: lines, check, coherence, pick, rule]
 ";
 
 /// Ways to ask for the version.
@@ -403,13 +403,14 @@ fn the_version_is_told_at_each_verb(rt: HostRuntime) {
 }
 
 /// Ways to ask for help, and how the text goes on behind what the verb does.
-const HELPS: [(&str, &str); 10] = [
+const HELPS: [(&str, &str); 11] = [
     ("--help", "Usage: p6scope <COMMAND>"),
     ("-h", "Usage: p6scope <COMMAND>"),
     ("lines|--help", "Usage: p6scope lines <DUMP>"),
     ("lines|-h", "Usage: p6scope lines <DUMP>"),
     ("check|--help", "Usage: p6scope check [OPTIONS] <DUMP>"),
     ("check|-h", "Usage: p6scope check [OPTIONS] <DUMP>"),
+    ("coherence|-h", "Usage: p6scope coherence [OPTIONS] <DUMP>"),
     ("pick|--help", "Usage: p6scope pick [OPTIONS] <DUMP>"),
     ("pick|-h", "Usage: p6scope pick [OPTIONS] <DUMP>"),
     ("rule|--help", "Usage: p6scope rule [N]"),
@@ -425,7 +426,7 @@ fn help_is_told_at_each_verb(rt: HostRuntime) {
     }
 }
 
-/// The options of `check` and of `pick`.
+/// The options of `check`, `coherence` and `pick`.
 const OPTIONS: [&str; 11] = [
     "--scope <PATH>",
     "--line <LINE=[!]PATH>",
@@ -443,7 +444,7 @@ const OPTIONS: [&str; 11] = [
 #[test]
 fn help_lists_each_option(rt: HostRuntime) {
     for option in OPTIONS.iter() {
-        for row in ["check|--help", "pick|-h"].iter() {
+        for row in ["check|--help", "coherence|-h", "pick|-h"].iter() {
             let told = told(rt.alloc(), row).expect(&rt, "memory");
             assert!(rt; told.as_str().contains(option), "{row} {option}");
         }
@@ -463,7 +464,7 @@ fn help_lists_what_check_alone_offers(rt: HostRuntime) {
 #[test]
 fn help_offers_each_command(rt: HostRuntime) {
     let told = told(rt.alloc(), "--help").expect(&rt, "memory");
-    for verb in ["lines", "check", "pick", "rule"].iter() {
+    for verb in ["lines", "check", "coherence", "pick", "rule"].iter() {
         assert!(rt; told.as_str().contains(verb), "{told}");
     }
 }

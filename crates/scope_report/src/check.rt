@@ -55,8 +55,8 @@ pub fn check_text(
     Ok(text)
 }
 
-// Which wires were judged.
-fn put_wires(
+/// Which wires were judged.
+pub(crate) fn put_wires(
     text: &mut Vec<u8>,
     alloc: Global,
     file: &str,
@@ -155,8 +155,8 @@ fn put_nothing(
     }
 }
 
-// What a broken rule asks.
-fn put_rule(text: &mut Vec<u8>, rule: u8) -> Result<(), AllocError> {
+/// What a broken rule asks.
+pub(crate) fn put_rule(text: &mut Vec<u8>, rule: u8) -> Result<(), AllocError> {
     put_gist(text, rule)?;
     put(text, "  p6scope rule ")?;
     put_number(text, u64::from(rule))?;
@@ -247,8 +247,8 @@ const NEVER_QUIET: &str = "\
   --quiet N asks for fewer, --at C begins exactly at a clock.
 ";
 
-// The end of a file that ends early: where the word, the value or the section begins that is not whole.
-fn put_early_end(text: &mut Vec<u8>, early_end: Option<EarlyEnd>) -> Result<(), AllocError> {
+/// The end of a file that ends early: where the word, the value or the section begins that is not whole.
+pub(crate) fn put_early_end(text: &mut Vec<u8>, early_end: Option<EarlyEnd>) -> Result<(), AllocError> {
     match early_end {
         None => Ok(()),
         Some(end) => {

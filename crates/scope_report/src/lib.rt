@@ -10,6 +10,7 @@
 #![tactic(auto)]
 
 pub use check::check_text;
+pub use coherence::{CoherenceTold, coherence_text};
 pub use ending::{Ending, ending_of, status};
 pub use fault::{fault_text, limit_text, unread_text, unscaled_text};
 pub use lines::lines_text;
@@ -20,6 +21,7 @@ pub use verdict::{put_verdict, verdict_over};
 pub use views::views_text;
 
 mod check;
+mod coherence;
 mod ending;
 mod fault;
 mod lines;

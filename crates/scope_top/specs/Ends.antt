@@ -1,5 +1,5 @@
 -- How a command ends.
-use Rattle.std.specs.Prelude.{◌==◌, if◌then◌else◌, Result, Ok, Err}
+use Rattle.std.specs.Prelude.{ℕ, Bool, ◌&&◌, nat_lt, ◌==◌, if◌then◌else◌, Option, Some, None, Result, Ok, Err}
 use Rattle.scope_report.specs.declared.ending.Ending.{Ending}
 use Rattle.scope_report.specs.declared.ending.Ending.TheVariants as endings
 use Rattle.scope_report.specs.Endings.{ending_after, verdict_over}
@@ -9,6 +9,9 @@ use Rattle.scope_watch.specs.declared.check.Finding.{Finding}
 use Rattle.scope_watch.specs.declared.check.Finding.TheVariants as findings
 use Rattle.scope_copy.specs.declared.copy.CopyFinding.{CopyFinding}
 use Rattle.scope_copy.specs.declared.copy.CopyFinding.TheVariants as copies
+use Rattle.scope_coherence.specs.declared.answer.CoherenceFinding.{CoherenceFinding}
+use Rattle.scope_coherence.specs.declared.answer.CoherenceFinding.TheVariants as coherences
+use Rattle.scope_coherence.specs.declared.cohering.Incoherent.{Incoherent}
 use Rattle.scope_top.specs.declared.stop.Ended.{Ended}
 use Rattle.scope_top.specs.declared.stop.Stop.{Stop}
 use Rattle.scope_top.specs.declared.stop.Stop.TheVariants as stops
@@ -24,6 +27,17 @@ ending_found (findings.Judged wiring told) = ending_after (verdict_over told.jud
 abbrev pub ending_copied : CopyFinding → Ending
 ending_copied (copies.Refused refusal) = endings.Unjudged
 ending_copied (copies.Copied wiring told) = if told.clocks == 0 then endings.Unjudged else endings.Clean
+
+-- how a part of so many clocks ends, in which this rule is broken first, if one is: it is clean exactly where it has a clock
+-- and no rule is broken. Who had the bus before a part that begins later is not known: it is not judged behind a phase rule
+abbrev pub ending_with : ℕ → Bool → Option Incoherent → Ending
+ending_with judged is_later None = if judged == 0 then endings.Unjudged else endings.Clean
+ending_with judged is_later (Some b) = if is_later && nat_lt b.rule 21 then endings.Unjudged else endings.Broken
+
+-- how the judging of coherence ends that found this
+abbrev pub ending_cohered : CoherenceFinding → Ending
+ending_cohered (coherences.Refused refusal) = endings.Unjudged
+ending_cohered (coherences.Judged wiring told) = ending_with told.judged told.is_later told.found
 
 -- how `lines` ends that picks these wires, or refuses them
 abbrev pub ending_picked : Picking → Ending

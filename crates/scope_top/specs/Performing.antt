@@ -4,6 +4,8 @@ use Rattle.scope_check.specs.declared.part.Part.{Part}
 use Rattle.scope_parts.specs.declared.plan.Plan.{Plan}
 use Rattle.scope_copy.specs.declared.copy.Copied.{Copied}
 use Rattle.scope_copy.specs.Copying.{IsCopied}
+use Rattle.scope_coherence.specs.declared.answer.Cohered.{Cohered}
+use Rattle.scope_coherence.specs.Answers.{IsCohered}
 use Rattle.scope_wiring.specs.declared.wiring.Choice.{Choice}
 use Rattle.scope_wiring.specs.declared.wiring.Picking.{Picking}
 use Rattle.scope_wiring.specs.Pickings.{IsPicking}
@@ -34,7 +36,7 @@ use Rattle.scope_top.specs.declared.listed.Listed.{Listed}
 use Rattle.scope_top.specs.declared.listed.Listed.TheVariants as listings
 use Rattle.scope_top.specs.declared.settled.Settled.{Settled}
 use Rattle.scope_top.specs.declared.settled.Settled.TheVariants as settlings
-use Rattle.scope_top.specs.Ends.{ending_copied, ending_found, ending_picked}
+use Rattle.scope_top.specs.Ends.{ending_cohered, ending_copied, ending_found, ending_picked}
 use Rattle.scope_top.specs.Named.{read_of}
 use Rattle.scope_top.specs.Parts.{NamesPart, NamesScaled, plan_of}
 use Rattle.scope_top.specs.Viewing.{Files, Shows, Untouched}
@@ -169,6 +171,28 @@ abbrev pub EndsCheck : Wires → Words → List ℕ → List ℕ → Viewing →
 EndsCheck wires words listed dumped v ending =
     EndsWired (EndsPlanned words (sampling_of wires) dumped v) (Untouched v.files) wires listed ending
 
+-- ---- `coherence`
+
+-- how the judging of coherence ends that answers this of the dump
+abbrev pub EndsCoheredAs : Result Cohered ScopeStop → Ending → Type 0
+EndsCoheredAs (Ok cohered) ending = ending ≡ ending_cohered cohered.finding
+EndsCoheredAs (Err stop) ending = EndsStopped stop ending
+
+-- how the coherence of this part of a dump is judged, by this choice and sampling
+pub record EndsCohered (choice : Choice) (s : Sampling) (dumped : List ℕ) (part : Part) (ending : Ending) : Type 0 where
+  pub answer : Result Cohered ScopeStop
+  pub is_cohered : IsCohered answer choice part s dumped
+  pub ends : EndsCoheredAs answer ending
+
+-- how that of the part ends that the words name
+abbrev pub EndsCoherent : Words → Sampling → List ℕ → Choice → Ending → Type 0
+EndsCoherent words s dumped choice ending = EndsSettled (EndsCohered choice s dumped) (Unit {0}) words dumped ending
+
+-- how the judging of coherence ends
+abbrev pub EndsCoherence : Wires → Words → List ℕ → List ℕ → Ending → Type 0
+EndsCoherence wires words listed dumped ending =
+    EndsWired (EndsCoherent words (sampling_of wires) dumped) (Unit {0}) wires listed ending
+
 -- ---- `pick`
 
 -- how a copy ends that answers this of the dump
@@ -223,6 +247,8 @@ Ends (orders.Lines dump) listed dumped old new f is_unwritten ending = EndsLines
 Ends (orders.Check wires part views dump) listed dumped old new f is_unwritten ending =
     EndsCheck wires part listed dumped
     (record { name = dump.now; views = views; files = f; is_unwritten = is_unwritten }) ending
+Ends (orders.Coherence wires part dump) listed dumped old new f is_unwritten ending =
+    EndsCoherence wires part listed dumped ending × Untouched f
 Ends (orders.Pick wires part dump) listed dumped old new f is_unwritten ending =
     EndsPick wires part listed dumped old new ending × Untouched f
 Ends (orders.Rule number) listed dumped old new f is_unwritten ending = (ending ≡ endings.Clean) × Untouched f

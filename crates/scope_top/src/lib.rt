@@ -12,6 +12,7 @@
 
 pub use broken::BrokenAt;
 pub use check::ending_found;
+pub use coherence::ending_cohered;
 pub use named::{LineFault, read_options};
 pub use orders::perform;
 pub use pick::ending_copied;
@@ -20,6 +21,7 @@ pub use stop::{Ended, Stop, ViewStop, ending_at};
 mod answer;
 mod broken;
 mod check;
+mod coherence;
 mod lines;
 mod listed;
 mod named;

@@ -4,11 +4,12 @@ ghost use Rattle.std.specs.Prelude.{◌≡◌, ◌≤◌, ◌⊎◌, Err, IsTrue
 ghost use Rattle.std.specs.Result.{is_err};
 ghost use Rattle.fsb_io.specs.Faults.{Rose};
 ghost use Rattle.scope_words.specs.Orders.{KeepsLimits, KeepsViews, KeepsWires};
-ghost use Rattle.scope_top.specs.Performing.{Ends, EndsCheck, EndsLines, EndsPick};
+ghost use Rattle.scope_top.specs.Performing.{Ends, EndsCheck, EndsCoherence, EndsLines, EndsPick};
 ghost use Rattle.scope_top.specs.Viewing.{Files, IsUncopied, MayStop};
 
 use crate::answer::{Answer, Stream, hand_err, hand_out};
 use crate::check::check_answer;
+use crate::coherence::coherence_answer;
 use crate::lines::lines_answer;
 use crate::pick::pick_answer;
 use crate::stop::{Ended, Stop};
@@ -71,6 +72,11 @@ pub fn perform<L: Source, S: Source, O: Sink, E: Sink, V: Sink, C: Sink>(
         } => check(
             alloc, name, wires, &part, views, is_again, named, dump, out, err, save, cut,
         ),
+        Order::Coherence {
+            wires,
+            part,
+            dump: name,
+        } => told(cohere(alloc, name, wires, &part, named, dump, out, err)),
         Order::Pick {
             wires,
             part,
@@ -177,6 +183,31 @@ fn check<L: Source, S: Source, O: Sink, E: Sink, V: Sink, C: Sink>(
     let ending = hand_out(&viewed.answer, out, err)?;
     let shown = viewed.shown;
     Ok(Ended { ending, shown })
+}
+
+// Judges the coherence of the part of a dump that the words name.
+fn cohere<L: Source, S: Source, O: Sink, E: Sink>(
+    alloc: Global,
+    name: &str,
+    wires: Wires<'_>,
+    words: &Part,
+    named: &mut L,
+    dump: &mut S,
+    out: &mut O,
+    err: &mut E,
+) -> Result<Ending, Stop>
+    requires named { length name.now ≤ 4096 }
+    requires wires { KeepsWires wires }
+    ensures ends { IsTrue L.tells → IsTrue S.tells → IfOk result
+        (EndsCoherence wires.entry words.now (L.holds named.old) (S.holds dump.old)) }
+    ensures lines_fault { result ≡ Err Stop.Lines →
+        Rose (L.faults named.old) (L.faults named.new) }
+    ensures dump_fault { result ≡ Err Stop.Dump → Rose (S.faults dump.old) (S.faults dump.new) }
+    ensures out_fault { result ≡ Err Stop.Out →
+        Rose (O.faults out.old) (O.faults out.new) ⊎ Rose (E.faults err.old) (E.faults err.new) }
+{
+    let answer = coherence_answer(alloc, name, wires, words, named, dump)?;
+    hand_out(&answer, out, err)
 }
 
 // Writes the part of a dump that the words name, and tells what was not written.

@@ -17,6 +17,12 @@ pub enum Order<'a> {
         views: Views<'a>,
         dump: &'a str,
     },
+    /// To judge whether a coherent system could have made a dump.
+    Coherence {
+        wires: Wires<'a>,
+        part: Part,
+        dump: &'a str,
+    },
     /// To write the picked lines as a dump of its own.
     Pick {
         wires: Wires<'a>,

@@ -50,7 +50,7 @@ fn no_verb(alloc: Global) -> Stop
     wrong(
         alloc,
         "no command is there",
-        "the commands: lines, check, pick, rule; each has --help",
+        "the commands: lines, check, coherence, pick, rule; each has --help",
     )
 }
 
@@ -74,6 +74,11 @@ fn order_behind<'a>(alloc: Global, verb: &str, found: &ArgMatches<'a>) -> Result
             wires: wires_of(alloc, found)?,
             part: part_of(alloc, found)?,
             views: views_of(alloc, found)?,
+            dump: dump_of(alloc, found)?,
+        }),
+        "coherence" => Ok(Order::Coherence {
+            wires: wires_of(alloc, found)?,
+            part: part_of(alloc, found)?,
             dump: dump_of(alloc, found)?,
         }),
         "pick" => Ok(Order::Pick {

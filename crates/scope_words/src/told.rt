@@ -152,8 +152,9 @@ fn may_stand(verb: Option<&str>) -> &'static str {
         Some("lines") => "wanted: p6scope lines DUMP",
         Some("check") => JUDGED,
         Some("pick") => PICKED,
+        Some("coherence") => PICKED,
         Some("rule") => "wanted: p6scope rule, or p6scope rule N with N from 1 to 31",
-        _ => "the commands: lines, check, pick, rule; each has --help",
+        _ => "the commands: lines, check, coherence, pick, rule; each has --help",
     }
 }
 

@@ -18,6 +18,7 @@ const VIEWS: &str = "What is written beside the report of a broken rule";
 pub(crate) fn usage<'a>(alloc: Global) -> Result<Command<'a>, AllocError> {
     let usage = with_verb(program(alloc), lines(alloc));
     let usage = with_verb(usage, check(alloc));
+    let usage = with_verb(usage, coherence(alloc));
     let usage = with_verb(usage, pick(alloc));
     with_verb(usage, rule(alloc))
 }
@@ -44,6 +45,11 @@ fn check<'a>(alloc: Global) -> Result<Command<'a>, AllocError> {
     let about = "Says whether the bus keeps its rules, and explains the first one that it breaks";
     let judged = with_resumed(alloc, with_judged(alloc, verb(alloc, "check", about)));
     with_views(alloc, judged)
+}
+
+fn coherence<'a>(alloc: Global) -> Result<Command<'a>, AllocError> {
+    let about = "Says whether a coherent system could have made the wires: all rules, 1 to 31";
+    with_judged(alloc, verb(alloc, "coherence", about))
 }
 
 fn pick<'a>(alloc: Global) -> Result<Command<'a>, AllocError> {

@@ -1,0 +1,5 @@
+mod Judging
+mod Places
+mod Passing
+mod Seeing
+mod Wholes

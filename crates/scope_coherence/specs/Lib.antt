@@ -1,0 +1,4 @@
+pub mod Found
+pub mod Cohering
+pub mod Parting
+pub mod Answers
