@@ -4,7 +4,7 @@ pub use Rattle.std.proofs.Common.{ℕ, ◌+◌, ◌≡◌, ◌||◌, Bool, Optio
 pub use Rattle.std.proofs.Common.{subst, ◌∙◌, arith, ◌<◌, ◌%◌, ◌≢◌, true, false, ◌&&◌, not, length, refl, ⊎_elim}
 pub use Rattle.std.proofs.Common.{nat_eq, slice_index, inl, inr, zero, suc, ◌≤◌, ◌*◌, is_some, nat_le, nat_lt, ◌++◌}
 pub use Rattle.std.proofs.Common.{◌⊎◌, get_or, replicate, ◌/◌, map, drop, take, lit<, append-nil, append_assoc, add-one}
-unfoldable pub use Rattle.std.proofs.Common.{ap}
+pub use Rattle.std.proofs.Common.{ap}
 pub use Rattle.std.specs.Prelude.{◌==◌, is_none, cond, unwrap_or, IsTrue, count_by}
 pub use Rattle.std.specs.List.{slice_get, list_all, find, filter, list_any}
 pub use Rattle.std.specs.Option.{option_map_or, option_and_then, option_map}
