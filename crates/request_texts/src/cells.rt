@@ -19,7 +19,13 @@ pub(crate) fn cells_of(alloc: Global, row: &Row, before: u32) -> Result<Vec<Stri
     cells.push(format!(in alloc; "{}", Agent(row.seen.who))?)?;
     cells.push(String::from_str(alloc, kind_word(row.seen.request))?)?;
     cells.push(format!(in alloc; "{}", Target(row.seen.request))?)?;
-    cells.push(format!(in alloc; "{}", SnoopEnd { snoop: row.snoop, before })?)?;
+    cells.push(format!(in alloc;
+        "{}",
+        SnoopEnd {
+            snoop: row.snoop,
+            before
+        }
+    )?)?;
     cells.push(format!(in alloc; "{}", clock(row.response))?)?;
     cells.push(String::from_str(alloc, outcome_word(row))?)?;
     cells.push(format!(in alloc; "{}", clock(row.end))?)?;

@@ -18,7 +18,12 @@ pub fn put_around(
     let mut widths = [0; 9];
     widen(&mut widths, &past);
     widen(&mut widths, &flight);
-    put_lines(text, "  the last requests that were over before:\n", &widths, &past)?;
+    put_lines(
+        text,
+        "  the last requests that were over before:\n",
+        &widths,
+        &past,
+    )?;
     put_lines(text, "  the requests in flight:\n", &widths, &flight)
 }
 

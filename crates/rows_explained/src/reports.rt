@@ -5,8 +5,8 @@ use fsb_io::Memory;
 use fsb_signal::Sample;
 use rows_store::{
     ADS, AERR, BNR, BPRI, BREQ0, BREQ1, Blur, CANCELLED_BY_ADDRESS_ERROR, CLEAR, Clock, DBSY,
-    DEFERRED_AND_REPLIED, DRDY, HIT, HITM, LEAST_RULE_NAMED, LOCK, REQUEST_SPACING_BROKEN, REQUEST_WITHOUT_WINNER, RS0, RS1, RS2, TRDY,
-    blurred, sample,
+    DEFERRED_AND_REPLIED, DRDY, HIT, HITM, LEAST_RULE_NAMED, LOCK, REQUEST_SPACING_BROKEN,
+    REQUEST_WITHOUT_WINNER, RS0, RS1, RS2, TRDY, blurred, sample,
 };
 use std::alloc::{AllocError, Global};
 
@@ -352,7 +352,9 @@ const LAST_LOADS: &str = "
 #[test]
 fn reports_show_the_last_ten_requests(rt: HostRuntime) {
     let text = report_of_loads(rt.alloc()).expect(&rt, "memory");
-    let wanted = LAST_LOADS.replace(rt.alloc(), "\n  ", " ").expect(&rt, "memory");
+    let wanted = LAST_LOADS
+        .replace(rt.alloc(), "\n  ", " ")
+        .expect(&rt, "memory");
     assert!(rt; text.contains(wanted.as_str()), "{text}");
 }
 

@@ -9,8 +9,8 @@ ghost use Rattle.fsb_why.specs.Look.{Stands as WhyStands};
 ghost use Rattle.fsb_why_queue.specs.Queue.{Stands as QueueStands, fed};
 ghost use Rattle.scope_explain.specs.Reasons.{AreReasonsOf, SaysWhy, is_answered};
 
-use fsb_recent::Around;
 use fsb_reasons::{Reason, reasons_name_broken_rules};
+use fsb_recent::Around;
 use fsb_signal::Sample;
 use fsb_why::Why;
 use fsb_why_queue::Queue;

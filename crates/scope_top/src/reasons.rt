@@ -45,7 +45,9 @@ pub(crate) fn reasons_of<S: Source>(
 {
     match (sampling, first_fault(finding)) {
         (Some(sampling), Some(fault)) => {
-            read_again(alloc, name, choice, part, sampling, &fault, dump).unwrap_or(Grounds::none(alloc))
+            read_again(alloc, name, choice, part, sampling, &fault, dump).unwrap_or(Grounds::none(
+                alloc,
+            ))
         }
         _ => Grounds::none(alloc),
     }
