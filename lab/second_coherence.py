@@ -1,0 +1,364 @@
+#!/usr/bin/env python3
+"""A second judge of coherence, written from docs/ownership-rules.md, docs/phase-rules.md and docs/dump.md alone.
+
+    second_coherence.py DUMP [--within]              its verdict: `coherent clocks=N`, or `incoherent clock=C rule=J` with status 1
+    second_coherence.py --trials [COUNT [SEED]]      tries the judge itself, on the worked runs and on COUNT (2,000) random traces
+    second_coherence.py --program PROGRAM DUMP..     compares `PROGRAM check --coherence DUMP` with both second judges
+
+The judge goes once over the samples. For each line it keeps the set of joint states, four letters each: agent 0 has the line
+Shared in `SIII`. It judges rules 21 to 31 alone: the verdict means something where no phase rule is broken up to its clock.
+`--within` begins with all 24 joint states, as of a trace that begins in traffic.
+"""
+import collections
+import os
+import random
+import subprocess
+import sys
+from functools import lru_cache
+
+sys.dont_write_bytecode = True
+from second_dump import read_samples
+from second_judge import DEFERRED, HARD_FAILURE, IDLE, NO_REQUEST, PRIORITY, REQUEST_LINES, RETRY, SYMMETRIC, decode, verdict
+
+UNHELD = 'IIII'
+SHARINGS = [''.join('S' if holders >> a & 1 else 'I' for a in SYMMETRIC) for holders in range(16)]
+EVERY = frozenset(SHARINGS + [UNHELD[:a] + letter + UNHELD[a + 1:] for letter in 'EM' for a in SYMMETRIC])
+# The states in which an agent may ask so, and the rule that is broken where it cannot be in one.
+MAY_ASK = {'Read': 'I', 'Invalidate': 'IS', 'Upgrade': 'S', 'WriteBack': 'M'}
+RULE_OF_KIND = {'Read': 24, 'Invalidate': 24, 'Upgrade': 23, 'WriteBack': 22}
+
+
+class Request:
+    """What is known of a request so far. A clock that has not come is None; of a reply, `asked` is the request that it answers."""
+
+    def __init__(self, first, agent, line):
+        self.first, self.agent, self.line, self.asked = first, agent, line, self
+        self.kind = self.id = self.cancelled = self.snoop_end = self.outcome = self.response = self.end = self.reply = None
+        self.hit = self.hitm = self.turned = False
+        self.chunks = 0
+
+    def moves_data(self):
+        return self.outcome in ('Granted', 'Handed', 'Written', 'Replied')
+
+    def brings_bytes(self):
+        """From its snoop end on: its agent is to get the bytes of the line."""
+        return self.kind == 'Reply' or self.kind != 'WriteBack' and (self.hitm or self.kind != 'Upgrade' and not self.turned)
+
+    def last(self):
+        """The last clock at which it is outstanding, or None."""
+        if self.cancelled is not None:
+            return self.cancelled
+        if self.outcome == 'Deferred':
+            return self.reply.end if self.reply else None
+        return self.end
+
+    def is_outstanding(self, c):
+        return self.first < c and not is_below(self.last(), c)
+
+    def awaits_snoop(self, c):
+        return self.first < c and not is_below(self.cancelled, c) and not is_below(self.snoop_end, c)
+
+
+def is_below(clock, c):
+    return clock is not None and clock < c
+
+
+class Wires:
+    """Follows the requests sample by sample: `begun` was decoded at the last clock, `snooped` has its snoop end there, `answered` its
+    response."""
+
+    def __init__(self):
+        self.samples, self.clock = collections.deque(maxlen=4), -1
+        self.undecoded = self.begun = self.snooped = self.answered = None
+        self.young, self.unsnooped, self.unanswered, self.moving, self.deferred = [], [], [], [], []
+        self.last_begun, self.last_symmetric, self.last_snoop_end, self.due = None, 3, -9, None
+
+    def had(self, line, back=0):
+        return len(self.samples) > back and line in self.samples[-1 - back].asserted
+
+    def feed(self, sample):
+        self.samples.append(sample)
+        self.clock += 1
+        self.begun = self.decoded()
+        self.cancel_or_let_live()
+        self.snooped = self.snoop()
+        self.answered = self.respond(sample.code)
+        self.move()
+        if 'ADS' in sample.asserted:
+            self.begin(sample)
+
+    def winner(self):
+        asking = [agent for agent, line in REQUEST_LINES.items() if self.had(line, 2)]
+        if self.had('LOCK', 2):
+            return self.last_begun if self.last_begun in asking else None
+        if PRIORITY in asking:
+            return PRIORITY
+        return min((agent for agent in asking), key=lambda agent: (agent - self.last_symmetric - 1) % 4, default=None)
+
+    def begin(self, sample):
+        agent = self.winner()
+        self.last_begun = agent
+        if agent in SYMMETRIC:
+            self.last_symmetric = agent
+        self.undecoded = Request(self.clock, agent, None if sample.a is None else sample.a >> 2)
+        self.young.append(self.undecoded)
+
+    def decoded(self):
+        """The request that began in the clock before, where it names a line."""
+        request, self.undecoded = self.undecoded, None
+        if request is None:
+            return None
+        words = decode(self.samples[-2], self.samples[-1])
+        request.kind, request.id = words.kind, words.id
+        return request if words != NO_REQUEST and words.kind != 'Reply' and request.agent in SYMMETRIC else None
+
+    def cancel_or_let_live(self):
+        for request in [request for request in self.young if request.first == self.clock - 3]:
+            self.young.remove(request)
+            if self.had('AERR'):
+                request.cancelled = self.clock
+                continue
+            self.unsnooped.append(request)
+            self.unanswered.append(request)
+            if request.kind == 'Reply':
+                request.asked = next((asked for asked in self.deferred if asked.id == request.id and asked.reply is None
+                                      and asked.response < request.first), None)
+                if request.asked:
+                    request.asked.reply = request
+
+    def snoop(self):
+        if not self.unsnooped:
+            return None
+        request = self.unsnooped[0]
+        if self.due is None:
+            self.due = max(request.first + 4, self.last_snoop_end + 3)
+        if self.clock < self.due:
+            return None
+        if self.had('HIT') and self.had('HITM'):
+            self.due += 2
+            return None
+        self.unsnooped.pop(0)
+        request.snoop_end, self.last_snoop_end, self.due = self.clock, self.clock, None
+        request.hit, request.hitm = self.had('HIT'), self.had('HITM')
+        request.turned = self.had('DEFER') and not request.hitm
+        return request
+
+    def respond(self, code):
+        if code == IDLE or not self.unanswered:
+            return None
+        request = self.unanswered.pop(0)
+        by_kind = {'WriteBack': 'Written', 'Upgrade': 'Upgraded', 'Reply': 'Replied'}.get(request.kind, 'Granted')
+        by_code = {RETRY: 'Retried', DEFERRED: 'Deferred'}.get(code, by_kind)
+        request.outcome = 'Failed' if code == HARD_FAILURE else 'Handed' if request.hitm else by_code
+        request.response = self.clock
+        if request.moves_data():
+            self.moving.append(request)
+        else:
+            request.end = self.clock
+        if request.outcome == 'Deferred':
+            self.deferred.append(request)
+        return request
+
+    def move(self):
+        if self.moving and self.had('DRDY'):
+            self.moving[0].chunks += 1
+            if self.moving[0].chunks == 4:
+                self.moving.pop(0).end = self.clock
+
+
+# What an event leaves of the joint states, and what it turns each into.
+
+def stored(joints, ready):
+    """With the stores that agents of `ready` may have made into Exclusive copies."""
+    return joints | {joint.replace('E', 'M') for joint in joints if joint.find('E') in ready}
+
+
+@lru_cache(None)
+def with_drops(joint, droppers):
+    """What becomes of a joint state where each of the agents may have dropped a clean copy."""
+    found = {joint}
+    for a in droppers:
+        if joint[a] in 'SE':
+            found |= {other[:a] + 'I' + other[a + 1:] for other in found}
+    return found
+
+
+def dropped(joints, droppers):
+    return frozenset(other for joint in joints for other in with_drops(joint, droppers))
+
+
+def asked(joints, request):
+    return frozenset(joint for joint in joints if joint[request.agent] in MAY_ASK[request.kind])
+
+
+def has_other(joint, agent, letters):
+    return any(joint[a] in letters for a in SYMMETRIC if a != agent)
+
+
+def answered(joints, request):
+    """Those that fit what the snoop end of the request shows. A reply shows nothing of what others hold."""
+    if request.kind == 'Reply':
+        return joints
+    if request.kind == 'WriteBack':
+        return frozenset(joint for joint in joints if joint[request.agent] == 'M')
+
+    def fits(joint):
+        is_owned = has_other(joint, request.agent, 'M')
+        return request.hitm == is_owned and request.hit == (not is_owned and has_other(joint, request.agent, 'SE'))
+    return frozenset(joint for joint in joints if fits(joint))
+
+
+def own_state(request, state):
+    """The state of the asker behind its snoop end."""
+    kind, is_reply = request.asked.kind, request.kind == 'Reply'
+    if kind == 'WriteBack':
+        return 'I'
+    if request.turned and not is_reply:
+        return state
+    if kind == 'Read':
+        return 'S' if request.hit or request.hitm else 'E'
+    return 'M' if kind == 'Invalidate' or request.hitm or state != 'I' else 'I'
+
+
+def turned(joints, request):
+    """What the snoop end turns the joint states into. A reply changes nothing at others."""
+    agent, kind = request.asked.agent, request.kind
+
+    def state(joint, a):
+        if a == agent:
+            return own_state(request, joint[a])
+        return {'Read': 'I' if joint[a] == 'I' else 'S', 'Invalidate': 'I', 'Upgrade': 'I'}.get(kind, joint[a])
+    return EVERY & {''.join(state(joint, a) for a in SYMMETRIC) for joint in joints}
+
+
+class Line:
+    """What is known of a line: its joint states before the last clock but one, and its requests that are not long over."""
+
+    def __init__(self, joints):
+        self.joints, self.requests, self.is_spoiled, self.snooped = joints, [], False, None
+
+    def with_stores(self, joints, c):
+        """An agent stores into a copy only in clocks after the end of its bytes."""
+        waiting = {r.asked.agent for r in self.requests if is_below(r.snoop_end, c) and r.brings_bytes() and not is_below(r.end, c)}
+        return stored(joints, [a for a in SYMMETRIC if a not in waiting])
+
+    def with_drops(self, joints, c):
+        """An agent keeps its copy from the snoop end to the end of what brings bytes, and as long as an upgrade is outstanding."""
+        keeping = {r.asked.agent for r in self.requests
+                   if is_below(r.snoop_end, c + 1) and r.brings_bytes() and not is_below(r.end, c)
+                   or r.kind == 'Upgrade' and r.first <= c and not is_below(r.last(), c)}
+        return dropped(joints, tuple(a for a in SYMMETRIC if a not in keeping))
+
+    def forget(self, c):
+        if all(is_below(r.last() if r.kind != 'Reply' else r.cancelled or r.end, c - 2) for r in self.requests):
+            self.requests.clear()
+
+
+class Judge:
+    """Fed sample by sample, it gives the first clock with a broken rule, and the least rule there; None where there is none."""
+
+    def __init__(self, first=frozenset([UNHELD])):
+        self.wires, self.lines, self.first, self.found = Wires(), {}, first, None
+
+    def feed(self, sample):
+        self.wires.feed(sample)
+        if self.found is None:
+            broken = set(self.broken(self.wires, self.wires.clock))
+            self.found = (self.wires.clock, min(broken)) if broken else None
+        return self.found
+
+    def line_of(self, request):
+        if request is None or request.asked is None or request.asked.kind is None or request.asked.agent not in SYMMETRIC:
+            return None
+        if request.asked.line not in self.lines:
+            self.lines[request.asked.line] = Line(self.first)
+        return self.lines[request.asked.line]
+
+    def broken(self, wires, c):
+        """The rules that are broken at c. What the clock before shows is whole now: its request is decoded."""
+        begun, failed = self.line_of(wires.begun), self.line_of(wires.answered)
+        if failed and wires.answered.outcome == 'Failed':
+            failed.is_spoiled = True
+        if begun:
+            yield from self.begun_at(begun, wires.begun, c - 1)
+        for line in self.lines.values():
+            yield from self.whole_clock(line, wires.begun if line is begun else None, c - 1)
+        line = self.line_of(wires.snooped)
+        if line:
+            yield from self.snooped_at(line, wires.snooped, c)
+        for line in {self.line_of(wires.snooped), self.line_of(wires.answered)} - {None}:
+            if not line.is_spoiled and is_given_again(line.requests):
+                yield 31
+
+    def begun_at(self, line, request, q):
+        """Rules 21 to 24 of a request that begins at q, but for what its agent has."""
+        others = list(line.requests)
+        line.requests.append(request)
+        if line.is_spoiled:
+            return
+        if any(other.agent == request.agent and other.kind != 'Reply' and other.is_outstanding(q) for other in others):
+            yield 21
+        if request.kind == 'WriteBack' and any(
+                other.agent != request.agent and other.kind != 'Reply' and other.awaits_snoop(q) for other in others):
+            yield 22
+
+    def whole_clock(self, line, begun, c):
+        """Goes on by the clock c, at which `begun` begins."""
+        joints = line.joints = line.with_stores(line.joints, c)
+        if begun:
+            joints = asked(joints, begun)
+            if line.joints and not joints and not line.is_spoiled:
+                yield RULE_OF_KIND[begun.kind]
+        request, line.snooped = line.snooped, None
+        if request:
+            left = answered(joints, request)
+            if not line.is_spoiled:
+                yield from rules_of_answer(joints, left, request)
+            joints = turned(left, request)
+        line.joints = line.with_drops(joints, c)
+        line.forget(c)
+
+    def snooped_at(self, line, request, c):
+        """The first look at a snoop end at c. A request that begins there is not decoded yet."""
+        if request.kind == 'Reply':
+            line.requests.append(request)
+        line.snooped = request
+        if line.is_spoiled:
+            return
+        if request.kind == 'Reply' and request.hit != request.asked.hit:
+            yield 30
+        joints = line.with_stores(line.joints, c)
+        yield from rules_of_answer(joints, answered(joints, request), request)
+
+
+def rules_of_answer(joints, left, request):
+    """The rule that a snoop end breaks which leaves none of the joint states."""
+    if left or not joints:
+        return
+    if request.kind == 'WriteBack':
+        yield 29
+    elif request.hitm:
+        yield 25
+    elif all(has_other(joint, request.agent, 'M') for joint in joints):
+        yield 26
+    else:
+        yield 28 if request.hit else 27
+
+
+def is_given_again(requests):
+    """Rule 31: a Deferred request has not been answered, and a later one for its line is served or Deferred."""
+    def is_given(i, j):
+        answer = i.reply.snoop_end if i.reply else None
+        return (is_below(i.snoop_end, j.snoop_end) and not is_below(answer, j.snoop_end)
+                and (not (j.turned or j.hitm) or j.outcome == 'Deferred'))
+    return any(is_given(i, j) for i in requests if i.outcome == 'Deferred'
+               for j in requests if j.kind in ('Read', 'Invalidate', 'Upgrade') and j.snoop_end is not None)
+
+
+def finding(samples, first=frozenset([UNHELD])):
+    """The first clock and rule of 21 to 31, or None."""
+    judge = Judge(first)
+    for sample in samples:
+        if judge.feed(sample):
+            return judge.found
+    return None
