@@ -3,22 +3,22 @@
 
     second_coherence.py DUMP [--within]              its verdict: `coherent clocks=N`, or `incoherent clock=C rule=J` with status 1
     second_coherence.py --trials [COUNT [SEED]]      tries the judge itself, on the worked runs and on COUNT (2,000) random traces
-    second_coherence.py --program PROGRAM DUMP..     compares `PROGRAM check --coherence DUMP` with both second judges
 
 The judge goes once over the samples. For each line it keeps the set of joint states, four letters each: agent 0 has the line
 Shared in `SIII`. It judges rules 21 to 31 alone: the verdict means something where no phase rule is broken up to its clock.
 `--within` begins with all 24 joint states, as of a trace that begins in traffic.
 """
 import collections
-import os
 import random
-import subprocess
 import sys
 from functools import lru_cache
 
 sys.dont_write_bytecode = True
-from second_dump import read_samples
-from second_judge import DEFERRED, HARD_FAILURE, IDLE, NO_REQUEST, PRIORITY, REQUEST_LINES, RETRY, SYMMETRIC, decode, verdict
+from coherence_rows import all_rows
+from coherent_courses import first_unexplained
+from random_coherent import FAULTS, System, samples_of
+from second_dump import Marks, read_samples
+from second_judge import DEFERRED, HARD_FAILURE, IDLE, NO_REQUEST, PRIORITY, REQUEST_LINES, RETRY, SYMMETRIC, decode
 
 UNHELD = 'IIII'
 SHARINGS = [''.join('S' if holders >> a & 1 else 'I' for a in SYMMETRIC) for holders in range(16)]
@@ -362,3 +362,84 @@ def finding(samples, first=frozenset([UNHELD])):
         if judge.feed(sample):
             return judge.found
     return None
+
+
+def shown(found):
+    return 'coherent' if found is None else 'clock=%d rule=%d' % found
+
+
+class Trials:
+    """Compares the judge with the search for courses, and counts."""
+
+    def __init__(self):
+        self.counts, self.first_rules = collections.Counter(), collections.Counter()
+
+    def compare(self, name, marks, samples, expected=None):
+        """The clock of the finding must be the one that no course explains, up to the first broken phase rule."""
+        unexplained, lawless = first_unexplained(marks, samples)
+        found = finding(samples if lawless is None else samples[:lawless])
+        self.counts['clocks'] += len(samples)
+        self.counts['lawless'] += lawless is not None
+        self.first_rules[found and found[1]] += 1
+        if unexplained != (found and found[0]):
+            self.differ(f'{name}: the judge says {shown(found)}, courses end at {unexplained}')
+        return found
+
+    def differ(self, text):
+        self.counts['differences'] += 1
+        print(text, flush=True)
+
+    def rows(self):
+        for name, samples, is_within, expected in all_rows():
+            self.counts['rows'] += 1
+            found = finding(samples, EVERY if is_within else frozenset([UNHELD]))
+            if found != expected:
+                self.differ(f'{name}: the judge says {shown(found)}, the row {shown(expected)}')
+            if not is_within:
+                self.compare(name, Marks(False, False), samples)
+
+    def system(self, seed, number):
+        """A random system, coherent or not: a coherent one breaks no rule."""
+        chance = random.Random(f'coherent {seed} {number}')
+        fault = chance.choice(FAULTS) if number % 3 else None
+        marks, samples = samples_of(System(chance, fault).samples)
+        found = self.compare(f'system {number} of seed {seed}, {fault}', marks, samples)
+        self.counts['coherent systems' if fault is None else 'faulty systems'] += 1
+        if found and fault is None:
+            self.differ(f'system {number} of seed {seed} is coherent: {shown(found)}')
+
+    def table(self):
+        print(' '.join(f'{name}={count}' for name, count in self.counts.items()))
+        for rule in sorted(self.first_rules, key=lambda rule: rule or 0):
+            print(f'{"coherent" if rule is None else f"rule {rule}":10}{self.first_rules[rule]:8}')
+        return int(self.counts['differences'] > 0)
+
+
+def trials(count=2000, seed=1):
+    trial = Trials()
+    trial.rows()
+    for number in range(int(count)):
+        trial.system(seed, number)
+    return trial.table()
+
+
+def status_and_line(path, first):
+    with open(path, 'rb') as source:
+        _, samples = read_samples(source.read())
+    found = finding(samples, first)
+    return (0, f'coherent clocks={len(samples)}') if found is None else (1, 'incoherent ' + shown(found))
+
+
+def main(words):
+    sys.setrecursionlimit(100000)
+    if words[:1] == ['--trials'] and len(words) <= 3:
+        return trials(*words[1:])
+    if words[1:] not in ([], ['--within']) or words[:1] == [] or words[0].startswith('--'):
+        sys.exit(__doc__)
+    status, line = status_and_line(words[0], EVERY if words[1:] else frozenset([UNHELD]))
+    print(line)
+    return status
+
+
+if __name__ == '__main__':
+    sys.exit(main(sys.argv[1:]))
