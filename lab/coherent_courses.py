@@ -163,13 +163,13 @@ def ends(machine, events, t):
 STEPS = stores, begins, cancellations, snoop_ends, ends, stores, drops
 
 
-def is_explained(trace, line):
-    """Some course has the events of the line that the trace shows; or the line is spoiled."""
+def is_explained(trace, line, starts):
+    """Some course from one of these joint states has the events of the line that the trace shows; or the line is spoiled."""
     events = Events(trace, line)
     if events.failed:
         return True
     length, seen = len(trace.samples) * len(STEPS), set()
-    todo = [(0, Machine('IIII', (), (), ()))]
+    todo = [(0, Machine(start, (), (), ())) for start in starts]
     while todo:
         place, machine = todo.pop()
         if place == length:
@@ -182,14 +182,16 @@ def is_explained(trace, line):
     return False
 
 
-def first_unexplained(marks, samples):
-    """The first clock that no course explains, and the first clock with a broken phase rule, up to which the trace is judged. None where
-    there is none."""
+def first_unexplained(marks, samples, *beginnings):
+    """For each set of first joint states the first clock that no course explains; and the first clock with a broken phase rule, up to
+    which the trace is judged. None where there is none."""
+    found = [None] * len(beginnings)
     for c in range(len(samples)):
-        if least_rule(marks, samples[:c + 1]) is not None:
-            return None, c
+        if None not in found or least_rule(marks, samples[:c + 1]) is not None:
+            return found, None if None not in found else c
         trace = Trace(marks, samples[:c + 1])
         lines = {samples[k].a >> 2 for k in trace.requests if samples[k].a is not None}
-        if not all(is_explained(trace, line) for line in lines):
-            return c, None
-    return None, None
+        for place, starts in enumerate(beginnings):
+            if found[place] is None and not all(is_explained(trace, line, starts) for line in lines):
+                found[place] = c
+    return found, None

@@ -22,6 +22,7 @@ from second_judge import DEFERRED, HARD_FAILURE, IDLE, NO_REQUEST, PRIORITY, REQ
 
 UNHELD = 'IIII'
 SHARINGS = [''.join('S' if holders >> a & 1 else 'I' for a in SYMMETRIC) for holders in range(16)]
+RESET = frozenset([UNHELD])
 EVERY = frozenset(SHARINGS + [UNHELD[:a] + letter + UNHELD[a + 1:] for letter in 'EM' for a in SYMMETRIC])
 # The states in which an agent may ask so, and the rule that is broken where it cannot be in one.
 MAY_ASK = {'Read': 'I', 'Invalidate': 'IS', 'Upgrade': 'S', 'WriteBack': 'M'}
@@ -257,7 +258,7 @@ class Line:
 class Judge:
     """Fed sample by sample, it gives the first clock with a broken rule, and the least rule there; None where there is none."""
 
-    def __init__(self, first=frozenset([UNHELD])):
+    def __init__(self, first=RESET):
         self.wires, self.lines, self.first, self.found = Wires(), {}, first, None
 
     def feed(self, sample):
@@ -355,7 +356,7 @@ def is_given_again(requests):
                for j in requests if j.kind in ('Read', 'Invalidate', 'Upgrade') and j.snoop_end is not None)
 
 
-def finding(samples, first=frozenset([UNHELD])):
+def finding(samples, first=RESET):
     """The first clock and rule of 21 to 31, or None."""
     judge = Judge(first)
     for sample in samples:
@@ -374,16 +375,19 @@ class Trials:
     def __init__(self):
         self.counts, self.first_rules = collections.Counter(), collections.Counter()
 
-    def compare(self, name, marks, samples, expected=None):
-        """The clock of the finding must be the one that no course explains, up to the first broken phase rule."""
-        unexplained, lawless = first_unexplained(marks, samples)
-        found = finding(samples if lawless is None else samples[:lawless])
+    def compare(self, name, marks, samples):
+        """The clock of the finding must be the one that no course explains, up to the first broken phase rule. The rule is counted
+        where the trace begins with empty caches, and then where it may begin in traffic."""
+        unexplained, lawless = first_unexplained(marks, samples, RESET, EVERY)
+        self.counts['traces'] += 1
         self.counts['clocks'] += len(samples)
-        self.counts['lawless'] += lawless is not None
-        self.first_rules[found and found[1]] += 1
-        if unexplained != (found and found[0]):
-            self.differ(f'{name}: the judge says {shown(found)}, courses end at {unexplained}')
-        return found
+        self.counts['with a broken phase rule'] += lawless is not None
+        found = [finding(samples if lawless is None else samples[:lawless], first) for first in (RESET, EVERY)]
+        for place, (mine, clock) in enumerate(zip(found, unexplained)):
+            self.first_rules[place, mine and mine[1]] += 1
+            if clock != (mine and mine[0]):
+                self.differ(f'{name}: the judge says {shown(mine)}, courses end at {clock}, beginning {place}')
+        return found[0]
 
     def differ(self, text):
         self.counts['differences'] += 1
@@ -392,11 +396,10 @@ class Trials:
     def rows(self):
         for name, samples, is_within, expected in all_rows():
             self.counts['rows'] += 1
-            found = finding(samples, EVERY if is_within else frozenset([UNHELD]))
+            found = finding(samples, EVERY if is_within else RESET)
             if found != expected:
                 self.differ(f'{name}: the judge says {shown(found)}, the row {shown(expected)}')
-            if not is_within:
-                self.compare(name, Marks(False, False), samples)
+            self.compare(name, Marks(False, False), samples)
 
     def system(self, seed, number):
         """A random system, coherent or not: a coherent one breaks no rule."""
@@ -410,8 +413,9 @@ class Trials:
 
     def table(self):
         print(' '.join(f'{name}={count}' for name, count in self.counts.items()))
-        for rule in sorted(self.first_rules, key=lambda rule: rule or 0):
-            print(f'{"coherent" if rule is None else f"rule {rule}":10}{self.first_rules[rule]:8}')
+        for rule in (None, *range(21, 32)):
+            counts = [self.first_rules[place, rule] for place in (0, 1)]
+            print(f'{"coherent" if rule is None else f"rule {rule}":10}{counts[0]:8}{counts[1]:8}')
         return int(self.counts['differences'] > 0)
 
 
@@ -436,7 +440,7 @@ def main(words):
         return trials(*words[1:])
     if words[1:] not in ([], ['--within']) or words[:1] == [] or words[0].startswith('--'):
         sys.exit(__doc__)
-    status, line = status_and_line(words[0], EVERY if words[1:] else frozenset([UNHELD]))
+    status, line = status_and_line(words[0], EVERY if words[1:] else RESET)
     print(line)
     return status
 
