@@ -2,7 +2,8 @@
 """A second judge of coherence, written from docs/ownership-rules.md, docs/phase-rules.md and docs/dump.md alone.
 
     second_coherence.py DUMP [--within]              its verdict: `coherent clocks=N`, or `incoherent clock=C rule=J` with status 1
-    second_coherence.py --trials [COUNT [SEED]]      tries the judge itself, on the worked runs and on COUNT (2,000) random traces
+    second_coherence.py --trials [COUNT [SEED]]      tries the judge itself, on the rows and on COUNT (2,000) random systems
+    second_coherence.py --runs [COUNT [SEED]]        looks that COUNT (2,000) simulated runs of random bench files break no rule
 
 The judge goes once over the samples. For each line it keeps the set of joint states, four letters each: agent 0 has the line
 Shared in `SIII`. It judges rules 21 to 31 alone: the verdict means something where no phase rule is broken up to its clock.
@@ -14,11 +15,14 @@ import sys
 from functools import lru_cache
 
 sys.dont_write_bytecode = True
-from coherence_rows import all_rows
+from coherence_rows import all_rows, sample
 from coherent_courses import first_unexplained
+from random_benches import Form
 from random_coherent import FAULTS, System, samples_of
+from second_bench import Run
 from second_dump import Marks, read_samples
 from second_judge import DEFERRED, HARD_FAILURE, IDLE, NO_REQUEST, PRIORITY, REQUEST_LINES, RETRY, SYMMETRIC, decode
+from second_reader import Reader
 
 UNHELD = 'IIII'
 SHARINGS = [''.join('S' if holders >> a & 1 else 'I' for a in SYMMETRIC) for holders in range(16)]
@@ -411,9 +415,21 @@ class Trials:
         if found and fault is None:
             self.differ(f'system {number} of seed {seed} is coherent: {shown(found)}')
 
+    def run(self, seed, number):
+        """A simulated run is coherent, where it begins with empty caches and where it may begin in traffic."""
+        text = ''.join(line + '\n' for line in Form(random.Random(f'run {seed} {number}')).text())
+        plan = Reader(text).plan
+        samples = [sample(*clock) for clock in Run(plan).trace]
+        self.counts['runs'] += 1
+        self.counts['clocks'] += len(samples)
+        for found in (finding(samples, RESET), finding(samples, EVERY)):
+            if found:
+                self.differ(f'run {number} of seed {seed}: {shown(found)}')
+
     def table(self):
+        self.counts['differences'] += 0
         print(' '.join(f'{name}={count}' for name, count in self.counts.items()))
-        for rule in (None, *range(21, 32)):
+        for rule in (None, *range(21, 32)) if self.counts['traces'] else ():
             counts = [self.first_rules[place, rule] for place in (0, 1)]
             print(f'{"coherent" if rule is None else f"rule {rule}":10}{counts[0]:8}{counts[1]:8}')
         return int(self.counts['differences'] > 0)
@@ -427,6 +443,13 @@ def trials(count=2000, seed=1):
     return trial.table()
 
 
+def runs(count=2000, seed=1):
+    trial = Trials()
+    for number in range(int(count)):
+        trial.run(seed, number)
+    return trial.table()
+
+
 def status_and_line(path, first):
     with open(path, 'rb') as source:
         _, samples = read_samples(source.read())
@@ -436,8 +459,8 @@ def status_and_line(path, first):
 
 def main(words):
     sys.setrecursionlimit(100000)
-    if words[:1] == ['--trials'] and len(words) <= 3:
-        return trials(*words[1:])
+    if words[:1] in (['--trials'], ['--runs']) and len(words) <= 3:
+        return (trials if words[0] == '--trials' else runs)(*words[1:])
     if words[1:] not in ([], ['--within']) or words[:1] == [] or words[0].startswith('--'):
         sys.exit(__doc__)
     status, line = status_and_line(words[0], EVERY if words[1:] else RESET)

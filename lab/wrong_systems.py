@@ -1,16 +1,16 @@
 #!/usr/bin/env python3
 """Plants faults in the agents of a simulator, and counts which of them the wires show to which judge.
 
-    wrong_systems.py [COUNT [SEED [--program PROGRAM]]]
+    wrong_systems.py [COUNT [SEED [--courses] [--program PROGRAM]]]
 
 Each fault is planted in run_with_bytes.py, and run over COUNT (300) random bench files. Runs whose wires are those of the right
 simulator are left out: the fault was never met. Of the others the table has how many, in how many of them a load gets a value that
 no one memory has, and the share that is found: by the phase rules (`check`), by the bytes on the bus (`audit`), by either, by rules
 21 to 31 up to the first broken phase rule, and by all. The right simulator stands in the first row. The judges are those in Python.
-With PROGRAM each dump is judged by `PROGRAM check --coherence` too, and each verdict that is another is printed.
+With --courses the search of coherent_courses.py must come to the same clock (three times as slow). With PROGRAM each dump is judged by
+`PROGRAM check --coherence` too. Each verdict that is another is printed.
 """
 import collections
-import os
 import random
 import re
 import subprocess
@@ -19,6 +19,7 @@ import tempfile
 
 sys.dont_write_bytecode = True
 from coherence_rows import sample
+from coherent_courses import first_unexplained
 from random_benches import Form
 from run_with_bytes import RunWithBytes, is_log_right
 from second_bench import EXCLUSIVE, INVALIDATE, KEEP, MODIFIED, READ, REPLY, SHARED, UPGRADE, WRITE_BACK, Want
@@ -232,9 +233,11 @@ class Judged:
 
 
 class Trials:
-    def __init__(self, program=None):
-        self.program, self.counts, self.rules = program, collections.Counter(), collections.Counter()
-        self.differences = 0
+    """The counts by system, and the other judges that are asked: the search for courses, and a program."""
+
+    def __init__(self, has_courses, program):
+        self.has_courses, self.program = has_courses, program
+        self.counts, self.rules, self.differences = collections.Counter(), collections.Counter(), 0
 
     def run(self, system, text, trace):
         run = system(Reader(text).plan)
@@ -251,18 +254,27 @@ class Trials:
         counts.update((system, name) for name, finding_of in zip(names, found) if finding_of is not None)
         if judged.coherence:
             self.rules[system, judged.coherence[1]] += 1
+        if self.has_courses:
+            (unexplained,), _ = first_unexplained(judged.marks, judged.samples, ['IIII'])
+            if unexplained != (judged.coherence and judged.coherence[0]):
+                self.differ(run, f'courses end at {unexplained}, the judges say {judged.first_of_all()}')
         if self.program:
             self.compare(run, judged)
 
-    def compare(self, run, judged):
-        with tempfile.NamedTemporaryFile('w', suffix='.vcd', delete=False) as dump:
+    def differ(self, run, text):
+        """Keeps the dump of a run that is judged in two ways."""
+        self.differences += 1
+        with tempfile.NamedTemporaryFile('w', suffix='.vcd', prefix='wrong_systems.', delete=False) as dump:
             dump.writelines(line + '\n' for line in run.dump_lines())
-        said = verdict_of_program(self.program, dump.name)
-        if said == judged.first_of_all():
-            os.remove(dump.name)
-        else:
-            self.differences += 1
-            print(f'{dump.name}: the program says {said}, the judges {judged.first_of_all()}', flush=True)
+        print(f'{dump.name}: {text}', flush=True)
+
+    def compare(self, run, judged):
+        with tempfile.NamedTemporaryFile('w', suffix='.vcd') as dump:
+            dump.writelines(line + '\n' for line in run.dump_lines())
+            dump.flush()
+            said = verdict_of_program(self.program, dump.name)
+        if said != judged.first_of_all():
+            self.differ(run, f'the program says {said}, the judges say {judged.first_of_all()}')
 
     def table(self):
         names = 'runs', 'wrong', 'check', 'audit', 'either', 'coherence', 'all'
@@ -296,14 +308,16 @@ def verdict_of_program(program, path):
 
 
 def main(words):
-    program = None
+    program, has_courses = None, False
     if words[-2:-1] == ['--program']:
         program, words = words[-1], words[:-2]
-    if len(words) > 2:
+    if words[-1:] == ['--courses']:
+        has_courses, words = True, words[:-1]
+    if len(words) > 2 or any(word.startswith('-') for word in words):
         sys.exit(__doc__)
     count, seed = int(words[0]) if words else 300, words[1] if words[1:] else 1
     sys.setrecursionlimit(100000)
-    trials = Trials(program)
+    trials = Trials(has_courses, program)
     for number in range(count):
         text = random_plan(random.Random(f'wrong {seed} {number}'))
         trace = RunWithBytes(Reader(text).plan).trace
