@@ -163,28 +163,58 @@ def ends(machine, events, t):
 STEPS = stores, begins, cancellations, snoop_ends, ends, stores, drops
 
 
-def is_explained(trace, line, starts):
-    """Some course from one of these joint states has the events of the line that the trace shows; or the line is spoiled."""
+def broken_rule(trace, line, starts):
+    """None where some course from one of these joint states has the events of the line that the trace shows, or where the line is
+    spoiled. Else the rule of the event at which the courses that came furthest end."""
     events = Events(trace, line)
     if events.failed:
-        return True
+        return None
     length, seen = len(trace.samples) * len(STEPS), set()
     todo = [(0, Machine(start, (), (), ())) for start in starts]
     while todo:
         place, machine = todo.pop()
         if place == length:
-            return True
+            return None
         t, step = divmod(place, len(STEPS))
         for after in STEPS[step](machine, events, t):
             if (place + 1, after) not in seen:
                 seen.add((place + 1, after))
                 todo.append((place + 1, after))
-    return False
+    last = max(place for place, _ in seen)
+    t, step = divmod(last, len(STEPS))
+    machines = [machine for place, machine in seen if place == last]
+    return rule_of_begin(events, t) if STEPS[step] is begins else rule_of_snoop(events, t, machines)
+
+
+def rule_of_begin(events, t):
+    a, kind = events.agent(t), events.kind(t)
+    if any(events.agent(k) == a and k < t and events.trace.is_outstanding(k, t) for k in events.begun):
+        return 21
+    return {'WriteBack': 22, 'Upgrade': 23}.get(kind, 24)
+
+
+def rule_of_snoop(events, t, machines):
+    """The rule that a snoop end breaks at which these courses end. One that fits its answer is not given the line, since it is pending
+    or is told Deferred."""
+    i, k = events.snooped[t]
+    a, kind, trace = events.agent(k), events.kind(k), events.trace
+    hit, hitm = (trace.has(line, t) for line in ('HIT', 'HITM'))
+    if trace.request_of(i).kind == 'Reply':
+        return 30
+    if kind == 'WriteBack':
+        return 29
+    owned = ['M' in others(machine, a) for machine in machines]
+    held = [any(state != 'I' for state in others(machine, a)) for machine in machines]
+    if any(hitm == is_owned and hit == (is_held and not is_owned) for is_owned, is_held in zip(owned, held)):
+        return 31
+    if hitm:
+        return 25
+    return 26 if all(owned) else 28 if hit else 27
 
 
 def first_unexplained(marks, samples, *beginnings):
-    """For each set of first joint states the first clock that no course explains; and the first clock with a broken phase rule, up to
-    which the trace is judged. None where there is none."""
+    """For each set of first joint states the first clock that no course explains, and the rule; and the first clock with a broken phase
+    rule, up to which the trace is judged. None where there is none."""
     found = [None] * len(beginnings)
     for c in range(len(samples)):
         if None not in found or least_rule(marks, samples[:c + 1]) is not None:
@@ -192,6 +222,7 @@ def first_unexplained(marks, samples, *beginnings):
         trace = Trace(marks, samples[:c + 1])
         lines = {samples[k].a >> 2 for k in trace.requests if samples[k].a is not None}
         for place, starts in enumerate(beginnings):
-            if found[place] is None and not all(is_explained(trace, line, starts) for line in lines):
-                found[place] = c
+            rules = [broken_rule(trace, line, starts) for line in lines] if found[place] is None else []
+            if any(rules):
+                found[place] = c, min(filter(None, rules))
     return found, None

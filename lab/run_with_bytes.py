@@ -54,6 +54,10 @@ class RunWithBytes(Run):
         if agent.states.get(line) == 'Exclusive':
             agent.states[line] = MODIFIED
 
+    def is_held_back(self, number, want):
+        """An agent of a wrong system may want nothing any more when it wins."""
+        return want is None or super().is_held_back(number, want)
+
     # Where the bytes of a request come from, and where they go.
 
     def owner_of(self, request):

@@ -380,17 +380,17 @@ class Trials:
         self.counts, self.first_rules = collections.Counter(), collections.Counter()
 
     def compare(self, name, marks, samples):
-        """The clock of the finding must be the one that no course explains, up to the first broken phase rule. The rule is counted
-        where the trace begins with empty caches, and then where it may begin in traffic."""
+        """The finding must be the first clock that no course explains, up to the first broken phase rule, and the rule of the event at
+        which the courses end. Where the trace begins with empty caches and where it may begin in traffic is counted apart."""
         unexplained, lawless = first_unexplained(marks, samples, RESET, EVERY)
         self.counts['traces'] += 1
         self.counts['clocks'] += len(samples)
         self.counts['with a broken phase rule'] += lawless is not None
         found = [finding(samples if lawless is None else samples[:lawless], first) for first in (RESET, EVERY)]
-        for place, (mine, clock) in enumerate(zip(found, unexplained)):
+        for place, (mine, other) in enumerate(zip(found, unexplained)):
             self.first_rules[place, mine and mine[1]] += 1
-            if clock != (mine and mine[0]):
-                self.differ(f'{name}: the judge says {shown(mine)}, courses end at {clock}, beginning {place}')
+            if mine != other:
+                self.differ(f'{name}: the judge says {shown(mine)}, the courses {shown(other)}, beginning {place}')
         return found[0]
 
     def differ(self, text):

@@ -7,7 +7,7 @@ Each fault is planted in run_with_bytes.py, and run over COUNT (300) random benc
 simulator are left out: the fault was never met. Of the others the table has how many, in how many of them a load gets a value that
 no one memory has, and the share that is found: by the phase rules (`check`), by the bytes on the bus (`audit`), by either, by rules
 21 to 31 up to the first broken phase rule, and by all. The right simulator stands in the first row. The judges are those in Python.
-With --courses the search of coherent_courses.py must come to the same clock (three times as slow). With PROGRAM each dump is judged by
+With --courses the search of coherent_courses.py must come to the same clock and rule (eight times as slow). With PROGRAM each dump is judged by
 `PROGRAM check --coherence` too. Each verdict that is another is printed.
 """
 import collections
@@ -119,7 +119,7 @@ class DirtyDropped(CleanWriteBack):
 class WriteBackTooSoon(RunWithBytes):
     """a write-back begins while another's request for the line is open"""
     def is_held_back(self, number, want):
-        return False
+        return want is None
 
 
 class PendingGiven(RunWithBytes):
@@ -166,9 +166,12 @@ class SharedAsExclusive(RunWithBytes):
 
 class StoreIntoShared(RunWithBytes):
     """an agent stores into a Shared line, and has it Modified"""
+    def asks(self, agent):
+        return bool(self.trace) and f'BREQ{agent.number}' in self.trace[-1][0]
+
     def want_of(self, agent, c):
         for line in [line for line, state in agent.states.items() if state == SHARED and agent.ends[line] < c]:
-            if agent.item is not None and agent.item.needs_alone and line in agent.item.chunks:
+            if agent.item is not None and agent.item.needs_alone and line in agent.item.chunks and not self.asks(agent):
                 agent.states[line] = EXCLUSIVE
         return super().want_of(agent, c)
 
@@ -186,10 +189,11 @@ class ExclusiveAsksToOwn(RunWithBytes):
 class ForgetsWhatItHas(RunWithBytes):
     """an agent reads a line again that it has Modified"""
     def hit(self, agent, c):
-        item = agent.item
-        if item is not None and item.needs_alone is False and c % 3 == 0:
-            for line in item.chunks:
-                agent.states.pop(line, None)
+        if agent.item is not None and not agent.item.needs_alone:
+            for line in agent.item.chunks:
+                if agent.states.get(line) == MODIFIED and agent.ends[line] < c:
+                    del agent.states[line]
+            self.forget_lost()
         super().hit(agent, c)
 
 
@@ -207,8 +211,8 @@ SYSTEMS = (RunWithBytes, SilentOwner, OwnerSaysHit, OwnerWithoutBytes, SilentHol
 
 def random_plan(chance):
     """The text of a bench file in which the agents have lines in common."""
-    form = Form(chance)
-    while form.agents == 1 or form.items < 6:
+    form, wanted = Form(chance), chance.choice(('', '', 'upgrades', 'deferrals', None))
+    while form.agents == 1 or form.items < 6 or wanted not in (None, form.theme):
         form = Form(chance)
     if chance.random() < 0.5:
         form.lines, form.cache = form.lines[:3], chance.choice((1, 2, 4))
@@ -256,8 +260,8 @@ class Trials:
             self.rules[system, judged.coherence[1]] += 1
         if self.has_courses:
             (unexplained,), _ = first_unexplained(judged.marks, judged.samples, ['IIII'])
-            if unexplained != (judged.coherence and judged.coherence[0]):
-                self.differ(run, f'courses end at {unexplained}, the judges say {judged.first_of_all()}')
+            if unexplained != judged.coherence:
+                self.differ(run, f'the courses say {unexplained}, the judges {judged.first_of_all()}')
         if self.program:
             self.compare(run, judged)
 
