@@ -1,18 +1,22 @@
 #!/usr/bin/env python3
 """Plants faults in the agents of a simulator, and counts which of them the wires show to which judge.
 
-    wrong_systems.py [COUNT [SEED [--courses] [--program PROGRAM]]]
+    wrong_systems.py [COUNT [SEED [--courses] [--program WORDS]]]
 
 Each fault is planted in run_with_bytes.py, and run over COUNT (300) random bench files. Runs whose wires are those of the right
-simulator are left out: the fault was never met. Of the others the table has how many, in how many of them a load gets a value that
-no one memory has, and the share that is found: by the phase rules (`check`), by the bytes on the bus (`audit`), by either, by rules
-21 to 31 up to the first broken phase rule, and by all. The right simulator stands in the first row. The judges are those in Python.
-With --courses the search of coherent_courses.py must come to the same clock and rule (eight times as slow). With PROGRAM each dump is judged by
-`PROGRAM check --coherence` too. Each verdict that is another is printed.
+simulator are left out: the fault was never met. Of the others the table has how many there are, in how many of them a load gets a
+value that no one memory has, and the share that is found: by the phase rules (`check`), by the bytes on the bus (`audit`), by either,
+by rules 21 to 31 up to the first broken phase rule, and by all. Which of these rules was the first one stands behind. The right
+simulator stands in the first row. The judges are those in Python.
+
+With --courses the search of coherent_courses.py must come to the same clock and rule. It takes eight times as long. With --program each
+dump is judged by a program too, as by `--program "crates/p6scope/out/p6scope coherence"`. Each verdict that is another is printed,
+and its dump is kept; the status is 1 then, or where the right simulator has a finding.
 """
 import collections
 import random
 import re
+import shlex
 import subprocess
 import sys
 import tempfile
@@ -300,10 +304,10 @@ def row(name, of):
     return f'{name:68}{of["runs"]:10}{shares} '
 
 
-def verdict_of_program(program, path):
-    """The clock and the rule that the program names, or None; or all that it says where its status is neither 0 nor 1."""
-    done = subprocess.run([program, 'check', '--coherence', path], capture_output=True, text=True)
-    named = re.search(r'clock[ =](\d+).*?rule[ =](\d+)', done.stdout, re.S)
+def verdict_of_program(words, path):
+    """The clock and the rule that the program names, or None; or all that it says where its status does not fit that."""
+    done = subprocess.run(shlex.split(words) + [path], capture_output=True, text=True)
+    named = re.search(r'^rejected at clock (\d+),.*?rule (\d+)', done.stdout, re.M)
     if done.returncode == 0 and not named:
         return None
     if done.returncode == 1 and named:
