@@ -2,7 +2,7 @@
 """A second judge of coherence, written from docs/ownership-rules.md, docs/phase-rules.md and docs/dump.md alone.
 
     second_coherence.py DUMP [--within]              its verdict: `coherent clocks=N`, or `incoherent clock=C rule=J` with status 1
-    second_coherence.py --trials [COUNT [SEED]]      tries the judge itself, on the rows and on COUNT (2,000) random systems
+    second_coherence.py --trials [COUNT [SEED]]      tries the judge itself, on the rows and on twice COUNT (2,000) random traces
     second_coherence.py --runs [COUNT [SEED]]        looks that COUNT (2,000) simulated runs of random bench files break no rule
 
 The judge goes once over the samples. For each line it keeps the set of joint states, four letters each: agent 0 has the line
@@ -11,6 +11,7 @@ Shared in `SIII`. It judges rules 21 to 31 alone: the verdict means something wh
 """
 import collections
 import random
+import re
 import sys
 from functools import lru_cache
 
@@ -21,13 +22,15 @@ from random_benches import Form
 from random_coherent import FAULTS, System, samples_of
 from second_bench import Run
 from second_dump import Marks, read_samples
-from second_judge import DEFERRED, HARD_FAILURE, IDLE, NO_REQUEST, PRIORITY, REQUEST_LINES, RETRY, SYMMETRIC, decode
+from second_judge import (DEFERRED, HARD_FAILURE, IDLE, KINDS, NO_REQUEST, PRIORITY, REQUEST_LINES, RETRY, SYMMETRIC, Trace,
+                          decode, verdict)
 from second_reader import Reader
 
 UNHELD = 'IIII'
 SHARINGS = [''.join('S' if holders >> a & 1 else 'I' for a in SYMMETRIC) for holders in range(16)]
 RESET = frozenset([UNHELD])
 EVERY = frozenset(SHARINGS + [UNHELD[:a] + letter + UNHELD[a + 1:] for letter in 'EM' for a in SYMMETRIC])
+LONGEST = 100  # the clocks of a run that is changed
 # The states in which an agent may ask so, and the rule that is broken where it cannot be in one.
 MAY_ASK = {'Read': 'I', 'Invalidate': 'IS', 'Upgrade': 'S', 'WriteBack': 'M'}
 RULE_OF_KIND = {'Read': 24, 'Invalidate': 24, 'Upgrade': 23, 'WriteBack': 22}
@@ -373,6 +376,25 @@ def shown(found):
     return 'coherent' if found is None else 'clock=%d rule=%d' % found
 
 
+def simulated(chance, longest=None):
+    """The samples of a simulated run of a random bench file, of so many clocks at most."""
+    plan = Reader(''.join(line + '\n' for line in Form(chance).text())).plan
+    plan.clocks = min(plan.clocks, longest or plan.clocks)
+    return [sample(*clock) for clock in Run(plan).trace]
+
+
+def quiet_clocks(samples):
+    """The clocks before which requests were made, and all of them are over, and behind which others are made."""
+    wires, found = Wires(), []
+    last = max((c for c, clock in enumerate(samples) if 'ADS' in clock.asserted), default=0)
+    for c, clock in enumerate(samples):
+        wires.feed(clock)
+        is_busy = wires.young or wires.unsnooped or wires.unanswered or wires.moving
+        if c < last - 2 and wires.last_snoop_end > 0 and not is_busy and all(r.reply and r.reply.end for r in wires.deferred):
+            found.append(c + 1)
+    return found
+
+
 class Trials:
     """Compares the judge with the search for courses, and counts."""
 
@@ -415,16 +437,46 @@ class Trials:
         if found and fault is None:
             self.differ(f'system {number} of seed {seed} is coherent: {shown(found)}')
 
+    def changed_run(self, seed, number):
+        """A simulated run with one thing changed: a line at a snoop end, or the kind or the line of a request."""
+        chance = random.Random(f'changed {seed} {number}')
+        samples = simulated(chance, LONGEST)
+        trace = Trace(Marks(False, False), samples)
+        ends = [trace.snoop_end_of(i) for i in range(len(trace.live)) if trace.snoop_end_of(i) is not None]
+        requests = [k for k in trace.requests if trace.request_at(k).kind in RULE_OF_KIND]
+        if not ends or not requests:
+            return
+        way, c, k = chance.choice(('HIT', 'HITM', 'DEFER', 'kind', 'line')), chance.choice(ends), chance.choice(requests)
+        if way == 'kind':
+            first, second = chance.choice(list(KINDS))
+            samples[k], samples[k + 1] = samples[k]._replace(req=first | samples[k].req & 0b01000), samples[k + 1]._replace(req=second)
+        elif way == 'line':
+            samples[k] = samples[k]._replace(a=samples[k].a & 0b11 | samples[chance.choice(requests)].a & ~0b11)
+        else:
+            samples[c] = samples[c]._replace(asserted=samples[c].asserted ^ {way})
+        self.counts['changed runs'] += 1
+        self.compare(f'changed run {number} of seed {seed}, {way}', Marks(False, False), samples)
+
     def run(self, seed, number):
-        """A simulated run is coherent, where it begins with empty caches and where it may begin in traffic."""
-        text = ''.join(line + '\n' for line in Form(random.Random(f'run {seed} {number}')).text())
-        plan = Reader(text).plan
-        samples = [sample(*clock) for clock in Run(plan).trace]
+        """A simulated run is coherent, where it begins with empty caches and where it may begin in traffic; and every tenth time the
+        clocks from a quiet one on, up to their first broken phase rule."""
+        chance = random.Random(f'run {seed} {number}')
+        samples = simulated(chance)
         self.counts['runs'] += 1
         self.counts['clocks'] += len(samples)
         for found in (finding(samples, RESET), finding(samples, EVERY)):
             if found:
                 self.differ(f'run {number} of seed {seed}: {shown(found)}')
+        quiet = quiet_clocks(samples) if number % 10 == 0 else []
+        if quiet:
+            first = chance.choice(quiet)
+            rest = samples[first:first + 200]
+            lawless = re.match(r'rejected clock=(\d+)', verdict(Marks(False, False), rest))
+            self.counts['clocks from a quiet one on'] += len(rest)
+            self.counts['with a broken phase rule'] += lawless is not None
+            found = finding(rest[:int(lawless[1])] if lawless else rest, EVERY)
+            if found:
+                self.differ(f'run {number} of seed {seed} from clock {first} on: {shown(found)}')
 
     def table(self):
         self.counts['differences'] += 0
@@ -440,6 +492,7 @@ def trials(count=2000, seed=1):
     trial.rows()
     for number in range(int(count)):
         trial.system(seed, number)
+        trial.changed_run(seed, number)
     return trial.table()
 
 
