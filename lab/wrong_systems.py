@@ -34,6 +34,7 @@ from second_look import foul_chunk
 from second_reader import Reader
 
 LONGEST = 160
+WRONG = 'all faults, where a load got a wrong value'
 
 
 class SilentOwner(RunWithBytes):
@@ -256,10 +257,11 @@ class Trials:
         found = [judged.check, judged.foul, judged.check or judged.foul, judged.coherence,
                  judged.check or judged.foul or judged.coherence]
         names = ['check', 'audit', 'either', 'coherence', 'all']
-        counts = self.counts
-        counts[system, 'runs'] += 1
-        counts[system, 'wrong'] += not is_log_right(run.log, run.plan.memory)
-        counts.update((system, name) for name, finding_of in zip(names, found) if finding_of is not None)
+        is_wrong = not is_log_right(run.log, run.plan.memory)
+        for of in (system, WRONG) if is_wrong else (system,):
+            self.counts[of, 'runs'] += 1
+            self.counts[of, 'wrong'] += is_wrong
+            self.counts.update((of, name) for name, finding_of in zip(names, found) if finding_of is not None)
         if judged.coherence:
             self.rules[system, judged.coherence[1]] += 1
         if self.has_courses:
@@ -293,6 +295,7 @@ class Trials:
             print(row(system.__doc__ if system is not RunWithBytes else 'none', of), self.rules_of(system))
             total.update(of if system is not RunWithBytes else {})
         print(row('all faults', total))
+        print(row(WRONG, {name: self.counts[WRONG, name] for name in names}))
 
     def rules_of(self, system):
         return ' '.join(f'{rule}:{self.rules[system, rule]}' for rule in range(21, 32) if self.rules[system, rule])
