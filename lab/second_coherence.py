@@ -1,23 +1,30 @@
 #!/usr/bin/env python3
 """A second judge of coherence, written from docs/ownership-rules.md, docs/phase-rules.md and docs/dump.md alone.
 
-    second_coherence.py DUMP [--within]              its verdict: `coherent clocks=N`, or `incoherent clock=C rule=J` with status 1
-    second_coherence.py --trials [COUNT [SEED]]      tries the judge itself, on the rows and on twice COUNT (2,000) random traces
-    second_coherence.py --runs [COUNT [SEED]]        looks that COUNT (2,000) simulated runs of random bench files break no rule
+    second_coherence.py DUMP [--within]                 its verdict: `coherent clocks=N`, or `incoherent clock=C rule=J` with status 1
+    second_coherence.py --trials [COUNT [SEED]]         tries the judge itself, on the rows and on twice COUNT (2,000) random traces
+    second_coherence.py --program WORDS [COUNT [SEED]]  gives the same traces as dumps to a program, and compares its verdicts
+    second_coherence.py --runs [COUNT [SEED]]           looks that COUNT (2,000) simulated runs of random bench files break no rule
 
 The judge goes once over the samples. For each line it keeps the set of joint states, four letters each: agent 0 has the line
 Shared in `SIII`. It judges rules 21 to 31 alone: the verdict means something where no phase rule is broken up to its clock.
-`--within` begins with all 24 joint states, as of a trace that begins in traffic.
+`--within` begins with all 24 joint states, as of a trace that begins in traffic. The WORDS of a program may be
+`crates/p6scope/out/p6scope coherence`. Its verdict is to be the first of all 31 rules, and a dump that it judges otherwise is kept.
 """
 import collections
+import os
 import random
 import re
+import shlex
+import subprocess
 import sys
+import tempfile
 from functools import lru_cache
 
 sys.dont_write_bytecode = True
 from coherence_rows import all_rows, sample
 from coherent_courses import first_unexplained
+from dump_of_trace import dump
 from random_benches import Form
 from random_coherent import FAULTS, System, samples_of
 from second_bench import Run
@@ -372,6 +379,35 @@ def finding(samples, first=RESET):
     return None
 
 
+def verdict_of_all(marks, samples, first=0):
+    """The first clock and rule of 1 to 31, or None. No phase rule is broken below the first clock."""
+    rejected = re.match(r'rejected clock=(\d+) rule=(\d+)', verdict(marks, samples, first))
+    check = (int(rejected[1]), int(rejected[2])) if rejected else None
+    return finding(samples if check is None else samples[:check[0]]) or check
+
+
+def verdict_of_program(words, path):
+    """The clock and the rule that the program names, or None; or all that it says where its status does not fit that."""
+    done = subprocess.run(shlex.split(words) + [path], capture_output=True, text=True)
+    named = re.search(r'^rejected at clock (\d+),.*?rule (\d+)', done.stdout, re.M)
+    if done.returncode == 0 and not named:
+        return None
+    if done.returncode == 1 and named:
+        return int(named[1]), int(named[2])
+    return f'{done.stdout}{done.stderr}status {done.returncode}'
+
+
+def difference_to_program(words, lines, expected):
+    """What the program says of a dump of these lines where it is not the expected verdict; the dump is kept then."""
+    with tempfile.NamedTemporaryFile('w', suffix='.vcd', prefix='coherence.', delete=False) as dump_file:
+        dump_file.writelines(line + '\n' for line in lines)
+    said = verdict_of_program(words, dump_file.name)
+    if said == expected:
+        os.remove(dump_file.name)
+        return None
+    return f'{dump_file.name}: the program says {said}, the judges say {expected}'
+
+
 def shown(found):
     return 'coherent' if found is None else 'clock=%d rule=%d' % found
 
@@ -396,17 +432,20 @@ def quiet_clocks(samples):
 
 
 class Trials:
-    """Compares the judge with the search for courses, and counts."""
+    """Compares the judge with the search for courses, or a program with the judges, and counts."""
 
-    def __init__(self):
+    def __init__(self, program=None):
+        self.program = program
         self.counts, self.first_rules = collections.Counter(), collections.Counter()
 
     def compare(self, name, marks, samples):
         """The finding must be the first clock that no course explains, up to the first broken phase rule, and the rule of the event at
         which the courses end. Where the trace begins with empty caches and where it may begin in traffic is counted apart."""
-        unexplained, lawless = first_unexplained(marks, samples, RESET, EVERY)
         self.counts['traces'] += 1
         self.counts['clocks'] += len(samples)
+        if self.program:
+            return self.compare_program(name, samples)
+        unexplained, lawless = first_unexplained(marks, samples, RESET, EVERY)
         self.counts['with a broken phase rule'] += lawless is not None
         found = [finding(samples if lawless is None else samples[:lawless], first) for first in (RESET, EVERY)]
         for place, (mine, other) in enumerate(zip(found, unexplained)):
@@ -414,6 +453,16 @@ class Trials:
             if mine != other:
                 self.differ(f'{name}: the judge says {shown(mine)}, the courses {shown(other)}, beginning {place}')
         return found[0]
+
+    def compare_program(self, name, samples):
+        """The program must have the first of all 31 rules, without parity lines. An unknown word, which nobody reads, is written as 0."""
+        mine = verdict_of_all(Marks(False, False), samples)
+        clocks = [(clock.asserted, {'REQ': clock.req or 0, 'A': clock.a or 0, 'D': clock.d or 0}) for clock in samples]
+        self.first_rules[0, mine and mine[1]] += 1
+        difference = samples and difference_to_program(self.program, dump(clocks, 20), mine)
+        if difference:
+            self.differ(f'{name}, {difference}')
+        return mine
 
     def differ(self, text):
         self.counts['differences'] += 1
@@ -481,14 +530,15 @@ class Trials:
     def table(self):
         self.counts['differences'] += 0
         print(' '.join(f'{name}={count}' for name, count in self.counts.items()))
-        for rule in (None, *range(21, 32)) if self.counts['traces'] else ():
+        for rule in (None, *range(1, 32)) if self.counts['traces'] else ():
             counts = [self.first_rules[place, rule] for place in (0, 1)]
-            print(f'{"coherent" if rule is None else f"rule {rule}":10}{counts[0]:8}{counts[1]:8}')
+            if any(counts):
+                print(f'{"coherent" if rule is None else f"rule {rule}":10}{counts[0]:8}{counts[1]:8}')
         return int(self.counts['differences'] > 0)
 
 
-def trials(count=2000, seed=1):
-    trial = Trials()
+def trials(count=2000, seed=1, program=None):
+    trial = Trials(program)
     trial.rows()
     for number in range(int(count)):
         trial.system(seed, number)
@@ -512,6 +562,8 @@ def status_and_line(path, first):
 
 def main(words):
     sys.setrecursionlimit(100000)
+    if words[:1] == ['--program'] and 2 <= len(words) <= 4:
+        return trials(*words[2:], program=words[1])
     if words[:1] in (['--trials'], ['--runs']) and len(words) <= 3:
         return (trials if words[0] == '--trials' else runs)(*words[1:])
     if words[1:] not in ([], ['--within']) or words[:1] == [] or words[0].startswith('--'):

@@ -16,10 +16,7 @@ and its dump is kept; the status is 1 then, or where the right simulator has a f
 import collections
 import random
 import re
-import shlex
-import subprocess
 import sys
-import tempfile
 
 sys.dont_write_bytecode = True
 from coherence_rows import sample
@@ -27,7 +24,7 @@ from coherent_courses import first_unexplained
 from random_benches import Form
 from run_with_bytes import RunWithBytes, is_log_right
 from second_bench import EXCLUSIVE, INVALIDATE, KEEP, MODIFIED, READ, REPLY, SHARED, UPGRADE, WRITE_BACK, Want
-from second_coherence import finding
+from second_coherence import difference_to_program, finding
 from second_dump import Marks
 from second_judge import Trace, verdict
 from second_look import foul_chunk
@@ -237,9 +234,6 @@ class Judged:
         self.foul = foul if foul and (self.check is None or foul[0] < self.check[0]) else None
         self.coherence = finding(self.samples if self.check is None else self.samples[:self.check[0]])
 
-    def first_of_all(self):
-        return self.coherence or self.check
-
 
 class Trials:
     """The counts by system, and the other judges that are asked: the search for courses, and a program."""
@@ -267,24 +261,14 @@ class Trials:
         if self.has_courses:
             (unexplained,), _ = first_unexplained(judged.marks, judged.samples, ['IIII'])
             if unexplained != judged.coherence:
-                self.differ(run, f'the courses say {unexplained}, the judges {judged.first_of_all()}')
-        if self.program:
-            self.compare(run, judged)
+                self.differ(f'{system.__name__} over\n{text}the courses say {unexplained}, the judge {judged.coherence}')
+        difference = self.program and difference_to_program(self.program, run.dump_lines(), judged.coherence or judged.check)
+        if difference:
+            self.differ(f'{system.__name__}, {difference}')
 
-    def differ(self, run, text):
-        """Keeps the dump of a run that is judged in two ways."""
+    def differ(self, text):
         self.differences += 1
-        with tempfile.NamedTemporaryFile('w', suffix='.vcd', prefix='wrong_systems.', delete=False) as dump:
-            dump.writelines(line + '\n' for line in run.dump_lines())
-        print(f'{dump.name}: {text}', flush=True)
-
-    def compare(self, run, judged):
-        with tempfile.NamedTemporaryFile('w', suffix='.vcd') as dump:
-            dump.writelines(line + '\n' for line in run.dump_lines())
-            dump.flush()
-            said = verdict_of_program(self.program, dump.name)
-        if said != judged.first_of_all():
-            self.differ(run, f'the program says {said}, the judges say {judged.first_of_all()}')
+        print(text, flush=True)
 
     def table(self):
         names = 'runs', 'wrong', 'check', 'audit', 'either', 'coherence', 'all'
@@ -305,17 +289,6 @@ def row(name, of):
     shares = ''.join(f'{100 * of[key] / of["runs"]:9.1f}%' if of['runs'] else f'{"-":>10}'
                      for key in ('wrong', 'check', 'audit', 'either', 'coherence', 'all'))
     return f'{name:68}{of["runs"]:10}{shares} '
-
-
-def verdict_of_program(words, path):
-    """The clock and the rule that the program names, or None; or all that it says where its status does not fit that."""
-    done = subprocess.run(shlex.split(words) + [path], capture_output=True, text=True)
-    named = re.search(r'^rejected at clock (\d+),.*?rule (\d+)', done.stdout, re.M)
-    if done.returncode == 0 and not named:
-        return None
-    if done.returncode == 1 and named:
-        return int(named[1]), int(named[2])
-    return f'{done.stdout}{done.stderr}status {done.returncode}'
 
 
 def main(words):
