@@ -283,9 +283,7 @@ class Run:
             self.lines |= {'HIT', 'HITM'}
             return None
         self.unsnooped.pop(0)
-        states = [agent.states.get(request.line) for agent in self.agents if agent.number != request.agent]
-        has_modified = request.kind != REPLY and MODIFIED in states
-        request.has_hit = request.answered.has_hit if request.kind == REPLY else not has_modified and any(states)
+        has_modified, request.has_hit = self.answer_to(request)
         request.turn = self.effective_turn(request)
         self.lines |= {line for line, is_asserted in (('HITM', has_modified), ('HIT', request.has_hit),
                                                       ('DEFER', request.turn[0] != KEEP)) if is_asserted}
@@ -293,6 +291,13 @@ class Run:
         request.outcome = self.outcome_of(request, has_modified)
         self.time_answer(request, c)
         return request
+
+    def answer_to(self, request):
+        """Whether HITM# and HIT# are there at the snoop end."""
+        if request.kind == REPLY:
+            return False, request.answered.has_hit
+        states = [agent.states.get(request.line) for agent in self.agents if agent.number != request.agent]
+        return MODIFIED in states, MODIFIED not in states and any(states)
 
     def effective_turn(self, request):
         if request.kind in (WRITE_BACK, REPLY):
@@ -344,10 +349,7 @@ class Run:
         if request.kind in (READ, INVALIDATE, UPGRADE):
             for agent in self.agents:
                 if agent.number != request.agent and line in agent.states:
-                    if request.kind == READ:
-                        agent.states[line] = SHARED
-                    else:
-                        del agent.states[line]
+                    self.give_up(agent, request)
         if request.outcome == DEFERRED:
             self.pending.add(line)
             self.deferrals.append(request)
@@ -356,12 +358,25 @@ class Run:
         owner = self.agents[granted.agent]
         if request.kind == WRITE_BACK:
             owner.states.pop(line, None)
-        is_won = request.outcome == UPGRADED and line in owner.states
-        if request.outcome in (HANDED, GRANTED, REPLIED) or is_won:
+        if request.outcome in (HANDED, GRANTED, REPLIED) or request.outcome == UPGRADED and self.is_won(owner, line):
             is_shared = not self.lines.isdisjoint(('HIT', 'HITM'))
-            owner.states[line] = MODIFIED if granted.kind != READ else SHARED if is_shared else EXCLUSIVE
+            owner.states[line] = self.granted_state(granted.kind, is_shared)
             owner.ends[line] = request.end
             request.is_grant = True
+
+    def give_up(self, agent, request):
+        """The agent's state behind the snoop end of another's request for a line that it holds."""
+        if request.kind == READ:
+            agent.states[request.line] = SHARED
+        else:
+            del agent.states[request.line]
+
+    def is_won(self, agent, line):
+        """The upgrade of the agent came in time: it still holds the line."""
+        return line in agent.states
+
+    def granted_state(self, kind, is_shared):
+        return MODIFIED if kind != READ else SHARED if is_shared else EXCLUSIVE
 
     def drop_victim(self, c):
         request = self.begun
