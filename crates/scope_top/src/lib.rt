@@ -20,6 +20,7 @@ pub use stop::{Ended, Stop, ViewStop, ending_at};
 mod answer;
 mod broken;
 mod check;
+mod formed;
 mod lines;
 mod listed;
 mod named;

@@ -1,0 +1,7 @@
+pub mod Findings
+pub mod Hints
+pub mod Parts
+pub mod Places
+pub mod Reports
+pub mod Table
+pub mod Texts
