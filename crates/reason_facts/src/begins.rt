@@ -1,7 +1,8 @@
 //! Numbers of the reasons for a request that begins, and for a line.
 
-ghost use Rattle.std.specs.Prelude.{◌≡◌, OnOk};
+ghost use Rattle.std.specs.Prelude.{◌≡◌, ◌-◌, OnOk};
 ghost use Rattle.serde_json.specs.View.{members_view};
+ghost use Rattle.reason_facts.specs.Values.{with_count};
 ghost use Rattle.reason_facts.specs.Facts.{begin_facts, id_facts, line_facts, with_fault, with_first};
 
 use crate::value::{
@@ -11,12 +12,26 @@ use fsb_encode::DecodeFault;
 use fsb_reasons::Reason;
 use std::alloc::{AllocError, Global};
 
+// Puts the clock that lies so many before this one.
+fn put_before(
+    object: &mut Object,
+    alloc: Global,
+    name: &str,
+    clock: u32,
+    distance: u32,
+) -> Result<(), AllocError>
+    ensures { OnOk result (members_view object.new.entries
+        ≡ with_count name.now (clock - distance) (members_view object.old.entries)) }
+{
+    put_clock(object, alloc, name, clock.saturating_sub(distance))
+}
+
 // Puts the first clock of the request whose second clock this is.
 fn put_first(object: &mut Object, alloc: Global, clock: u32) -> Result<(), AllocError>
     ensures { OnOk result (members_view object.new.entries
         ≡ with_first clock (members_view object.old.entries)) }
 {
-    put_clock(object, alloc, "first_clock", clock.saturating_sub(1))
+    put_before(object, alloc, "first_clock", clock, 1)
 }
 
 // Puts what of a request is not lawful.
@@ -68,7 +83,7 @@ pub(crate) fn put_begin(
         }
         Reason::Blocked { clock: blocked } => put_clock(object, alloc, "blocked_at", *blocked),
         Reason::Locked { holder } => {
-            put_clock(object, alloc, "asked_at", clock.saturating_sub(2))?;
+            put_before(object, alloc, "asked_at", clock, 2)?;
             put_maybe_agent(object, alloc, "holder", *holder)
         }
         Reason::NoneAsks { clock: asked } => put_clock(object, alloc, "asked_at", *asked),

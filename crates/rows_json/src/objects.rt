@@ -48,7 +48,7 @@ const ROWS: [Row; 4] = [
         6,
         30,
         1,
-        "{\"absent\":[\"BREQ1_n\",\"BREQ2_n\",\"BREQ3_n\",\"BPRI_n\",\"LOCK_n\",\"AERR_n\",\"DEFER_n\",\"AP_n\",\"RP_n\"],\"after\":[],\"broken_count\":1,\"clocks\":30,\"cut_at\":null,\"edge\":\"rise\",\"file\":\"x.vcd\",\"findings\":[{\"clock\":6,\"line\":47,\"part_start\":0,\"reasons\":[{\"facts\":{\"asked_at\":4},\"kind\":\"none_asks\",\"rule\":6,\"sentence\":\"ADS# is asserted at 6. No agent asked for the bus two clocks before, at 4.\",\"title\":\"arbitration winner\"}],\"rule\":6,\"step\":65,\"time\":650,\"title\":\"arbitration winner\",\"unit\":\"ps\"}],\"first\":false,\"first_hole\":null,\"hints\":[],\"holes\":0,\"judged\":7,\"left_out\":[\"BNR_n\"],\"limit_at\":null,\"part_count\":1,\"parts\":[{\"end\":\"broken\",\"is_history_known\":true,\"judged\":7,\"start\":0,\"verdict\":\"rejected\"}],\"schema\":1,\"scope\":\"tb.dut\",\"status\":1,\"timescale\":{\"factor\":10,\"unit\":\"ps\"},\"verdict\":\"rejected\"}\n",
+        "{\"absent\":[\"BREQ1_n\",\"BREQ2_n\",\"BREQ3_n\",\"BPRI_n\",\"LOCK_n\",\"AERR_n\",\"DEFER_n\",\"AP_n\",\"RP_n\"],\"after\":[],\"broken_count\":1,\"clocks\":30,\"cut_at\":null,\"edge\":\"rise\",\"file\":\"x.vcd\",\"findings\":[{\"clock\":6,\"line\":47,\"part_start\":0,\"reasons\":[{\"facts\":{\"asked_at\":4},\"kind\":\"none_asks\",\"rule\":6,\"sentence\":\"ADS# is asserted at 6. No agent asked for the bus two clocks before, at 4.\",\"title\":\"arbitration winner\"}],\"rule\":6,\"step\":65,\"time\":650,\"title\":\"arbitration winner\",\"unit\":\"ps\"}],\"first\":false,\"first_hole\":null,\"hints\":[],\"holes\":0,\"judged\":30,\"left_out\":[\"BNR_n\"],\"limit_at\":null,\"part_count\":1,\"parts\":[{\"end\":\"broken\",\"is_history_known\":true,\"judged\":30,\"start\":0,\"verdict\":\"rejected\"}],\"schema\":1,\"scope\":\"tb.dut\",\"status\":1,\"timescale\":{\"factor\":10,\"unit\":\"ps\"},\"verdict\":\"rejected\"}\n",
     ),
     (
         "check|--format|json|--at|9|x.vcd",
@@ -85,7 +85,8 @@ fn each_dump_has_a_report(rt: HostRuntime) {
     }
 }
 
-const NO_DUMP: &str = "{\"error\":{\"kind\":\"unread\",\"message\":\"x.vcd, byte 0: no such word may stand there: unknown, a value without a code, or over 70,000 bytes\\n\"},\"file\":\"x.vcd\",\"schema\":1,\"status\":3}\n";
+const NO_DUMP: &str =
+    "{\"error\":{\"kind\":\"unread\",\"message\":\"x.vcd, byte 2: the file ends in the header, in a section, or between a value and its code\\n\"},\"file\":\"x.vcd\",\"schema\":1,\"status\":3}\n";
 
 // Whether a text that is no dump has a report of its fault.
 fn is_fault(alloc: Global) -> Result<bool, Memory> {

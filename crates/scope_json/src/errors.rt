@@ -116,7 +116,12 @@ fn scope_value(
         .filter(|line| is_line_needed(*line))
         .collect(alloc)?;
     let mut object = Map::new(alloc);
-    put(&mut object, alloc, "scope", path_value(alloc, variables, scope)?)?;
+    put(
+        &mut object,
+        alloc,
+        "scope",
+        path_value(alloc, variables, scope)?,
+    )?;
     put(&mut object, alloc, "missing", lines_value(alloc, &missing)?)?;
     Ok(Value::Object(object))
 }
@@ -128,11 +133,21 @@ fn variable_value(
     index: usize,
 ) -> Result<Value, AllocError> {
     let mut object = Map::new(alloc);
-    put(&mut object, alloc, "scope", path_value(alloc, variables, index)?)?;
+    put(
+        &mut object,
+        alloc,
+        "scope",
+        path_value(alloc, variables, index)?,
+    )?;
     match variables.get(index) {
         None => {}
         Some(variable) => {
-            put(&mut object, alloc, "name", text_value(alloc, &variable.name)?)?;
+            put(
+                &mut object,
+                alloc,
+                "name",
+                text_value(alloc, &variable.name)?,
+            )?;
         }
     }
     Ok(Value::Object(object))

@@ -33,9 +33,7 @@ fn option_of(alloc: Global, by: Try) -> Result<String, AllocError> {
     match by {
         Try::First => String::from_str(alloc, "--first"),
         Try::After(line) => format!(in alloc; "--after {}", line_name(line)),
-        Try::AfterRequests => {
-            String::from_str(alloc, "--after BREQ0_n,BREQ1_n,BREQ2_n,BREQ3_n")
-        }
+        Try::AfterRequests => { String::from_str(alloc, "--after BREQ0_n,BREQ1_n,BREQ2_n,BREQ3_n") }
     }
 }
 

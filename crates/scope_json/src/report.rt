@@ -63,7 +63,12 @@ fn report_value(alloc: Global, judging: &Judging<'_>) -> Result<Value, AllocErro
     let found = &judging.told.judged;
     let scale = scale_of(alloc, &judging.header.remarks)?;
     let mut object = Map::new(alloc);
-    put_head(&mut object, alloc, judging.file, ending_of(&verdict_over(found)))?;
+    put_head(
+        &mut object,
+        alloc,
+        judging.file,
+        ending_of(&verdict_over(found)),
+    )?;
     put_wires(&mut object, alloc, judging)?;
     put_sampling(&mut object, alloc, judging.sampling)?;
     put(&mut object, alloc, "timescale", scale_value(alloc, scale)?)?;
@@ -71,7 +76,12 @@ fn report_value(alloc: Global, judging: &Judging<'_>) -> Result<Value, AllocErro
     let faults = found.faults.as_slice();
     let findings = findings_value(alloc, faults, scale, judging.reasons)?;
     put(&mut object, alloc, "findings", findings)?;
-    put(&mut object, alloc, "hints", hints_value(alloc, judging.hints)?)?;
+    put(
+        &mut object,
+        alloc,
+        "hints",
+        hints_value(alloc, judging.hints)?,
+    )?;
     put_holes(&mut object, alloc, found, scale)?;
     put_ends(&mut object, alloc, judging.told)?;
     Ok(Value::Object(object))

@@ -259,9 +259,7 @@ fn hints_found<S: Source>(
     ensures holds_stays { IsTrue S.tells → S.holds dump.new ≡ S.holds dump.old }
 {
     match (tries, broken_found(found)) {
-        (Some(edge), Some(broken)) => {
-            hints_of(alloc, name, choice, plan, edge, broken, dump)
-        }
+        (Some(edge), Some(broken)) => { hints_of(alloc, name, choice, plan, edge, broken, dump) }
         _ => Ok(Vec::new(alloc)),
     }
 }

@@ -81,7 +81,13 @@ fn object_text(alloc: Global, report: &Report<'_>) -> Result<Vec<u8>, AllocError
     let header = &report.checked.header;
     match &report.checked.finding {
         Finding::Refused(refusal) => {
-            refusal_report(alloc, report.name, &header.variables, report.choice, refusal)
+            refusal_report(
+                alloc,
+                report.name,
+                &header.variables,
+                report.choice,
+                refusal,
+            )
         }
         Finding::Judged(wiring, told) => report_text(
             alloc,
