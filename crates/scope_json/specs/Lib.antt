@@ -3,5 +3,4 @@ pub mod Hints
 pub mod Parts
 pub mod Places
 pub mod Reports
-pub mod Table
 pub mod Texts

@@ -3,7 +3,7 @@
 ghost use Rattle.std.specs.Prelude.{◌≡◌, IfOk, OnOk};
 ghost use Rattle.serde_json.specs.View.{members_view, view};
 ghost use Rattle.scope_report.specs.Endings.{ending_after, verdict_over};
-ghost use Rattle.scope_json.specs.Reports.{IsLineOf, IsReport, scale_data, with_head, with_verdict};
+ghost use Rattle.scope_json.specs.Reports.{IsLineOf, scale_data, with_head, with_verdict};
 
 use crate::findings::findings_value;
 use crate::hints::hints_value;

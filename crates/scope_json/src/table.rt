@@ -1,10 +1,11 @@
 //! The table of findings.
 
-ghost use Rattle.std.specs.Prelude.{◌≡◌, IfOk, map};
+ghost use Rattle.std.specs.Prelude.{◌≡◌, IfOk};
+ghost use Rattle.csv.specs.Records.{fields_of};
 ghost use Rattle.csv.specs.Writing.{default_writer, row_text};
 
 use crate::findings::title_of;
-use csv::WriterBuilder;
+use csv::{ByteRecord, WriterBuilder};
 use reason_facts::{facts_value, kind_of};
 use reason_texts::Sentence;
 use scope_check::Verdict;
@@ -42,73 +43,70 @@ fn put_row(
     match fault.verdict {
         Verdict::Nothing | Verdict::Accepted => Ok(()),
         Verdict::Broken { clock, rule, stamp } => {
-            let clock = format!(in alloc; "{clock}")?;
-            let step = step_text(alloc, stamp)?;
-            let line = line_text(alloc, stamp)?;
-            let number = format!(in alloc; "{rule}")?;
-            let kind = kind_text(reason);
-            let sentence = sentence_text(alloc, reason)?;
-            let facts = facts_text(alloc, reason)?;
-            let row = row_bytes(
-                alloc,
-                &[
-                    file.as_bytes(),
-                    clock.as_bytes(),
-                    step.as_bytes(),
-                    line.as_bytes(),
-                    number.as_bytes(),
-                    title_of(rule).as_bytes(),
-                    kind.as_bytes(),
-                    sentence.as_bytes(),
-                    facts.as_bytes(),
-                ],
-            )?;
+            let mut fields = ByteRecord::new(alloc);
+            fields.push_field(file.as_bytes())?;
+            push_number(&mut fields, alloc, clock)?;
+            push_stamp(&mut fields, alloc, stamp)?;
+            push_number(&mut fields, alloc, u64::from(rule))?;
+            fields.push_field(title_of(rule).as_bytes())?;
+            push_reason(&mut fields, alloc, reason)?;
+            let row = row_bytes(alloc, &fields)?;
             text.extend_from_slice(&row)
         }
     }
 }
 
-fn step_text(alloc: Global, stamp: Option<Stamp>) -> Result<String, AllocError> {
+fn push_number(fields: &mut ByteRecord, alloc: Global, number: u64) -> Result<(), AllocError> {
+    let digits = format!(in alloc; "{number}")?;
+    fields.push_field(digits.as_bytes())
+}
+
+// Appends the step and the line, or two empty fields.
+fn push_stamp(
+    fields: &mut ByteRecord,
+    alloc: Global,
+    stamp: Option<Stamp>,
+) -> Result<(), AllocError> {
     match stamp {
-        None => Ok(String::new(alloc)),
-        Some(stamp) => format!(in alloc; "{}", stamp.time),
+        None => {
+            fields.push_field(b"")?;
+            fields.push_field(b"")
+        }
+        Some(stamp) => {
+            push_number(fields, alloc, stamp.time)?;
+            push_number(fields, alloc, stamp.line)
+        }
     }
 }
 
-fn line_text(alloc: Global, stamp: Option<Stamp>) -> Result<String, AllocError> {
-    match stamp {
-        None => Ok(String::new(alloc)),
-        Some(stamp) => format!(in alloc; "{}", stamp.line),
-    }
-}
-
-fn kind_text(reason: Option<&Sentence>) -> &'static str {
+// Appends the kind, the sentence and the numbers of a reason, or three empty fields.
+fn push_reason(
+    fields: &mut ByteRecord,
+    alloc: Global,
+    reason: Option<&Sentence>,
+) -> Result<(), AllocError> {
     match reason {
-        None => "",
-        Some(reason) => kind_of(&reason.reason),
-    }
-}
-
-fn sentence_text(alloc: Global, reason: Option<&Sentence>) -> Result<String, AllocError> {
-    match reason {
-        None => Ok(String::new(alloc)),
-        Some(reason) => format!(in alloc; "{reason}"),
-    }
-}
-
-fn facts_text(alloc: Global, reason: Option<&Sentence>) -> Result<String, AllocError> {
-    match reason {
-        None => Ok(String::new(alloc)),
-        Some(reason) => facts_value(alloc, reason.clock, &reason.reason)?.to_string(alloc),
+        None => {
+            fields.push_field(b"")?;
+            fields.push_field(b"")?;
+            fields.push_field(b"")
+        }
+        Some(reason) => {
+            let sentence = format!(in alloc; "{reason}")?;
+            let facts = facts_value(alloc, reason.clock, &reason.reason)?.to_string(alloc)?;
+            fields.push_field(kind_of(&reason.reason).as_bytes())?;
+            fields.push_field(sentence.as_bytes())?;
+            fields.push_field(facts.as_bytes())
+        }
     }
 }
 
 // The text of one record.
-fn row_bytes(alloc: Global, fields: &[&[u8]]) -> Result<Vec<u8>, AllocError>
-    ensures { IfOk result (λ v. v.items ≡ row_text default_writer (map (λ f. f.now) fields.now)) }
+fn row_bytes(alloc: Global, fields: &ByteRecord) -> Result<Vec<u8>, AllocError>
+    ensures { IfOk result (λ v. v.items ≡ row_text default_writer (fields_of fields.now)) }
 {
     let mut writer = WriterBuilder::new().from_writer(Vec::new(alloc));
-    if writer.write_fields(fields).is_err() {
+    if writer.write_byte_record(fields).is_err() {
         return Err(AllocError);
     }
     match writer.into_inner() {
