@@ -23,12 +23,6 @@ reason_data s sentence title = object
     (put (codes "facts") (object (facts s.clock s.reason)) (put (codes "sentence") (string sentence)
     (put (codes "kind") (string (kind_of s.reason)) (with_rule (rule_of s.reason) title no_members))))
 
--- the value of a reason, with some sentence and title
-pub record IsReason (s : Sentence) (d : Data) : Type 0 where
-  pub sentence : List ℕ
-  pub title : List ℕ
-  pub is : d ≡ reason_data s sentence title
-
 -- a broken rule of a part that begins at this clock, with a title and these reasons
 unfoldable pub broken_data : Option Scale → ℕ → Verdict → List ℕ → Data → Data
 broken_data scale start verdicts.Nothing title reasons = null
@@ -36,8 +30,3 @@ broken_data scale start verdicts.Accepted title reasons = null
 broken_data scale start (verdicts.Broken clock rule stamp) title reasons = object
     (put (codes "reasons") reasons (with_place scale stamp (with_rule rule title
     (with_count (codes "clock") clock (with_count (codes "part_start") start no_members)))))
-
--- the same with some title
-pub record IsBroken (scale : Option Scale) (part : PartFound) (reasons : Data) (d : Data) : Type 0 where
-  pub title : List ℕ
-  pub is : d ≡ broken_data scale part.start part.verdict title reasons

@@ -110,11 +110,7 @@ fn scope_value(
 ) -> Result<Value, AllocError> {
     let names = named_lines(alloc, variables)?;
     let unfound = unfound_lines(alloc, &names, settled, scope)?;
-    let missing: Vec<u8> = unfound
-        .iter()
-        .copied()
-        .filter(|line| is_line_needed(*line))
-        .collect(alloc)?;
+    let missing = needed_of(alloc, &unfound)?;
     let mut object = Map::new(alloc);
     put(
         &mut object,
@@ -124,6 +120,17 @@ fn scope_value(
     )?;
     put(&mut object, alloc, "missing", lines_value(alloc, &missing)?)?;
     Ok(Value::Object(object))
+}
+
+// Those of the lines that are needed.
+fn needed_of(alloc: Global, lines: &[u8]) -> Result<Vec<u8>, AllocError> {
+    let mut needed = Vec::new(alloc);
+    for line in lines {
+        if *line < 22 && is_line_needed(*line) {
+            needed.push(*line)?;
+        }
+    }
+    Ok(needed)
 }
 
 // A variable: its scope and name.

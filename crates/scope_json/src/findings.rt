@@ -2,7 +2,7 @@
 
 ghost use Rattle.std.specs.Prelude.{◌≡◌, IfOk, OnOk};
 ghost use Rattle.serde_json.specs.View.{members_view, view};
-ghost use Rattle.scope_json.specs.Findings.{IsReason, IsBroken, with_rule};
+ghost use Rattle.scope_json.specs.Findings.{broken_data, reason_data, with_rule};
 
 use crate::places::put_place;
 use reason_facts::{facts_value, kind_of, put_count, put_word};
@@ -36,17 +36,20 @@ fn put_rule(
     put_word(object, alloc, "title", title)
 }
 
-/// A reason: its rule, its kind, its sentence, and the numbers that it rests on.
+// A reason, whose sentence and title are these: its rule, its kind, and the numbers that it rests on.
 #[tactic(auto, unfolding(crate::specs::Findings::reason_data))]
-fn reason_value(alloc: Global, reason: &Sentence) -> Result<Value, AllocError>
-    ensures { IfOk result (λ v. IsReason reason.now (view v)) }
+fn reason_value(
+    alloc: Global,
+    reason: &Sentence,
+    sentence: &str,
+    title: &str,
+) -> Result<Value, AllocError>
+    ensures { IfOk result (λ v. view v ≡ reason_data reason.now sentence.now title.now) }
 {
-    let rule = reason.reason.rule();
-    let sentence = format!(in alloc; "{reason}")?;
     let mut object = Map::new(alloc);
-    put_rule(&mut object, alloc, rule, title_of(rule))?;
+    put_rule(&mut object, alloc, reason.reason.rule(), title)?;
     put_word(&mut object, alloc, "kind", kind_of(&reason.reason))?;
-    put_word(&mut object, alloc, "sentence", sentence.as_str())?;
+    put_word(&mut object, alloc, "sentence", sentence)?;
     let facts = facts_value(alloc, reason.clock, &reason.reason)?;
     put(&mut object, alloc, "facts", facts)?;
     Ok(Value::Object(object))
@@ -56,20 +59,24 @@ fn reason_value(alloc: Global, reason: &Sentence) -> Result<Value, AllocError>
 fn reasons_value(alloc: Global, reasons: &[Sentence]) -> Result<Value, AllocError> {
     let mut list = Vec::new(alloc);
     for reason in reasons {
-        list.push(reason_value(alloc, reason)?)?;
+        let sentence = format!(in alloc; "{reason}")?;
+        let title = title_of(reason.reason.rule());
+        list.push(reason_value(alloc, reason, sentence.as_str(), title)?)?;
     }
     Ok(Value::Array(list))
 }
 
-// A broken part with these reasons.
+// A broken part with this title and these reasons.
 #[tactic(auto, unfolding(crate::specs::Findings::broken_data))]
 fn broken_value(
     alloc: Global,
     fault: &PartFound,
     scale: Option<Scale>,
+    title: &str,
     reasons: Value,
 ) -> Result<Value, AllocError>
-    ensures { IfOk result (λ v. IsBroken scale fault.now (view reasons) (view v)) }
+    ensures { IfOk result (λ v. view v
+        ≡ broken_data scale fault.now.start fault.now.verdict title.now (view reasons)) }
 {
     match fault.verdict {
         Verdict::Nothing | Verdict::Accepted => Ok(Value::Null),
@@ -77,11 +84,19 @@ fn broken_value(
             let mut object = Map::new(alloc);
             put_count(&mut object, alloc, "part_start", fault.start)?;
             put_count(&mut object, alloc, "clock", clock)?;
-            put_rule(&mut object, alloc, rule, title_of(rule))?;
+            put_rule(&mut object, alloc, rule, title)?;
             put_place(&mut object, alloc, scale, stamp)?;
             put(&mut object, alloc, "reasons", reasons)?;
             Ok(Value::Object(object))
         }
+    }
+}
+
+// The title of the rule that a part breaks.
+fn fault_title(fault: &PartFound) -> &'static str {
+    match fault.verdict {
+        Verdict::Nothing | Verdict::Accepted => "",
+        Verdict::Broken { rule, .. } => title_of(rule),
     }
 }
 
@@ -95,7 +110,8 @@ pub(crate) fn findings_value(
     let mut list = Vec::new(alloc);
     if let Some((first, rest)) = faults.split_first() {
         let reasons = reasons_value(alloc, reasons)?;
-        list.push(broken_value(alloc, first, scale, reasons)?)?;
+        let title = fault_title(first);
+        list.push(broken_value(alloc, first, scale, title, reasons)?)?;
         put_later(&mut list, alloc, rest, scale)?;
     }
     Ok(Value::Array(list))
@@ -110,7 +126,8 @@ fn put_later(
 ) -> Result<(), AllocError> {
     for fault in faults {
         let none = Value::Array(Vec::new(alloc));
-        list.push(broken_value(alloc, fault, scale, none)?)?;
+        let title = fault_title(fault);
+        list.push(broken_value(alloc, fault, scale, title, none)?)?;
     }
     Ok(())
 }
