@@ -14,7 +14,7 @@ use crate::views::{refused, warn_unwritten};
 use fsb_io::{FileSink, FileSource, Memory, Sink, StdoutSink, put_all};
 use scope_report::{Ending, status, unread_text};
 use scope_top::{Ended, Stop, ViewStop, ending_at, perform};
-use scope_words::{Order, Reading, Told, Views, read_order};
+use scope_words::{Format, Order, Reading, Told, Views, read_order};
 use std::alloc::{AllocError, Global};
 use std::env::Args;
 use std::fs;
@@ -131,6 +131,7 @@ const NAMES: Names<'static> = Names {
 };
 
 const NO_VIEWS: Views<'static> = Views {
+    format: Format::Text,
     save: None,
     cut: None,
 };

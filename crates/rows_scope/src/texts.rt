@@ -14,7 +14,7 @@ pub(crate) const SAMPLED: &str =
 
 /// What may stand behind `check`.
 pub(crate) const JUDGED: &str =
-    "wanted: one DUMP, and of --scope --line --lines --without --edge --first --after --at --from --to --quiet --resume --max --save --cut";
+    "wanted: one DUMP, and of --scope --line --lines --without --edge --first --after --at --from --to --quiet --resume --max --format --save --cut";
 
 /// What may stand behind `pick`.
 pub(crate) const PICKED: &str =

@@ -8,7 +8,8 @@ ghost use Rattle.scope_top.specs.Ends.{ending_found};
 ghost use Rattle.scope_top.specs.Performing.{EndsCheck, EndsJudged, EndsPlanned, edge_of};
 ghost use Rattle.scope_top.specs.Viewing.{IsUncopied, MayStop};
 
-use crate::answer::{Answer, Stream};
+use crate::answer::Answer;
+use crate::formed::{Report, found_answer};
 use crate::listed::{Listed, listed_choice};
 use crate::reasons::{reasons_of, sampling_again};
 use crate::settled::{Settled, plan_of, settled_part};
@@ -18,11 +19,11 @@ use crate::viewed::{Viewed, unviewed, viewed_as};
 use crate::views::{same_sampling, show_found};
 use fsb_io::{Sink, Source};
 use scope_parts::Plan;
-use scope_report::{Ending, Grounds, check_text, ending_of, refusal_text, verdict_over};
-use scope_tries::{broken_found, hints_of, hints_text, tries_of};
+use scope_report::{Ending, ending_of, verdict_over};
+use scope_tries::{Hint, broken_found, hints_of, tries_of};
 use scope_watch::{Checked, Finding, Sampling, check_dump};
 use scope_wiring::Choice;
-use scope_words::{Part, Views, Wires};
+use scope_words::{Format, Part, Views, Wires};
 use std::alloc::{AllocError, Global};
 use vcd_way::Edge;
 
@@ -184,7 +185,17 @@ fn judged_answer<S: Source, V: Sink, C: Sink>(
             Ok(unviewed(alloc, name, views, answer)?)
         }
         Ok(checked) => {
-            let answer = tried_answer(alloc, name, choice, plan, again, &checked, dump)?;
+            let answer = tried_answer(
+                alloc,
+                views.format,
+                name,
+                choice,
+                plan,
+                again,
+                &same,
+                &checked,
+                dump,
+            )?;
             let shown = show_found(alloc, name, choice, &same, views, &checked, dump, save, cut);
             let is_broken = broken_found(&checked.finding).is_some();
             Ok(viewed_as(alloc, name, views, is_broken, answer, shown)?)
@@ -204,10 +215,12 @@ struct Again {
 // Tells what was found, and of a rejected dump the reasons, and in which other ways it gets further, where it is read again.
 fn tried_answer<S: Source>(
     alloc: Global,
+    format: Format,
     name: &str,
     choice: &Choice,
     plan: Plan,
     again: Again,
+    sampling: &Sampling,
     checked: &Checked,
     dump: &mut S,
 ) -> Result<Answer, AllocError>
@@ -219,67 +232,35 @@ fn tried_answer<S: Source>(
     let tries = again.tries;
     let found = &checked.finding;
     let grounds = reasons_of(alloc, name, choice, plan.first, again.sampling, found, dump);
-    let mut answer = found_answer(alloc, name, choice, checked, &grounds)?;
-    match (tries, broken_found(&checked.finding)) {
-        (Some(edge), Some(broken)) => {
-            let hints = hints_of(alloc, name, choice, plan, edge, broken, dump)?;
-            let told = hints_text(alloc, &hints)?;
-            answer.text.extend_from_slice(told.as_bytes())?;
-        }
-        _ => {}
-    }
-    Ok(answer)
+    let hints = hints_found(alloc, name, choice, plan, tries, found, dump)?;
+    let report = Report {
+        name,
+        choice,
+        sampling,
+        checked,
+        grounds: &grounds,
+        hints: &hints,
+    };
+    found_answer(alloc, format, &report)
 }
 
-// Tells what was found.
-fn found_answer(
+// In which other ways a rejected dump gets further, where it is read again.
+fn hints_found<S: Source>(
     alloc: Global,
     name: &str,
     choice: &Choice,
-    checked: &Checked,
-    grounds: &Grounds,
-) -> Result<Answer, AllocError>
-    ensures { IfOk result (λ answer. answer.ending ≡ ending_found checked.now.finding) }
+    plan: Plan,
+    tries: Option<Edge>,
+    found: &Finding,
+    dump: &mut S,
+) -> Result<Vec<Hint>, AllocError>
+    requires { length name.now ≤ 4096 }
+    ensures later { S.faults dump.old ≤ S.faults dump.new }
+    ensures holds_stays { IsTrue S.tells → S.holds dump.new ≡ S.holds dump.old }
 {
-    let ending = ending_found(&checked.finding);
-    let (stream, text) = found_text(alloc, name, choice, checked, grounds)?;
-    Ok(Answer {
-        ending,
-        stream,
-        text,
-    })
-}
-
-// The text of what was found, and where it goes.
-fn found_text(
-    alloc: Global,
-    name: &str,
-    choice: &Choice,
-    checked: &Checked,
-    grounds: &Grounds,
-) -> Result<(Stream, Vec<u8>), AllocError> {
-    let header = &checked.header;
-    match &checked.finding {
-        Finding::Refused(refusal) => {
-            let text = refusal_text(alloc, name, &header.variables, choice, refusal)?;
-            Ok((Stream::Err, text))
-        }
-        Finding::Judged(wiring, told) => {
-            let text = check_text(
-                alloc,
-                name,
-                &header.variables,
-                &header.remarks,
-                choice,
-                wiring,
-                &told.judged,
-                told.early_end,
-                told.limit,
-                &told.last,
-                grounds,
-            )?;
-            Ok((Stream::Out, text))
-        }
+    match (tries, broken_found(found)) {
+        (Some(edge), Some(broken)) => { hints_of(alloc, name, choice, plan, edge, broken, dump) }
+        _ => Ok(Vec::new(alloc)),
     }
 }
 

@@ -22,6 +22,7 @@ mod answer;
 mod broken;
 mod check;
 mod coherence;
+mod formed;
 mod lines;
 mod listed;
 mod named;

@@ -48,13 +48,25 @@ pub struct Wires<'a> {
     pub after: Vec<u8>,
 }
 
-/// The files that show the first broken rule.
+/// How what was found is shown: the form of the report, and the files that show the first broken rule.
 #[derive(Clone, Copy, Debug)]
 pub struct Views<'a> {
+    pub format: Format,
     /// A save file for GTKWave.
     pub save: Option<&'a str>,
     /// A dump of the clocks around it.
     pub cut: Option<&'a str>,
+}
+
+/// The form of a report.
+#[derive(Clone, Copy, Debug, PartialEq, Eq)]
+pub enum Format {
+    /// A text for people.
+    Text,
+    /// An object of JSON in one line.
+    Json,
+    /// A line of CSV for each broken part, and one with the names of the columns before them.
+    Csv,
 }
 
 /// The edge of the clock at which the lines are sampled.

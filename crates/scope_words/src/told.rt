@@ -162,4 +162,4 @@ const PICKED: &str = "wanted: one DUMP, and of --scope --line --lines --without 
     --edge --first --after --at --from --to --quiet";
 
 const JUDGED: &str = "wanted: one DUMP, and of --scope --line --lines --without \
-    --edge --first --after --at --from --to --quiet --resume --max --save --cut";
+    --edge --first --after --at --from --to --quiet --resume --max --format --save --cut";

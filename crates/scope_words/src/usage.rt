@@ -12,7 +12,7 @@ const WIRES: &str = "Which wires are the bus";
 
 const PART: &str = "Which clocks are judged, or written";
 
-const VIEWS: &str = "What is written beside the report of a broken rule";
+const VIEWS: &str = "The report, and what is written beside that of a broken rule";
 
 /// The program with its verbs.
 pub(crate) fn usage<'a>(alloc: Global) -> Result<Command<'a>, AllocError> {
@@ -131,15 +131,17 @@ fn with_resumed<'a>(
     with(verb, part(alloc, "max", "N", help))
 }
 
-// The options that name files which show the first broken rule.
+// The options that say how what was found is shown.
 fn with_views<'a>(
     alloc: Global,
     verb: Result<Command<'a>, AllocError>,
 ) -> Result<Command<'a>, AllocError> {
+    let help = "The form of the report: text, json or csv [default: text]";
+    let verb = with(verb, view(alloc, "format", "FORMAT", help));
     let help = "Writes a save file for GTKWave: the wires, and a marker on the broken clock";
-    let verb = with(verb, view(alloc, "save", help));
+    let verb = with(verb, view(alloc, "save", "FILE", help));
     let help = "Writes the lines of the bus around the broken clock as a dump of its own";
-    with(verb, view(alloc, "cut", help))
+    with(verb, view(alloc, "cut", "FILE", help))
 }
 
 fn dump<'a>(alloc: Global) -> Arg<'a> {
@@ -175,10 +177,10 @@ fn part<'a>(alloc: Global, name: &'a str, value: &'a str, help: &'a str) -> Arg<
         .help_heading(PART)
 }
 
-// An option that names a file to be written.
-fn view<'a>(alloc: Global, name: &'a str, help: &'a str) -> Arg<'a> {
+// An option of the report, with a value.
+fn view<'a>(alloc: Global, name: &'a str, value: &'a str, help: &'a str) -> Arg<'a> {
     option(alloc, name, help)
-        .value_name("FILE")
+        .value_name(value)
         .help_heading(VIEWS)
 }
 
