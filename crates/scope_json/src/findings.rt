@@ -2,7 +2,7 @@
 
 ghost use Rattle.std.specs.Prelude.{◌≡◌, IfOk, OnOk};
 ghost use Rattle.serde_json.specs.View.{members_view, view};
-ghost use Rattle.scope_json.specs.Findings.{broken_data, reason_data, with_rule};
+ghost use Rattle.scope_json.specs.Findings.{broken_at, broken_data, reason_data, with_rule};
 
 use crate::places::put_place;
 use reason_facts::{facts_value, kind_of, put_count, put_word};
@@ -13,6 +13,7 @@ use scope_parts::PartFound;
 use scope_time::Scale;
 use serde_json::{Map, Value, put};
 use std::alloc::{AllocError, Global};
+use vcd_course::Stamp;
 
 /// The title of a rule; none where there is no such rule.
 pub(crate) fn title_of(rule: u8) -> &'static str {
@@ -66,8 +67,31 @@ fn reasons_value(alloc: Global, reasons: &[Sentence]) -> Result<Value, AllocErro
     Ok(Value::Array(list))
 }
 
+// A rule that is broken at this clock, with this title and these reasons.
+#[tactic(auto, unfolding(crate::specs::Findings::broken_at))]
+fn broken_at(
+    alloc: Global,
+    scale: Option<Scale>,
+    start: u64,
+    clock: u64,
+    rule: u8,
+    stamp: Option<Stamp>,
+    title: &str,
+    reasons: Value,
+) -> Result<Value, AllocError>
+    ensures { IfOk result (λ v. view v
+        ≡ broken_at scale start clock rule stamp title.now (view reasons)) }
+{
+    let mut object = Map::new(alloc);
+    put_count(&mut object, alloc, "part_start", start)?;
+    put_count(&mut object, alloc, "clock", clock)?;
+    put_rule(&mut object, alloc, rule, title)?;
+    put_place(&mut object, alloc, scale, stamp)?;
+    put(&mut object, alloc, "reasons", reasons)?;
+    Ok(Value::Object(object))
+}
+
 // A broken part with this title and these reasons.
-#[tactic(auto, unfolding(crate::specs::Findings::broken_data))]
 fn broken_value(
     alloc: Global,
     fault: &PartFound,
@@ -81,13 +105,16 @@ fn broken_value(
     match fault.verdict {
         Verdict::Nothing | Verdict::Accepted => Ok(Value::Null),
         Verdict::Broken { clock, rule, stamp } => {
-            let mut object = Map::new(alloc);
-            put_count(&mut object, alloc, "part_start", fault.start)?;
-            put_count(&mut object, alloc, "clock", clock)?;
-            put_rule(&mut object, alloc, rule, title)?;
-            put_place(&mut object, alloc, scale, stamp)?;
-            put(&mut object, alloc, "reasons", reasons)?;
-            Ok(Value::Object(object))
+            broken_at(
+                alloc,
+                scale,
+                fault.start,
+                clock,
+                rule,
+                stamp,
+                title,
+                reasons,
+            )
         }
     }
 }
