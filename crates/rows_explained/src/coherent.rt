@@ -79,7 +79,7 @@ fn waveform(alloc: Global, row: &Row) -> Result<Vec<Sample>, AllocError> {
 /// Whether what is said of the row's dump has its words.
 fn is_said(alloc: Global, row: &Row) -> Result<bool, Memory> {
     let samples = waveform(alloc, row)?;
-    let dump = written(alloc, &samples, true)?;
+    let dump = written(alloc, &samples, false)?;
     let said = report(alloc, dump.holds(), &["coherence", "x.vcd"])?;
     Ok(said.contains(row.3))
 }
@@ -87,7 +87,7 @@ fn is_said(alloc: Global, row: &Row) -> Result<bool, Memory> {
 #[test]
 fn worked_runs_are_coherent(rt: HostRuntime) {
     for row in COHERENT.iter() {
-        assert!(rt; is_said(rt.alloc(), row).expect(&rt, "memory"));
+        assert!(rt; is_said(rt.alloc(), row).expect(&rt, "memory"), "{}", row.3);
     }
 }
 
@@ -101,6 +101,6 @@ fn changed_runs_are_found(rt: HostRuntime) {
 #[test]
 fn phase_rules_come_first(rt: HostRuntime) {
     for row in REJECTED.iter() {
-        assert!(rt; is_said(rt.alloc(), row).expect(&rt, "memory"));
+        assert!(rt; is_said(rt.alloc(), row).expect(&rt, "memory"), "{}", row.3);
     }
 }
