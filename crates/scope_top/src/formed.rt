@@ -110,7 +110,12 @@ fn table_text(alloc: Global, report: &Report<'_>) -> Result<(Stream, Vec<u8>), A
         Finding::Refused(_) => plain_text(alloc, report),
         Finding::Judged(_, told) => {
             let faults = told.judged.faults.as_slice();
-            let text = findings_table(alloc, report.name, faults, report.grounds.sentences.as_slice())?;
+            let text = findings_table(
+                alloc,
+                report.name,
+                faults,
+                report.grounds.sentences.as_slice(),
+            )?;
             Ok((Stream::Out, text))
         }
     }

@@ -1,6 +1,6 @@
 -- The text before the first `$`, for a reader of headers.
-use Rattle.std.proofs.Common.{◌≡◌, ℕ, ◌+◌, ◌≤◌, ◌<◌, ◌-◌, zero, suc, Bool, true, false, ◌&&◌, ◌||◌, ◌==◌, if◌then◌else◌, List, [], ◌∷◌, ◌++◌, length, nat_le}
-use Rattle.std.proofs.Common.{Option, Some, None, refl, sym, ap, subst, ◌∙◌, append-nil, append_assoc, length-append, arith, ◌^◌, leb-false, leb-true, le-leb, ◌⊎◌, inl, inr, eqb-true, take, take_all, get_or}
+use Rattle.std.proofs.Common.{◌≡◌, ℕ, ◌+◌, ◌≤◌, ◌<◌, ◌-◌, Bool, true, false, ◌&&◌, ◌||◌, ◌==◌, if◌then◌else◌, List, [], ◌∷◌, ◌++◌, length, nat_le}
+use Rattle.std.proofs.Common.{None, refl, sym, ap, subst, ◌∙◌, append-nil, append_assoc, length-append, arith, ◌^◌, leb-false, leb-true, le-leb, ◌⊎◌, inl, inr, eqb-true, take, take_all, get_or}
 use Rattle.std.proofs.lemmas.List.{take_more}
 use Rattle.std.proofs.lemmas.Bool.{false≢true}
 use Rattle.vcd_grammar.specs.declared.fault.VcdFault.{VcdFault}
@@ -9,10 +9,10 @@ use Rattle.vcd_grammar.specs.Words.{is_dollar, header_word}
 use Rattle.vcd_way.specs.Declarations.{Declaration}
 use Rattle.vcd_way.specs.Ways.{ValueRules}
 use Rattle.vcd_way.specs.Wide.{wide_rules}
-use Rattle.vcd_way.specs.Steps.{Spot, AtPreface, AtHeader, DumpState, Step, step, step_at, first_state, state_after, reads_past, if_short, header_step, is_past_header_at}
+use Rattle.vcd_way.specs.Steps.{AtPreface, AtHeader, DumpState, Step, step, step_at, first_state, state_after, reads_past, if_short, header_step, is_past_header_at}
 use Rattle.vcd_way.proofs.Interface.{sound-step}
 use Rattle.vcd_header.specs.Gathering.{FitsRules, gathering, gathered_so_far, header_fault_so_far}
-use Rattle.vcd_joined.specs.Behind.{IsHeader, gathered_in}
+use Rattle.vcd_joined.specs.Behind.{IsHeader}
 use Rattle.scope_watch.specs.declared.preface.PrefaceReader.{PrefaceReader}
 use Rattle.scope_watch.specs.Heading.{any_header, ShowsFault}
 use Rattle.scope_watch.specs.Prefaces.{preface_from, preface_of, preface_limit, is_no_dump, HasRead}

@@ -235,7 +235,13 @@ fn wire_in(
         line_named(&variable.name),
     ) {
         Some(wire) => Some(wire),
-        None => bit_wire(words, names, settled, scope, bit_at(header, index, variable)),
+        None => bit_wire(
+            words,
+            names,
+            settled,
+            scope,
+            bit_at(header, index, variable),
+        ),
     }
 }
 

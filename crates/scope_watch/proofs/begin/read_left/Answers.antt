@@ -12,11 +12,10 @@ returns-in_err-count-clause-read g c = λ tells.
     let same : c.from_residual-in_err-count.result ≡ Err c.in_err-count.field-0.0 = search rules in
     rw same (headed-stop _ _ _ (c.in_err-count.ensures.stop _ refl)
     (λ e.
-    let long = ap (λ stop. Err stop) e in
-    (
+    let long = ap (λ stop. Err stop) e in (
       long-text _ at.0 _ _ (at.3 tells) at.2 (c.in_err-count.ensures.too_long tells long),
       is-dump-over c.pieces.preface at.0 _ _ at.4 (at.3 tells)
-      (late-over c.pieces.preface at.0 _ at.4 at.5 at.2 (c.in_err-count.ensures.late long)) at.5,
+          (late-over c.pieces.preface at.0 _ at.4 at.5 at.2 (c.in_err-count.ensures.late long)) at.5,
     )))
 
 pub returns-then-count-eq0-clause-read : goal.returns-then-count-eq0-clause-read
@@ -115,13 +114,13 @@ returns-in_err-read_rest-in-Err-Bad-clause-read g c = λ tells.
     rw same (headed-stop _ _ _ (c.in_err-read_rest-in-Err-Bad.ensures.stop _ refl)
     (λ e. (
       long-text _ (at.0 ++ piece) _ _ whole
-      (let size = length-append at.0 piece in
-      let part = length-take c.in_ok-count.count c.read_piece.new.room in
-      omega (arith, size, part, at.2, now.within, now.len))
-      (c.in_err-read_rest-in-Err-Bad.ensures.too_long tells (ap (λ stop. Err stop) e)),
+          (let size = length-append at.0 piece in
+          let part = length-take c.in_ok-count.count c.read_piece.new.room in
+          omega (arith, size, part, at.2, now.within, now.len))
+          (c.in_err-read_rest-in-Err-Bad.ensures.too_long tells (ap (λ stop. Err stop) e)),
       fault-dump c.take.new.self at.0 piece _ _ _ (c.take.ensures at.0 at.4)
-      (subst (λ x. Fed (Err x) c.feed.new.reader at.0 piece) c.in-Err-Bad.field-0-is (c.in-Err-Bad.ensures at.0 at.1))
-      whole (sym c.is_too_long.ensures ∙ c.if-is_too_long.false),
+          (subst (λ x. Fed (Err x) c.feed.new.reader at.0 piece) c.in-Err-Bad.field-0-is (c.in-Err-Bad.ensures at.0 at.1))
+          whole (sym c.is_too_long.ensures ∙ c.if-is_too_long.false),
     )))
 
 pub returns-in-Err-Bad-clause-read : goal.returns-in-Err-Bad-clause-read
@@ -131,11 +130,10 @@ returns-in-Err-Bad-clause-read g c = λ tells.
     let whole = piece-taken _ at.0 _ piece _ (at.3 tells) (c.in_ok-count.ensures.bytes tells) in
     let shown = subst (λ x. Fed (Err x) c.feed.new.reader at.0 piece) c.in-Err-Bad.field-0-is
     (c.in-Err-Bad.ensures at.0 at.1) in
-    rw c.in-Err-Bad.field-0-is
-    (
+    rw c.in-Err-Bad.field-0-is (
       headed-fault at.0 piece _ _ c.in-Err-Bad.fault shown whole,
       fault-dump c.take.new.self at.0 piece _ _ c.in-Err-Bad.fault (c.take.ensures at.0 at.4) shown whole
-      (sym c.is_too_long.ensures ∙ c.if-is_too_long.false),
+          (sym c.is_too_long.ensures ∙ c.if-is_too_long.false),
     )
 
 pub take-requires : goal.take-requires
