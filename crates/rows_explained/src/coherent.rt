@@ -25,7 +25,12 @@ const SHARED: Clock = (HIT, 0x2, 0x20002);
 const COHERENT: [Row; 13] = [
     (&LOAD_THEN_STORE_HIT, NONE, IDLE, "\ncoherent: "),
     (&TWO_AGENTS_OVERLAP, NONE, IDLE, "\ncoherent: "),
-    (&STORE_HANDED_OVER_BEFORE_ARRIVAL, NONE, IDLE, "\ncoherent: "),
+    (
+        &STORE_HANDED_OVER_BEFORE_ARRIVAL,
+        NONE,
+        IDLE,
+        "\ncoherent: ",
+    ),
     (&STALLED_SNOOP, NONE, IDLE, "\ncoherent: "),
     (&CANCELLED_BY_ADDRESS_ERROR, NONE, IDLE, "\ncoherent: "),
     (&DEFERRED_AND_REPLIED, NONE, IDLE, "\ncoherent: "),
@@ -51,11 +56,36 @@ const INCOHERENT: [Row; 7] = [
         BYTES,
         " of the file): rule 26, HITM# of each owner Memory is stale",
     ),
-    (&SHARED_LINE_INVALIDATED, 9, BYTES, ": rule 27, HIT# of each holder"),
-    (&SHARED_LINE_INVALIDATED, 6, SHARED, ": rule 28, HIT# by a holder"),
-    (&DEFERRED_AND_REPLIED, 9, IDLE, ": rule 31, pending line kept back"),
-    (&DEFERRED_AND_REPLIED, 25, SHARED, ": rule 30, snoop result of a reply"),
-    (&UPGRADE_LOST_AND_HANDED, 22, IDLE, ": rule 26, HITM# of each owner"),
+    (
+        &SHARED_LINE_INVALIDATED,
+        9,
+        BYTES,
+        ": rule 27, HIT# of each holder",
+    ),
+    (
+        &SHARED_LINE_INVALIDATED,
+        6,
+        SHARED,
+        ": rule 28, HIT# by a holder",
+    ),
+    (
+        &DEFERRED_AND_REPLIED,
+        9,
+        IDLE,
+        ": rule 31, pending line kept back",
+    ),
+    (
+        &DEFERRED_AND_REPLIED,
+        25,
+        SHARED,
+        ": rule 30, snoop result of a reply",
+    ),
+    (
+        &UPGRADE_LOST_AND_HANDED,
+        22,
+        IDLE,
+        ": rule 26, HITM# of each owner",
+    ),
 ];
 
 /// A phase rule is broken first: the response comes without a request.

@@ -122,11 +122,7 @@ impl PartJudge {
     }
 
     /// Takes the next clock of the part.
-    pub(crate) fn judge(
-        &mut self,
-        sample: &Sample,
-        stamp: Option<Stamp>,
-    ) -> Result<(), WatchStop>
+    pub(crate) fn judge(&mut self, sample: &Sample, stamp: Option<Stamp>) -> Result<(), WatchStop>
         requires { (p : Part) × (m : Marks) × (es : List DumpEvent) × (before : List DumpEvent)
             × (after : List DumpEvent) × (w : Trace) × PartStands self.old p m es before w
             × IsNext w es before after }

@@ -247,7 +247,10 @@ const NEVER_QUIET: &str = "\
 ";
 
 /// The end of a file that ends early: where the word, the value or the section begins that is not whole.
-pub(crate) fn put_early_end(text: &mut Vec<u8>, early_end: Option<EarlyEnd>) -> Result<(), AllocError> {
+pub(crate) fn put_early_end(
+    text: &mut Vec<u8>,
+    early_end: Option<EarlyEnd>,
+) -> Result<(), AllocError> {
     match early_end {
         None => Ok(()),
         Some(end) => {

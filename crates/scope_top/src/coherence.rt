@@ -173,14 +173,15 @@ fn told_of(part: &CoheredPart) -> CoherenceTold {
 }
 
 // The verdict on a part of so many clocks from this one on; its clock is counted as those of the dump.
-fn verdict_of(
-    start: u64,
-    judged: u64,
-    found: Option<Incoherent>,
-    stamp: Option<Stamp>,
-) -> Verdict {
+fn verdict_of(start: u64, judged: u64, found: Option<Incoherent>, stamp: Option<Stamp>) -> Verdict {
     match found {
-        None => { if judged == 0 { Verdict::Nothing } else { Verdict::Accepted } }
+        None => {
+            if judged == 0 {
+                Verdict::Nothing
+            } else {
+                Verdict::Accepted
+            }
+        }
         Some(broken) => Verdict::Broken {
             clock: start.saturating_add(u64::from(broken.clock)),
             rule: broken.rule,
@@ -204,7 +205,13 @@ fn ending_with(judged: u64, is_later: bool, found: Option<Incoherent>) -> Ending
     ensures { result ≡ ending_with judged is_later found }
 {
     match found {
-        None => { if judged == 0 { Ending::Unjudged } else { Ending::Clean } }
+        None => {
+            if judged == 0 {
+                Ending::Unjudged
+            } else {
+                Ending::Clean
+            }
+        }
         Some(broken) => {
             if is_later && broken.rule < OWNERSHIP {
                 Ending::Unjudged

@@ -15,10 +15,11 @@ pub returns-in-Refused-clause-cohered : goal.returns-in-Refused-clause-cohered
 returns-in-Refused-clause-cohered g c = λ tells.
     let m = rules_for c.args.sampling in
     let fits : FitsRules m any_header = record { widest = refl; skips_preface = refl } in
-    let h = c.in_ok-begun.ensures.read tells m fits in
-    (declares-of m c.in_ok-begun.begun _ _ h,
-    subst (λ vs. IsPicked vs c.args.choice.now (picks.Refused c.in-Refused.refusal)) c.deref.ensures.value
-    (subst (λ x. IsPicked c.deref.result.now c.args.choice.now x) c.in-Refused.is c.in_ok-refusal.ensures))
+    let h = c.in_ok-begun.ensures.read tells m fits in (
+      declares-of m c.in_ok-begun.begun _ _ h,
+      subst (λ vs. IsPicked vs c.args.choice.now (picks.Refused c.in-Refused.refusal)) c.deref.ensures.value
+          (subst (λ x. IsPicked c.deref.result.now c.args.choice.now x) c.in-Refused.is c.in_ok-refusal.ensures),
+    )
 
 pub returns-in_err-told-in-Wired-clause-cohered : goal.returns-in_err-told-in-Wired-clause-cohered
 returns-in_err-told-in-Wired-clause-cohered g c = λ tells.
@@ -52,10 +53,11 @@ returns-in_ok-told-in-Wired-clause-cohered g c = λ tells.
     let h = c.in_ok-begun.ensures.read tells m fits in
     let k : IsBus b.header.variables.items c.args.choice.now bus =
     subst (λ vs. IsBus vs c.args.choice.now bus) c.deref.ensures.value
-    (subst (λ x. IsPicked c.deref.result.now c.args.choice.now x) c.in-Wired.is c.in_ok-refusal.ensures) in
-    (wired-by c.args.choice.now s b _ _ bus h k,
-    cohered-by (Ok c.in_ok-told-in-Wired.told) c.args.part c.marks_of-marks.result _ _ _ _
-    (c.marks_of-marks.ensures ∙ ap (λ x. marks_of_lines (wired_lines x)) c.deref-in-Wired.ensures.value)
-    (c.picked_wires_choose.ensures (λ all. ws) m)
-    (c.in_ok-told-in-Wired.ensures.judged tells (picking (λ all. ws)) h.tokens _ h.stands
-    (taken-by c.args.choice.now s b _ _ bus h k)))
+    (subst (λ x. IsPicked c.deref.result.now c.args.choice.now x) c.in-Wired.is c.in_ok-refusal.ensures) in (
+      wired-by c.args.choice.now s b _ _ bus h k,
+      cohered-by (Ok c.in_ok-told-in-Wired.told) c.args.part c.marks_of-marks.result _ _ _ _
+          (c.marks_of-marks.ensures ∙ ap (λ x. marks_of_lines (wired_lines x)) c.deref-in-Wired.ensures.value)
+          (c.picked_wires_choose.ensures (λ all. ws) m)
+          (c.in_ok-told-in-Wired.ensures.judged tells (picking (λ all. ws)) h.tokens _ h.stands
+          (taken-by c.args.choice.now s b _ _ bus h k)),
+    )
