@@ -62,7 +62,8 @@ pub use Rattle.fsb_agent_run.proofs.Interface.{among-granted, dirty-unpromised, 
 pub use Rattle.fsb_agent_run.proofs.Interface.{hit-by, placed-at}
 pub use Rattle.fsb_cache.specs.Sets.{CacheSets, sets_filled, sets_without, sets_stored, slot_of, held_shared}
 pub use Rattle.fsb_cache.specs.Sets.{held_stored, only_line, sets_shared, with_slot}
-unfoldable pub use Rattle.fsb_cache.specs.Sets.{copies, states, held_at, bytes_of_held, state_of_held}
+unfoldable pub use Rattle.fsb_cache.specs.Sets.{copies, states, held_at}
+pub use Rattle.fsb_cache.specs.Sets.{bytes_of_held, state_of_held}
 pub use Rattle.fsb_lawful.proofs.Interface.{all-at, get-there, LastMoves, and-then, chunk-bounds, chunks-few}
 pub use Rattle.fsb_lawful.proofs.Interface.{cuts-agree, is_chunk, last-moves, length-cut, live_choice-same, orderly-at}
 pub use Rattle.fsb_lawful.proofs.Interface.{told-as-settled, granted-by, some-and}
@@ -199,7 +200,7 @@ pub use Rattle.fsb_access.specs.ByteMemory.{ByteMemory, value_at, value_of_bytes
 unfoldable pub use Rattle.fsb_access.specs.ByteMemory.{put_value, bytes_at}
 pub use Rattle.fsb_access.specs.declared.access.Access.{Access}
 pub use Rattle.fsb_cache.specs.LineValues.{value_in_line}
-unfoldable pub use Rattle.fsb_cache.specs.LineValues.{line_with_value}
+pub use Rattle.fsb_cache.specs.LineValues.{line_with_value}
 pub use Rattle.fsb_agent_view.specs.Serving.{AtHand, entries_at_hand, hand_after, hand_after_steps, value_at_hand}
 unfoldable pub use Rattle.fsb_coherent.specs.BeforeSnoop.{events_before_snoop}
 unfoldable pub use Rattle.fsb_coherent.specs.LineEvents.{entries_on, events_below, snoops_on, is_awaited_for}
