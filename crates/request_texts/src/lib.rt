@@ -1,7 +1,7 @@
 //! Rows of requests as a table that people read: a line for each request, in columns.
 //!
 //! [`put_around`] appends the table of the requests around a clock: those that were over last, and those in flight.
-//! docs/scope.md has one, and says what each column is; rows_explained tests whole tables. Nothing is promised.
+//! docs/scope.md has one, and says what each column is; rows_program tests whole tables. Nothing is promised.
 //!
 //! Next: fsb_recent, which says which requests these are.
 #![tactic(auto)]

@@ -4,7 +4,7 @@
 //! picked and what helps, `fault_text` and its siblings why a dump was not read. Nothing is read here. `status` is the
 //! exit status: 0 only where a clock was judged and no rule is broken, or where what was asked for was printed.
 //!
-//! The line of a verdict has its text in `specs/`; the other texts are tested, in rows_reports.
+//! The line of a verdict has its text in `specs/`; the other texts are tested, in rows_program.
 //!
 //! Next: scope_wiring and scope_parts, whose answers these are.
 #![tactic(auto)]

@@ -2,7 +2,7 @@
 //!
 //! A rejected dump may only be sampled at the wrong moment. `hints_of` reads it once more for each other way to sample it,
 //! and answers those in which it gets further: each hint is true of the text, as `IsHint` in `specs/Tries.antt` says.
-//! `hints_text` is what a report says of them; it is tested, in rows_reports.
+//! `hints_text` is what a report says of them; it is tested, in rows_program.
 //!
 //! Next: scope_watch, which reads and judges.
 #![tactic(auto)]

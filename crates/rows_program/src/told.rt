@@ -1,6 +1,7 @@
 //! What `lines` and `rule` tell.
 
-use crate::dumps::{BUS, Came, END, done, ends};
+use crate::calls::{Came, done, ends};
+use crate::dumps::{BUS, END};
 use fsb_io::Memory;
 use std::alloc::{AllocError, Global};
 

@@ -1,6 +1,7 @@
 //! What is said of a dump that is not read.
 
-use crate::dumps::{BUS, END, IDLE, done, done_failing, ends};
+use crate::calls::{done, ends, failing};
+use crate::dumps::{BUS, END, IDLE};
 use fsb_io::Memory;
 use std::alloc::Global;
 
@@ -71,13 +72,13 @@ x.vcd, byte 0: the header has a word between its sections, or a $var that declar
 
 /// Whether the order ends with status 4 where this call of the source of the dump fails.
 fn is_unread(alloc: Global, words: &str, dump: &str, call: u32) -> Result<bool, Memory> {
-    let came = done_failing(alloc, words, dump, "", &[call], &[])?;
+    let came = failing(alloc, words, dump, &[call], &[])?;
     Ok(came.is((4, "", "Dump")))
 }
 
 /// Whether the order ends with status 4 where the first call of the sink of the answer fails.
 fn is_unwritten(alloc: Global, words: &str, dump: &str) -> Result<bool, Memory> {
-    let came = done_failing(alloc, words, dump, "", &[], &[0])?;
+    let came = failing(alloc, words, dump, &[], &[0])?;
     Ok(came.err.as_str() == "Out" && came.status == 4)
 }
 

@@ -1,6 +1,7 @@
 //! Worked runs, and runs with a clock changed, of which `p6scope coherence` says what is found.
 
-use crate::dumps::{report, written};
+use crate::calls::report;
+use crate::waves::written;
 use fsb_io::Memory;
 use fsb_signal::Sample;
 use rows_store::{
@@ -110,7 +111,7 @@ fn waveform(alloc: Global, row: &Row) -> Result<Vec<Sample>, AllocError> {
 fn is_said(alloc: Global, row: &Row) -> Result<bool, Memory> {
     let samples = waveform(alloc, row)?;
     let dump = written(alloc, &samples, false)?;
-    let said = report(alloc, dump.holds(), &["coherence", "x.vcd"])?;
+    let said = report(alloc, "coherence|x.vcd", dump.holds())?;
     Ok(said.contains(row.3))
 }
 

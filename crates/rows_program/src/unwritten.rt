@@ -1,6 +1,7 @@
 //! Dumps and sinks of which no file comes.
 
-use crate::dumps::{BUS, faulty, see};
+use crate::calls::viewed;
+use crate::faults::{WIRES, faulty};
 use fsb_io::Memory;
 use std::alloc::Global;
 
@@ -8,8 +9,8 @@ const BOTH: &str = "check|--save|x.gtkw|--cut|y.vcd|x.vcd";
 
 // Whether a dump without a fault leaves the files as they were, and says so.
 fn is_untouched(alloc: Global) -> Result<bool, Memory> {
-    let dump = faulty(alloc, "1 ns", BUS, 90, 30)?;
-    let seen = see(alloc, BOTH, &dump, &[], &[])?;
+    let dump = faulty(alloc, "1 ns", WIRES, 90, 30)?;
+    let seen = viewed(alloc, BOTH, &dump, &[], &[])?;
     Ok(
         seen.status == 0
             && seen.save.is_empty()
@@ -33,8 +34,8 @@ const FAULTS: [(u32, u32); 4] = [(0, 99), (1, 99), (99, 0), (99, 3)];
 
 // Whether the verdict is told where these calls fail, and no file is named.
 fn is_told(alloc: Global, save_fails: u32, cut_fails: u32) -> Result<bool, Memory> {
-    let dump = faulty(alloc, "1 ns", BUS, 6, 30)?;
-    let seen = see(alloc, BOTH, &dump, &[save_fails], &[cut_fails])?;
+    let dump = faulty(alloc, "1 ns", WIRES, 6, 30)?;
+    let seen = viewed(alloc, BOTH, &dump, &[save_fails], &[cut_fails])?;
     Ok(
         seen.status == 4
             && seen.out.contains("rejected at clock 6, 65 ns")

@@ -1,6 +1,7 @@
 //! Parts of a dump that times name.
 
-use crate::dumps::{BUS, END, IDLE, clocks, done, ends};
+use crate::calls::{done, ends};
+use crate::dumps::{BUS, END, IDLE, clocks};
 use fsb_io::Memory;
 use std::alloc::{AllocError, Global};
 

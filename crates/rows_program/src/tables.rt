@@ -1,6 +1,7 @@
 //! Reports as CSV.
 
-use crate::dumps::{BUS, done, faulty};
+use crate::calls::done;
+use crate::faults::{WIRES, faulty};
 use fsb_io::Memory;
 use std::alloc::Global;
 
@@ -13,8 +14,8 @@ const ACCEPTED: &str = "file,clock,step,line,rule,title,kind,sentence,facts\n";
 
 // Whether the table of a dump that is idle for so many clocks is this one.
 fn is_table(alloc: Global, idle: u32, status: u8, wanted: &str) -> Result<bool, Memory> {
-    let dump = faulty(alloc, "1 ns", BUS, idle, 30)?;
-    let came = done(alloc, "check|--format|csv|x.vcd", &dump)?;
+    let dump = faulty(alloc, "1 ns", WIRES, idle, 30)?;
+    let came = done(alloc, "check|--format|csv|x.vcd", &dump, "")?;
     Ok(came.status == status && came.err.is_empty() && came.out.as_str() == wanted)
 }
 
@@ -31,7 +32,7 @@ text, json or csv may stand there
 
 // Whether another form is refused.
 fn is_refused(alloc: Global) -> Result<bool, Memory> {
-    let came = done(alloc, "check|--format|xml|x.vcd", "")?;
+    let came = done(alloc, "check|--format|xml|x.vcd", "", "")?;
     Ok(came.status == 2 && came.err.as_str() == UNKNOWN_FORM)
 }
 

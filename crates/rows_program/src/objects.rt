@@ -1,6 +1,7 @@
 //! Reports as JSON.
 
-use crate::dumps::{BUS, done, faulty};
+use crate::calls::done;
+use crate::faults::{WIRES, faulty};
 use fsb_io::Memory;
 use std::alloc::Global;
 
@@ -35,7 +36,7 @@ const ROWS: [Row; 4] = [
     (
         "check|--format|json|x.vcd",
         "1 ns",
-        BUS,
+        WIRES,
         90,
         3,
         0,
@@ -44,7 +45,7 @@ const ROWS: [Row; 4] = [
     (
         "check|--format=json|--without|BNR_n|x.vcd",
         "10 ps",
-        BUS,
+        WIRES,
         6,
         30,
         1,
@@ -53,7 +54,7 @@ const ROWS: [Row; 4] = [
     (
         "check|--format|json|--at|9|x.vcd",
         "1 ns",
-        BUS,
+        WIRES,
         90,
         3,
         3,
@@ -74,7 +75,7 @@ const ROWS: [Row; 4] = [
 fn is_report(alloc: Global, row: &Row) -> Result<bool, Memory> {
     let (words, scale, bus, idle, count, status, wanted) = *row;
     let dump = faulty(alloc, scale, bus, idle, count)?;
-    let came = done(alloc, words, &dump)?;
+    let came = done(alloc, words, &dump, "")?;
     Ok(came.status == status && came.err.is_empty() && came.out.starts_with(wanted))
 }
 
@@ -90,7 +91,7 @@ const NO_DUMP: &str =
 
 // Whether a text that is no dump has a report of its fault.
 fn is_fault(alloc: Global) -> Result<bool, Memory> {
-    let came = done(alloc, "check|--format|json|x.vcd", "#\n")?;
+    let came = done(alloc, "check|--format|json|x.vcd", "#\n", "")?;
     Ok(came.status == 3 && came.err.is_empty() && came.out.as_str() == NO_DUMP)
 }
 

@@ -1,6 +1,7 @@
 //! Other ways to read a rejected dump.
 
-use crate::dumps::{BUS, END, IDLE, done};
+use crate::calls::done;
+use crate::dumps::{BUS, END, IDLE};
 use fsb_io::Memory;
 use std::alloc::{AllocError, Global};
 

@@ -1,6 +1,7 @@
 //! Traces that break a rule at their last clock, and the sentence that a report has of it.
 
-use crate::dumps::{report, written};
+use crate::calls::report;
+use crate::waves::written;
 use fsb_io::Memory;
 use fsb_signal::Sample;
 use rows_store::{
@@ -46,7 +47,7 @@ fn waveform(alloc: Global, row: &Row) -> Result<Vec<Sample>, AllocError> {
 fn is_said(alloc: Global, row: &Row) -> Result<bool, Memory> {
     let samples = waveform(alloc, row)?;
     let dump = written(alloc, &samples, false)?;
-    let said = report(alloc, dump.holds(), &["check", "x.vcd"])?;
+    let said = report(alloc, "check|x.vcd", dump.holds())?;
     Ok(said.contains(row.4))
 }
 
@@ -295,7 +296,7 @@ const AROUND: [Row; 5] = [
 fn is_shown(alloc: Global, row: &Row) -> Result<bool, Memory> {
     let samples = waveform(alloc, row)?;
     let dump = written(alloc, &samples, false)?;
-    let said = report(alloc, dump.holds(), &["check", "x.vcd"])?;
+    let said = report(alloc, "check|x.vcd", dump.holds())?;
     Ok(said.contains(row.4.replace(alloc, "\n  ", " ")?.as_str()))
 }
 
@@ -330,7 +331,7 @@ fn report_of_loads(alloc: Global) -> Result<String, Memory> {
     }
     samples.push(sample((AERR, 0, 0)))?;
     let dump = written(alloc, &samples, false)?;
-    report(alloc, dump.holds(), &["check", "x.vcd"])
+    report(alloc, "check|x.vcd", dump.holds())
 }
 
 /// The last ten of them; none is in flight.
@@ -366,7 +367,7 @@ fn says(
     wanted: &str,
 ) -> Result<bool, Memory> {
     let dump = written(alloc, samples, has_parity)?;
-    let said = report(alloc, dump.holds(), &["check", "x.vcd"])?;
+    let said = report(alloc, "check|x.vcd", dump.holds())?;
     Ok(said.contains(wanted))
 }
 
@@ -397,17 +398,17 @@ fn reports_say_what_has_no_level_or_odd_parity(rt: HostRuntime) {
 }
 
 /// Whether a report has no sentence of a broken clock in a part that begins later, by these words.
-fn is_unsaid(alloc: Global, words: &[&str]) -> Result<bool, Memory> {
+fn is_unsaid(alloc: Global, words: &str) -> Result<bool, Memory> {
     let samples = waveform(alloc, &ANSWERED[0])?;
     let dump = written(alloc, &samples, false)?;
-    let said = report(alloc, dump.holds(), words)?;
+    let said = report(alloc, words, dump.holds())?;
     Ok(said.contains(": rule 11, ") && !said.contains(" HIT# and HITM# are asserted at 2"))
 }
 
 #[test]
 fn a_part_that_begins_later_is_not_explained(rt: HostRuntime) {
-    let later = is_unsaid(rt.alloc(), &["check", "--at", "1", "x.vcd"]);
+    let later = is_unsaid(rt.alloc(), "check|--at|1|x.vcd");
     assert!(rt; later == Ok(true));
-    let first = is_unsaid(rt.alloc(), &["check", "--at", "0", "x.vcd"]);
+    let first = is_unsaid(rt.alloc(), "check|--at|0|x.vcd");
     assert!(rt; first == Ok(false));
 }

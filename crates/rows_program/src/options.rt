@@ -1,6 +1,7 @@
 //! Files of `--lines`.
 
-use crate::dumps::{BUS, END, IDLE, clocks, done};
+use crate::calls::done;
+use crate::dumps::{BUS, END, IDLE, clocks};
 use fsb_io::Memory;
 use std::alloc::{AllocError, Global};
 use std::process::Abort;

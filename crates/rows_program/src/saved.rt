@@ -1,6 +1,7 @@
 //! Save files, whole.
 
-use crate::dumps::{BUS, faulty, see};
+use crate::calls::viewed;
+use crate::faults::{WIRES, faulty};
 use fsb_io::Memory;
 use std::alloc::Global;
 
@@ -61,8 +62,8 @@ const VIEWS: [(&str, u32, &str); 4] = [
 
 // Whether the save file of a dump with this scale, idle for so many clocks, is this view and its lines.
 fn is_saved(alloc: Global, scale: &str, idle: u32, view: &str) -> Result<bool, Memory> {
-    let dump = faulty(alloc, scale, BUS, idle, idle.saturating_add(20))?;
-    let seen = see(alloc, "check|--save|x.gtkw|x.vcd", &dump, &[], &[])?;
+    let dump = faulty(alloc, scale, WIRES, idle, idle.saturating_add(20))?;
+    let seen = viewed(alloc, "check|--save|x.gtkw|x.vcd", &dump, &[], &[])?;
     let whole = format!(in alloc; "{HEAD}[dumpfile] \"x.vcd\"\n{view}{LINES}")?;
     Ok(
         seen.status == 1
@@ -129,7 +130,7 @@ fn has_row(alloc: Global, options: &str, wanted: &str) -> Result<bool, Memory> {
     let dump = faulty(alloc, "1 ns", ODD, 6, 26)?;
     let dump = dump.replace(alloc, "b111 g", "1l 1m 1n b1111 B b0 C b0 D")?;
     let row = format!(in alloc; "check{options}|--save|x.gtkw|x.vcd")?;
-    let seen = see(alloc, row.as_str(), &dump, &[], &[])?;
+    let seen = viewed(alloc, row.as_str(), &dump, &[], &[])?;
     Ok(seen.status == 1 && seen.save.contains(wanted))
 }
 

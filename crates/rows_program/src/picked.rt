@@ -1,6 +1,7 @@
 //! What `pick` writes.
 
-use crate::dumps::{BUS, Came, END, IDLE, clocks, done, done_failing, ends};
+use crate::calls::{Came, done, ends, failing};
+use crate::dumps::{BUS, END, IDLE, clocks};
 use fsb_io::Memory;
 use std::alloc::{AllocError, Global};
 
@@ -81,7 +82,7 @@ fn pick_tells_where_it_writes_nothing(rt: HostRuntime) {
 /// Whether a sink that fails at this call ends the copy with status 4.
 fn is_failure_told(alloc: Global, call: u32) -> Result<bool, Memory> {
     let text = four_clocks(alloc)?;
-    let came = done_failing(alloc, "pick|x.vcd", text.as_str(), "", &[], &[call])?;
+    let came = failing(alloc, "pick|x.vcd", text.as_str(), &[], &[call])?;
     Ok(came.status == 4 && came.err.as_str() == "Out")
 }
 

@@ -1,6 +1,7 @@
 //! What is said where the wires are not picked.
 
-use crate::dumps::{BUS, END, IDLE, clocks, done, ends};
+use crate::calls::{done, ends};
+use crate::dumps::{BUS, END, IDLE, clocks};
 use fsb_io::Memory;
 use std::alloc::{AllocError, Global};
 

@@ -1,6 +1,6 @@
 //! Dumps that tools wrote.
 
-use crate::dumps::done;
+use crate::calls::done;
 use fsb_io::Memory;
 use std::alloc::Global;
 

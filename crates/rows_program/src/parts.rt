@@ -1,6 +1,7 @@
 //! What is said of a dump that is judged in several parts.
 
-use crate::dumps::{BUS, END, IDLE, clocks, done};
+use crate::calls::done;
+use crate::dumps::{BUS, END, IDLE, clocks};
 use fsb_io::Memory;
 use std::alloc::{AllocError, Global};
 

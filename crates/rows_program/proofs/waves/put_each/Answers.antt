@@ -1,5 +1,5 @@
 use Rattle.std.proofs.Common.{[]}
-use Rattle.rows_explained.proofs.dumps.put_each.Goals as goal
+use Rattle.rows_program.proofs.waves.put_each.Goals as goal
 
 pub loop-sample-init : goal.loop-sample-init
 loop-sample-init c = (c.requires.0, [], c.requires.1)

@@ -1,6 +1,7 @@
 //! What is said of a dump that is judged.
 
-use crate::dumps::{BUS, Came, END, IDLE, clocks, done, ends_with};
+use crate::calls::{Came, done, ends_with};
+use crate::dumps::{BUS, END, IDLE, clocks};
 use fsb_io::Memory;
 use std::alloc::{AllocError, Global};
 

@@ -1,6 +1,7 @@
 //! The clocks around a fault.
 
-use crate::dumps::{BUS, faulty, see};
+use crate::calls::viewed;
+use crate::faults::{WIRES, faulty};
 use fsb_io::Memory;
 use std::alloc::{AllocError, Global};
 
@@ -17,9 +18,9 @@ const CUTS: [(u32, &str, &str); 4] = [
 fn is_cut(alloc: Global, idle: u32, options: &str, part: &str) -> Result<bool, Memory> {
     let dump = dump_of(alloc, idle, options)?;
     let row = format!(in alloc; "check{options}|--cut|y.vcd|x.vcd")?;
-    let checked = see(alloc, row.as_str(), &dump, &[], &[])?;
+    let checked = viewed(alloc, row.as_str(), &dump, &[], &[])?;
     let row = format!(in alloc; "pick|{part}|x.vcd")?;
-    let picked = see(alloc, row.as_str(), &dump, &[], &[])?;
+    let picked = viewed(alloc, row.as_str(), &dump, &[], &[])?;
     Ok(
         checked.status == 1
             && picked.status == 0
@@ -33,7 +34,7 @@ fn is_cut(alloc: Global, idle: u32, options: &str, part: &str) -> Result<bool, M
 
 // A dump whose clock is high at first where the first edge is asked for.
 fn dump_of(alloc: Global, idle: u32, options: &str) -> Result<String, AllocError> {
-    let dump = faulty(alloc, "1 ns", BUS, idle, idle.saturating_add(30))?;
+    let dump = faulty(alloc, "1 ns", WIRES, idle, idle.saturating_add(30))?;
     if options == "|--first" {
         dump.replace(alloc, "#0\n0! ", "#0\n1! ")
     } else {
