@@ -8,8 +8,8 @@ use scope_top::{Ended, Stop, ending_at, perform};
 use scope_words::{Order, Reading, read_order};
 use std::alloc::{AllocError, Global};
 
-/// What an order finds: the dump, whether it can be begun again at any time, the file of `--lines`, and which calls fail, counted
-/// from 0: of the source of the dump, and of the sinks of the answer, the save file and the cut.
+/// What an order finds: the dump, whether it can be begun again at any time, and the file of `--lines`. Then which calls fail,
+/// counted from 0: of the source of the dump, and of the sinks of the answer, the save file and the cut.
 #[derive(Clone, Copy)]
 pub(crate) struct Outside<'a> {
     pub(crate) dump: &'a [u8],
@@ -125,8 +125,8 @@ pub(crate) fn done(alloc: Global, row: &str, dump: &str, named: &str) -> Result<
     )
 }
 
-/// Does what a row asks for over this dump, which is not begun again for other ways to read it, where these calls of the sinks of the save file and
-/// of the cut fail.
+/// Does what a row asks for over this dump, which is not begun again for other ways to read it. These calls of the sinks of the
+/// save file and of the cut fail.
 pub(crate) fn viewed(
     alloc: Global,
     row: &str,
@@ -200,7 +200,7 @@ pub(crate) fn ends_with(
     Ok(done(alloc, row, dump, "")?.has_rest(status, rest))
 }
 
-/// What is answered over a dump, in one line: where a line is indented, a space stands in place of its beginning.
+/// What is answered over a dump, with indented lines joined to the one before by a space.
 pub(crate) fn report(alloc: Global, row: &str, dump: &[u8]) -> Result<String, Memory> {
     let came = did(alloc, row, over(dump))?;
     Ok(came.out.replace(alloc, "\n  ", " ")?)
