@@ -12,3 +12,5 @@ pub mod Prefixes
 pub mod Kept
 pub mod Explaining
 pub mod Found
+pub mod Machine
+pub mod Answers

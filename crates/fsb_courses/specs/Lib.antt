@@ -1,3 +1,5 @@
 pub mod Courses
 pub mod Turns
 pub mod Coherent
+pub mod Machine
+pub mod Answers

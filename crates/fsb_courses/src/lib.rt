@@ -14,7 +14,7 @@
 pub use laws::{
     broken_ownership_ends_the_courses, coherence_is_a_course_of_each_line,
     coherent_lines_have_one_course, first_states_are_coherent, ownership_is_a_course_of_each_line,
-    possible_states_end_courses,
+    possible_states_end_courses, snoops_are_answered_by_the_others, the_machine_moves_as_courses,
 };
 
 mod laws;
