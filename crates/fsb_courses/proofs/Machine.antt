@@ -16,9 +16,9 @@ use Rattle.fsb_line.specs.States.{asks_line, gets_line, is_held, is_sole}
 use Rattle.fsb_owners.specs.Joint.{agents}
 use Rattle.fsb_owners.specs.Possible.{settled_at_end}
 use Rattle.fsb_owner_laws.proofs.AgreeWords.{some_same}
+use Rattle.fsb_owner_laws.proofs.Members.{at_agents}
 use Rattle.fsb_courses.specs.Courses.{HasOneWriter}
 use Rattle.fsb_courses.specs.Machine.{MachineSnoop, changes_no_state, machine_snoop, of_asker, of_deferral, state_by_course}
-use Rattle.fsb_courses.proofs.Writers.{at_agents}
 
 -- what the machine makes of the state of agent b
 abbrev state_now : MemoryLine → Event → ℕ → Mesi

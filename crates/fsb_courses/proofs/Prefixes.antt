@@ -31,16 +31,11 @@ use Rattle.fsb_owner_laws.proofs.AgreePossible.{outstanding-agree, some_and}
 use Rattle.fsb_owner_laws.proofs.AgreeWords.{Alike, agent_at-agree, asks-agree, names-agree, put_off, reply_behind, reply_found}
 use Rattle.fsb_owner_laws.proofs.AgreeWords.{some_same, turned_round}
 use Rattle.fsb_owner_laws.proofs.BrokenRules.{decoded, of_request-at}
+use Rattle.fsb_owner_laws.proofs.Sound.{prefix-agree, slice_get-take}
 use Rattle.fsb_courses.proofs.Spoiled.{sound_before}
 use Rattle.fsb_courses.proofs.Tests.{decoding_out, of_request_out}
 
 -- the first samples of a trace
-
-slice_get-take : (n : ℕ) (w : Trace) (c : ℕ) → c < n → slice_get (take n w) c ≡ slice_get w c
-slice_get-take zero w c l = absurd (omega (arith, l))
-slice_get-take (suc n) [] c l = refl
-slice_get-take (suc n) (x ∷ w) zero l = refl
-slice_get-take (suc n) (x ∷ w) (suc c) l = slice_get-take n w c (omega (arith, l))
 
 pub size : (w : Trace) (c : ℕ) → c < length w → length (take (c + 1) w) ≡ c + 1
 size w c l = length-take-le (c + 1) w (omega (arith, l))
@@ -54,11 +49,6 @@ prefixes_agree w d c m l =
       right = omega (arith, two, m);
       same = λ k b. slice_get-take (d + 1) w k b ∙ sym (slice_get-take (c + 1) w k (omega (arith, b, m)));
     }
-
-prefix_agrees : (w : Trace) (c : ℕ) → c < length w → AgreeTo (c + 1) (take (c + 1) w) w
-prefix_agrees w c l =
-    let one = size w c l in
-    record { left = omega (arith, one); right = omega (arith, l); same = λ k b. slice_get-take (c + 1) w k b }
 
 -- there are twenty phase rules
 rule_low : (m : Marks) (w : Trace) (c j : ℕ) → is_broken m w c j ≡ true → j < 21
@@ -78,7 +68,7 @@ phases_by m w d l h (Some (e, k)) f =
     let one = size w d l in
     let there = verdict-least m (take (d + 1) w) e k f in
     let below : e < d + 1 = (let b = there.0 in omega (arith, b, one)) in
-    let now = verdict-least m w e k (verdict-stays (d + 1) m (take (d + 1) w) w e k (prefix_agrees w d l) below f) in
+    let now = verdict-least m w e k (verdict-stays (d + 1) m (take (d + 1) w) w e k (prefix-agree w d l) below f) in
     absurd (both_ways (is_broken m w e k) (h e k (omega (arith, below)) (rule_low m w e k now.1)) now.1)
 
 -- the first samples break no phase rule, where none is broken at their clocks

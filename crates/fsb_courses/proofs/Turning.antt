@@ -20,6 +20,7 @@ use Rattle.fsb_owners.specs.Shown.{agent_at, asks, is_held_back, is_spoiled, is_
 use Rattle.fsb_owners.specs.Shown.{purpose_at, snooped_at}
 use Rattle.fsb_owner_laws.proofs.AskedOnce.{not_given}
 use Rattle.fsb_owner_laws.proofs.BrokenRules.{decoded, of_request-at}
+use Rattle.fsb_owner_laws.proofs.Replies.{middle_off}
 use Rattle.fsb_courses.specs.Turns.{IsAskedWhilePending, WaitTheirTurn}
 use Rattle.fsb_courses.proofs.Tests.{asks_out}
 
@@ -85,10 +86,6 @@ same_hit false false e = refl
 hit_same : (v : Trace) (c i : ℕ) → has_other_hit v c i ≡ false → line_at HIT v c ≡ line_at_snoop_end HIT v i
 unfolding has_other_hit
 hit_same v c i e = same_hit (line_at HIT v c) (line_at_snoop_end HIT v i) e
-
-middle_off : (b d : Bool) → d ≡ true → (true && b && d) ≡ false → b ≡ false
-middle_off true d e h = absurd (both_ways d h e)
-middle_off false d e h = refl
 
 is_written : (v : Trace) (q : ℕ) → purpose_at v q ≡ Some WriteBack → is_some_and (purpose_at v q) is_write_back_purpose ≡ true
 unfolding is_some_and is_write_back_purpose

@@ -7,31 +7,24 @@ use Rattle.std.proofs.lemmas.Bool.{or_left, or_right}
 use Rattle.fsb_count.specs.Clocks.{all_where, each_where}
 use Rattle.fsb_count.proofs.Interface.{each_where-at}
 use Rattle.fsb_line.specs.declared.state.Mesi.{Mesi}
-use Rattle.fsb_line.specs.declared.state.Mesi.TheVariants.{Exclusive, Invalid, Modified, Shared}
+use Rattle.fsb_line.specs.declared.state.Mesi.TheVariants.{Exclusive, Invalid, Modified}
 use Rattle.fsb_line.specs.States.{is_modified}
 use Rattle.fsb_trace.specs.At.{Trace}
 use Rattle.fsb_owners.specs.Joint.{Joint, agents, alone, every_joint, is_after_drops, is_after_stores, is_kept_or_dropped}
 use Rattle.fsb_owners.specs.Joint.{is_same_joint, is_same_state, reached_by, sharing, state_at, unheld}
 use Rattle.fsb_owners.specs.Possible.{after_unseen}
 use Rattle.fsb_owners.specs.Shown.{is_coming, may_drop_at}
-use Rattle.fsb_owner_laws.proofs.Members.{below_four}
-use Rattle.fsb_owner_laws.proofs.Quiet.{IsStore, drop_each, kept, same_states, store_parts}
-use Rattle.fsb_owner_laws.proofs.StepLosses.{stores_stay}
+use Rattle.fsb_owner_laws.proofs.Members.{at_agents, below_four}
+use Rattle.fsb_owner_laws.proofs.Quiet.{IsStore, drop_each, implied, kept, same_states, store_parts}
+use Rattle.fsb_owner_laws.proofs.StepLosses.{same_state, stores_stay}
 use Rattle.fsb_courses.specs.Courses.{MayMove}
 use Rattle.fsb_courses.proofs.Sets.{reached_in, reached_out}
-use Rattle.fsb_courses.proofs.Writers.{any_agent, at_agents, each_agent, of_every}
+use Rattle.fsb_courses.proofs.Writers.{any_agent, each_agent, of_every}
 
 -- words of one state
 
-state_same : (s : Mesi) → is_same_state s s ≡ true
-unfolding is_same_state
-state_same Invalid = refl
-state_same Shared = refl
-state_same Exclusive = refl
-state_same Modified = refl
-
 same_from : (s t : Mesi) → s ≡ t → is_same_state s t ≡ true
-same_from s t e = ap (is_same_state s) (sym e) ∙ state_same s
+same_from s t e = ap (is_same_state s) (sym e) ∙ same_state s
 
 kept_out : (may : Bool) (s t : Mesi) → is_kept_or_dropped may s t ≡ true
     → (s ≡ t) ⊎ ((may ≡ true) × (is_modified s ≡ false) × (t ≡ Invalid))
@@ -151,9 +144,6 @@ exclusive_computed = refl
 modified_computed : each_where (is_alone_with Modified) 4 ≡ true
 unfolding each_where is_alone_with is_same_joint is_same_state state_at every_joint sharing alone all_where unheld
 modified_computed = refl
-
-implied : (a b : Bool) → (not a || b) ≡ true → a ≡ true → b ≡ true
-implied a b e t = let h = rw t at e in h
 
 alone_with : (s : Mesi) (z : Joint) (a : ℕ) → each_where (is_alone_with s) 4 ≡ true → a < 4 → Contains every_joint z
     → is_same_state (state_at z a) s ≡ true → is_same_joint z (alone s a) ≡ true

@@ -1,5 +1,5 @@
 -- The joint states with one writer are the 24 of a coherent line.
-use Rattle.std.proofs.Common.{ℕ, ◌<◌, ◌≡◌, ◌≢◌, Bool, true, false, ◌&&◌, ◌||◌, not, nat_eq, [], ◌∷◌, length, map}
+use Rattle.std.proofs.Common.{ℕ, ◌<◌, ◌≡◌, ◌≢◌, Bool, true, false, ◌||◌, not, nat_eq, [], ◌∷◌, length}
 use Rattle.std.proofs.Common.{refl, sym, subst, arith}
 use Rattle.std.specs.List.{Contains, list_all, list_any}
 use Rattle.std.specs.Prelude.{slice_index_or}
@@ -9,24 +9,16 @@ use Rattle.std.proofs.lemmas.List.Folds.{list_any_at}
 use Rattle.std.proofs.lemmas.List.Sums.{AllPass-from_list_all}
 use Rattle.fsb_count.specs.Clocks.{all_where}
 use Rattle.fsb_line.specs.declared.state.Mesi.{Mesi}
-use Rattle.fsb_line.specs.declared.state.Mesi.TheVariants.{Exclusive, Invalid, Modified, Shared}
 use Rattle.fsb_line.specs.States.{is_held, is_sole}
 use Rattle.fsb_owners.specs.Joint.{Joint, agents, alone, every_joint, is_same_joint, is_same_state, sharing, state_at, unheld}
 use Rattle.fsb_owner_laws.specs.Losses.{AreCoherent}
 use Rattle.fsb_owner_laws.proofs.Members.{below_four}
-use Rattle.fsb_owner_laws.proofs.Quiet.{any_found, same_joints}
+use Rattle.fsb_owner_laws.proofs.Quiet.{any_found, four, implied, of_states, of_states-at, same_joints}
 use Rattle.fsb_courses.specs.Courses.{HasOneWriter}
 
 -- a test of all four agents, and of one of them
 pub each_agent : (p : ℕ → Bool) → ((a : ℕ) → a < 4 → p a ≡ true) → list_all p agents ≡ true
 each_agent p h = rw (h 0 (omega arith), h 1 (omega arith), h 2 (omega arith), h 3 (omega arith)) refl
-
-four : (a b c d : Bool) → (a && (b && (c && (d && true)))) ≡ true → (a ≡ true) × (b ≡ true) × (c ≡ true) × (d ≡ true)
-four true true true true e = (refl, refl, refl, refl)
-four true true true false e = absurd (cc)
-four true true false d e = absurd (cc)
-four true false c d e = absurd (cc)
-four false b c d e = absurd (cc)
 
 pub at_agent : (p : ℕ → Bool) → list_all p agents ≡ true → (a : ℕ) → a < 4 → p a ≡ true
 at_agent p e =
@@ -37,11 +29,6 @@ any_agent p =
     below_four (λ a. p a ≡ true → list_any p agents ≡ true)
     (λ e. list_any_at p agents 0 0 (omega arith) e) (λ e. list_any_at p agents 1 0 (omega arith) e)
     (λ e. list_any_at p agents 2 0 (omega arith) e) (λ e. list_any_at p agents 3 0 (omega arith) e)
-
--- the state at an agent of a joint state that is given agent by agent
-pub at_agents : (f : ℕ → Mesi) (a : ℕ) → a < 4 → state_at (map f agents) a ≡ f a
-unfolding state_at
-at_agents f = below_four (λ a. state_at (map f agents) a ≡ f a) refl refl refl refl
 
 -- what holds of each of the 24
 pub of_every : (p : Joint → Bool) → list_all p every_joint ≡ true → (x : Joint) → Contains every_joint x → p x ≡ true
@@ -75,24 +62,12 @@ writes_alone x h =
     not_alone (nat_eq a b) (is_sole (state_at x a)) (is_held (state_at x b)) (λ f t. h.alone a b l m (apart a b f) t)))
 
 -- the test of each list of four states
-of_states : (Mesi → Bool) → Bool
-of_states test = test Invalid && (test Shared && (test Exclusive && (test Modified && true)))
-
-of_states-at : (test : Mesi → Bool) (s : Mesi) → of_states test ≡ true → test s ≡ true
-unfolding of_states
-of_states-at test s e =
-    let k = four (test Invalid) (test Shared) (test Exclusive) (test Modified) e in
-    elim s as (λ s. test s ≡ true) [ Invalid ↦ k.0 | Shared ↦ k.1 | Exclusive ↦ k.2 | Modified ↦ k.3 ]
-
 abbrev is_one_of_all : Joint → Bool
 is_one_of_all x = not (has_one_writer x) || list_any (is_same_joint x) every_joint
 
 all_computed : of_states (λ s. of_states (λ t. of_states (λ u. of_states (λ w. is_one_of_all (s ∷ t ∷ u ∷ w ∷ []))))) ≡ true
 unfolding of_states is_same_joint is_same_state state_at every_joint sharing alone all_where unheld
 all_computed = refl
-
-implied : (a b : Bool) → (not a || b) ≡ true → a ≡ true → b ≡ true
-implied a b e t = let h = rw t at e in h
 
 four_states : (s t u w : Mesi) → HasOneWriter (s ∷ t ∷ u ∷ w ∷ []) → Contains every_joint (s ∷ t ∷ u ∷ w ∷ [])
 four_states s t u w h =
