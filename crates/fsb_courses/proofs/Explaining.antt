@@ -39,7 +39,7 @@ could_be_made m first w a n p o c l =
       rules = λ d j b k. least_broken-none (is_ownership_broken first w) 32 (length w) o d j (omega (arith, b, l)) k;
     })
 
-breaks_none : (first : List Joint) (w : Trace) → CouldBeMade first w → ownership_verdict first w ≡ None
+pub breaks_none : (first : List Joint) (w : Trace) → CouldBeMade first w → ownership_verdict first w ≡ None
 unfolding ownership_verdict
 breaks_none first w h =
     least_broken-off (is_ownership_broken first w) 32 (length w) (λ d k l b. explained_unbroken first w d k (h d l))

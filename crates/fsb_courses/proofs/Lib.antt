@@ -14,3 +14,4 @@ pub mod Explaining
 pub mod Found
 pub mod Machine
 pub mod Answers
+pub mod Runs

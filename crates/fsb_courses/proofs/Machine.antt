@@ -44,13 +44,13 @@ deferred_state x a b Own shared g = refl
 deferred_state x a b Upgrade shared g = absurd (let no : ⊥ = cc in no)
 deferred_state x a b WriteBack shared g = absurd (let no : ⊥ = cc in no)
 
-retried_state : (x : MemoryLine) (a b : ℕ) (kind : Purpose) → IsTrue (asks_line kind)
-    → state_now x (IsRetried a kind) b ≡ state_by_course (of_asker a kind false true false) (x.state b) b
+retried_state : (x : MemoryLine) (a b : ℕ) (kind : Purpose) (hit : Bool) → IsTrue (asks_line kind)
+    → state_now x (IsRetried a kind) b ≡ state_by_course (of_asker a kind false true hit) (x.state b) b
 unfolding after effect trimmed settled linked state_by_course of_asker settled_at_end
-retried_state x a b Read g = refl
-retried_state x a b Own g = refl
-retried_state x a b Upgrade g = refl
-retried_state x a b WriteBack g = absurd (let no : ⊥ = cc in no)
+retried_state x a b Read hit g = refl
+retried_state x a b Own hit g = refl
+retried_state x a b Upgrade hit g = refl
+retried_state x a b WriteBack hit g = absurd (let no : ⊥ = cc in no)
 
 replied_state : (x : MemoryLine) (b : ℕ) (d : LineDeferral)
     → (replied x (Some d)).state b ≡ state_by_course (of_deferral d) (x.state b) b
@@ -64,53 +64,54 @@ by_deferral x b s None e = absurd (let no : ⊥ = cc in no)
 by_deferral x b s (Some d) e =
     replied_state x b d ∙ ap (λ u. state_by_course u (x.state b) b) (some_same (of_deferral d) s e)
 
-reply_state : (x : MemoryLine) (b : ℕ) (s : MachineSnoop) → machine_snoop x IsReplied ≡ Some s
+reply_state : (x : MemoryLine) (b : ℕ) (s : MachineSnoop) (hit : Bool) → machine_snoop x IsReplied hit ≡ Some s
     → state_now x IsReplied b ≡ state_by_course s (x.state b) b
 unfolding machine_snoop after effect trimmed
-reply_state x b s e = by_deferral x b s x.deferral e
+reply_state x b s hit e = by_deferral x b s x.deferral e
 
-written_state : (x : MemoryLine) (a b : ℕ)
-    → state_now x (IsWritten a) b ≡ state_by_course (of_asker a WriteBack false false false) (x.state b) b
+written_state : (x : MemoryLine) (a b : ℕ) (hit : Bool)
+    → state_now x (IsWritten a) b ≡ state_by_course (of_asker a WriteBack false false hit) (x.state b) b
 unfolding after effect trimmed settled linked given state_by_course of_asker settled_at_end
-written_state x a b = refl
+written_state x a b hit = refl
 
-handed_state : (x : MemoryLine) (a b owner : ℕ) (kind : Purpose)
-    → state_now x (IsHanded a kind owner) b ≡ state_by_course (of_asker a kind true false false) (x.state b) b
+handed_state : (x : MemoryLine) (a b owner : ℕ) (kind : Purpose) (hit : Bool)
+    → state_now x (IsHanded a kind owner) b ≡ state_by_course (of_asker a kind true false hit) (x.state b) b
 unfolding after effect trimmed settled linked given state_by_course of_asker settled_at_end
-handed_state x a b owner kind = refl
+handed_state x a b owner kind hit = refl
 
-upgraded_state : (x : MemoryLine) (a b : ℕ)
-    → state_now x (IsUpgraded a) b ≡ state_by_course (of_asker a Upgrade false false false) (x.state b) b
+upgraded_state : (x : MemoryLine) (a b : ℕ) (hit : Bool)
+    → state_now x (IsUpgraded a) b ≡ state_by_course (of_asker a Upgrade false false hit) (x.state b) b
 unfolding after effect trimmed settled linked state_by_course of_asker settled_at_end
-upgraded_state x a b = refl
+upgraded_state x a b hit = refl
 
-lost_state : (x : MemoryLine) (a b : ℕ)
-    → state_now x (IsLost a) b ≡ state_by_course (of_asker a Upgrade false false false) (x.state b) b
+lost_state : (x : MemoryLine) (a b : ℕ) (hit : Bool)
+    → state_now x (IsLost a) b ≡ state_by_course (of_asker a Upgrade false false hit) (x.state b) b
 unfolding after effect trimmed settled linked state_by_course of_asker settled_at_end
-lost_state x a b = refl
+lost_state x a b hit = refl
 
-pub snoops_move : (x : MemoryLine) (e : Event) (s : MachineSnoop) (b : ℕ) → May x e → machine_snoop x e ≡ Some s
-    → state_now x e b ≡ state_by_course s (x.state b) b
+pub snoops_move : (x : MemoryLine) (e : Event) (hit : Bool) (s : MachineSnoop) (b : ℕ) → May x e
+    → machine_snoop x e hit ≡ Some s → state_now x e b ≡ state_by_course s (x.state b) b
 unfolding machine_snoop May
-snoops_move x (IsWritten a) s b m e = by_snoop x (IsWritten a) b (of_asker a WriteBack false false false) s e (written_state x a b)
-snoops_move x (IsHanded a kind owner) s b m e =
-    by_snoop x (IsHanded a kind owner) b (of_asker a kind true false false) s e (handed_state x a b owner kind)
-snoops_move x (IsGranted a kind shared) s b m e =
+snoops_move x (IsWritten a) hit s b m e = by_snoop x (IsWritten a) b (of_asker a WriteBack false false hit) s e (written_state x a b hit)
+snoops_move x (IsHanded a kind owner) hit s b m e =
+    by_snoop x (IsHanded a kind owner) b (of_asker a kind true false hit) s e (handed_state x a b owner kind hit)
+snoops_move x (IsGranted a kind shared) hit s b m e =
     by_snoop x (IsGranted a kind shared) b (of_asker a kind false false shared) s e (granted_state x a b kind shared m.gets)
-snoops_move x (IsUpgraded a) s b m e = by_snoop x (IsUpgraded a) b (of_asker a Upgrade false false false) s e (upgraded_state x a b)
-snoops_move x (IsLost a) s b m e = by_snoop x (IsLost a) b (of_asker a Upgrade false false false) s e (lost_state x a b)
-snoops_move x (IsRetried a kind) s b m e =
-    by_snoop x (IsRetried a kind) b (of_asker a kind false true false) s e (retried_state x a b kind m.1)
-snoops_move x (IsDeferred a kind shared) s b m e =
+snoops_move x (IsUpgraded a) hit s b m e =
+    by_snoop x (IsUpgraded a) b (of_asker a Upgrade false false hit) s e (upgraded_state x a b hit)
+snoops_move x (IsLost a) hit s b m e = by_snoop x (IsLost a) b (of_asker a Upgrade false false hit) s e (lost_state x a b hit)
+snoops_move x (IsRetried a kind) hit s b m e =
+    by_snoop x (IsRetried a kind) b (of_asker a kind false true hit) s e (retried_state x a b kind hit m.1)
+snoops_move x (IsDeferred a kind shared) hit s b m e =
     by_snoop x (IsDeferred a kind shared) b (of_asker a kind false true shared) s e (deferred_state x a b kind shared m.gets)
-snoops_move x IsReplied s b m e = reply_state x b s e
-snoops_move x (Loads a) s b m e = absurd (let no : ⊥ = cc in no)
-snoops_move x (Stores a change) s b m e = absurd (let no : ⊥ = cc in no)
-snoops_move x (Drops a) s b m e = absurd (let no : ⊥ = cc in no)
-snoops_move x (Begins a kind number) s b m e = absurd (let no : ⊥ = cc in no)
-snoops_move x (IsCancelled a) s b m e = absurd (let no : ⊥ = cc in no)
-snoops_move x Responds s b m e = absurd (let no : ⊥ = cc in no)
-snoops_move x (Ends change) s b m e = absurd (let no : ⊥ = cc in no)
+snoops_move x IsReplied hit s b m e = reply_state x b s hit e
+snoops_move x (Loads a) hit s b m e = absurd (let no : ⊥ = cc in no)
+snoops_move x (Stores a change) hit s b m e = absurd (let no : ⊥ = cc in no)
+snoops_move x (Drops a) hit s b m e = absurd (let no : ⊥ = cc in no)
+snoops_move x (Begins a kind number) hit s b m e = absurd (let no : ⊥ = cc in no)
+snoops_move x (IsCancelled a) hit s b m e = absurd (let no : ⊥ = cc in no)
+snoops_move x Responds hit s b m e = absurd (let no : ⊥ = cc in no)
+snoops_move x (Ends change) hit s b m e = absurd (let no : ⊥ = cc in no)
 
 -- other events: what a store and a drop make of the states, and that nothing else changes them
 

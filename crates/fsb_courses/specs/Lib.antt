@@ -3,3 +3,4 @@ pub mod Turns
 pub mod Coherent
 pub mod Machine
 pub mod Answers
+pub mod Runs

@@ -31,17 +31,18 @@ of_asker a kind hitm turned hit =
 unfoldable pub of_deferral : LineDeferral → MachineSnoop
 of_deferral d = record { asker = d.agent; kind = d.kind; is_reply = true; hitm = false; turned = false; hit = d.shared }
 
--- the snoop end that the event is; none where it is another event
-unfoldable pub machine_snoop : MemoryLine → Event → Option MachineSnoop
-machine_snoop x (IsWritten a) = Some (of_asker a WriteBack false false false)
-machine_snoop x (IsHanded a kind owner) = Some (of_asker a kind true false false)
-machine_snoop x (IsGranted a kind shared) = Some (of_asker a kind false false shared)
-machine_snoop x (IsUpgraded a) = Some (of_asker a Upgrade false false false)
-machine_snoop x (IsLost a) = Some (of_asker a Upgrade false false false)
-machine_snoop x (IsRetried a kind) = Some (of_asker a kind false true false)
-machine_snoop x (IsDeferred a kind shared) = Some (of_asker a kind false true shared)
-machine_snoop x IsReplied = option_map {U = MachineSnoop} of_deferral x.deferral
-machine_snoop x _ = None
+-- the snoop end that the event is, where HIT# stands so; none where it is another event. What HIT# says counts where the memory
+-- gives the line, now or by a reply
+unfoldable pub machine_snoop : MemoryLine → Event → Bool → Option MachineSnoop
+machine_snoop x (IsWritten a) hit = Some (of_asker a WriteBack false false hit)
+machine_snoop x (IsHanded a kind owner) hit = Some (of_asker a kind true false hit)
+machine_snoop x (IsGranted a kind shared) hit = Some (of_asker a kind false false shared)
+machine_snoop x (IsUpgraded a) hit = Some (of_asker a Upgrade false false hit)
+machine_snoop x (IsLost a) hit = Some (of_asker a Upgrade false false hit)
+machine_snoop x (IsRetried a kind) hit = Some (of_asker a kind false true hit)
+machine_snoop x (IsDeferred a kind shared) hit = Some (of_asker a kind false true shared)
+machine_snoop x IsReplied hit = option_map {U = MachineSnoop} of_deferral x.deferral
+machine_snoop x _ hit = None
 
 -- the event is no snoop end, no store and no drop
 unfoldable pub changes_no_state : Event → Bool

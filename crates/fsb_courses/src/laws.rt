@@ -18,7 +18,7 @@ ghost use Rattle.fsb_owners.specs.Shown.{is_spoiled};
 ghost use Rattle.fsb_owner_laws.specs.Losses.{AreCoherent};
 ghost use Rattle.fsb_owner_verdict.specs.Coherence.{coherence_verdict};
 ghost use Rattle.fsb_courses.specs.Answers.{AnotherHas};
-ghost use Rattle.fsb_courses.specs.Courses.{HasCourse, HasCourseTo, HasOneWriter};
+ghost use Rattle.fsb_courses.specs.Courses.{HasCourse, HasCourseTo, HasOneWriter, IsCourse};
 ghost use Rattle.fsb_courses.specs.Coherent.{AreCoherentlyMade, CouldBeMade};
 ghost use Rattle.fsb_courses.specs.Machine.{
   MachineSnoop,
@@ -26,6 +26,7 @@ ghost use Rattle.fsb_courses.specs.Machine.{
   machine_snoop,
   state_by_course,
 };
+ghost use Rattle.fsb_courses.specs.Runs.{FitsWires, IsMadeByMachines, states_of};
 
 /// The joint states with one writer are the 24 of a coherent line. A trace that begins with empty caches begins with one of
 /// them, and one that begins in traffic with any.
@@ -87,8 +88,9 @@ pub fn broken_ownership_ends_the_courses()
 /// The events of the machine of fsb_line move its states as the clocks of a course do: at a snoop end by who asked, how, and what
 /// stands there, by a store of one agent, and by a drop of one. And where the machine is coherent, its states have one writer.
 pub fn the_machine_moves_as_courses()
-    ensures snoops { (x : MemoryLine) (e : Event) (s : MachineSnoop) (b : ℕ) → May x e →
-        machine_snoop x e ≡ Some s → (after x e).state b ≡ state_by_course s (x.state b) b }
+    ensures snoops { (x : MemoryLine) (e : Event) (hit : Bool) (s : MachineSnoop) (b : ℕ) →
+        May x e → machine_snoop x e hit ≡ Some s →
+        (after x e).state b ≡ state_by_course s (x.state b) b }
     ensures stores { (x : MemoryLine) (a : ℕ) (change : Bytes → Bytes) (b : ℕ) →
         (after x (Stores a change)).state b ≡ (if nat_eq b a then Modified else x.state b) }
     ensures drops { (x : MemoryLine) (a b : ℕ) →
@@ -96,4 +98,14 @@ pub fn the_machine_moves_as_courses()
     ensures others { (x : MemoryLine) (e : Event) (b : ℕ) → changes_no_state e ≡ true →
         (after x e).state b ≡ x.state b }
     ensures one_writer { (x : MemoryLine) → IsCoherent x → HasOneWriter (map x.state agents) }
+{}
+
+/// Where a run of that machine fits the wires, clock by clock and always coherent, its states are a course. So where each line
+/// has such a run and its requests wait for their turn, no rule of ownership is broken.
+pub fn runs_of_the_machine_are_courses()
+    ensures course { (first : List Joint) (v : Trace) (line n : ℕ) (lines : ℕ → MemoryLine) →
+        FitsWires first v line n lines →
+        IsCourse first v line n (λ c. states_of (lines c)) }
+    ensures unbroken { (first : List Joint) (w : Trace) → IsMadeByMachines first w →
+        ownership_verdict first w ≡ None }
 {}

@@ -8,13 +8,15 @@
 //!
 //! [`possible_states_end_courses`] says that the sets of fsb_owners are the ends of courses, and
 //! [`ownership_is_a_course_of_each_line`] that each line has one exactly where no rule is broken. A line is judged until one of
-//! its requests fails hard. Read `Courses`, `Turns` and `Coherent` of `specs/`.
+//! its requests fails hard. [`runs_of_the_machine_are_courses`] says that a run of the machine that fits the wires is one, with
+//! its links and bytes left out. Read `Courses`, `Turns` and `Coherent` of `specs/`, then `Machine` and `Runs`.
 #![tactic(auto)]
 
 pub use laws::{
     broken_ownership_ends_the_courses, coherence_is_a_course_of_each_line,
     coherent_lines_have_one_course, first_states_are_coherent, ownership_is_a_course_of_each_line,
-    possible_states_end_courses, snoops_are_answered_by_the_others, the_machine_moves_as_courses,
+    possible_states_end_courses, runs_of_the_machine_are_courses,
+    snoops_are_answered_by_the_others, the_machine_moves_as_courses,
 };
 
 mod laws;
