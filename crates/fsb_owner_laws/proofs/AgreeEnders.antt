@@ -134,6 +134,14 @@ origin_by : (n : ℕ) (w v : Trace) (j i s : ℕ) (b : Bool) → Alike n w v →
 origin_by n w v j i s true k e l h = origin_found n w v j i s k e l h
 origin_by n w v j i s false k e l h = h
 
+-- the request that counts at a snoop end that is seen
+pub origin-stays : (n : ℕ) (w v : Trace) (j i s : ℕ) → Alike n w v → snoop_end_of w j ≡ Some s → s < n
+    → origin_of w j ≡ Some i → origin_of v j ≡ Some i
+unfolding origin_of
+origin-stays n w v j i s k e l h =
+    rw (← (live_request_of-stays n w v j s k.agree l e))
+    (origin_by n w v j i s (is_reply (live_request_of w j)) k e l h)
+
 pub origin_parts : (n : ℕ) (w v : Trace) (j s q : ℕ) → Alike n w v → snoop_end_of w j ≡ Some s → s < n
     → origin_clock_of w j ≡ Some q → (q + 4 ≤ s) × (origin_clock_of v j ≡ Some q)
 unfolding origin_clock_of origin_of

@@ -276,7 +276,7 @@ finished-agree n w v b q k l m =
     same_answers (is_finished w b q) (is_finished v b q) (finished_stays n w v b q k l m)
     (finished_stays n v w b q (turned_round n w v k) l m)
 
-outstanding-agree : (n : ℕ) (w v : Trace) (b q : ℕ) → Alike n w v → b < n → q < b → is_outstanding w b q ≡ is_outstanding v b q
+pub outstanding-agree : (n : ℕ) (w v : Trace) (b q : ℕ) → Alike n w v → b < n → q < b → is_outstanding w b q ≡ is_outstanding v b q
 unfolding is_outstanding
 outstanding-agree n w v b q k l m =
     rw (

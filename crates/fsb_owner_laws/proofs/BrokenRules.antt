@@ -170,7 +170,7 @@ unfolding is_some_and
 named_by v line q o e h = let t = rw e at h in t
 
 -- the test of a snoop end that fits no joint state is that of its request
-answered : (first : List Joint) (v : Trace) (line c : ℕ) (e : Ender) (test : ℕ → ℕ → ℕ → Bool) → IsEnder v line c e
+pub answered : (first : List Joint) (v : Trace) (line c : ℕ) (e : Ender) (test : ℕ → ℕ → ℕ → Bool) → IsEnder v line c e
     → is_spoiled v line ≡ false → is_none_left (possible_begun first v line c) ≡ false
     → is_none_left (possible_shown first v line c) ≡ true → of_answer first v c test ≡ test e.0 line e.1.0
 unfolding of_answer is_some_and is_answer_unfit is_for_line

@@ -82,7 +82,7 @@ below_four P p r s t (suc (suc zero)) l = s
 below_four P p r s t (suc (suc (suc zero))) l = t
 below_four P p r s t (suc (suc (suc (suc a)))) l = absurd (omega (arith, l))
 
-at_agents : (f : ℕ → Mesi) (a : ℕ) → a < 4 → state_at (map f agents) a ≡ f a
+pub at_agents : (f : ℕ → Mesi) (a : ℕ) → a < 4 → state_at (map f agents) a ≡ f a
 unfolding state_at
 at_agents f = below_four (λ a. state_at (map f agents) a ≡ f a) refl refl refl refl
 

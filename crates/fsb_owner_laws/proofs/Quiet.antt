@@ -60,10 +60,10 @@ closed step p r h =
     ∙ any_at (λ x. p x && step x y) every_joint y c (rw (t, r y c) refl)))
 
 -- a test of a state, at all four
-of_states : (Mesi → Bool) → Bool
+unfoldable pub of_states : (Mesi → Bool) → Bool
 of_states test = test Invalid && test Shared && test Exclusive && test Modified
 
-of_states-at : (test : Mesi → Bool) (s : Mesi) → of_states test ≡ true → test s ≡ true
+pub of_states-at : (test : Mesi → Bool) (s : Mesi) → of_states test ≡ true → test s ≡ true
 unfolding of_states
 of_states-at test s e =
     let a = and_parts (test Invalid && test Shared && test Exclusive) (test Modified) e in
@@ -98,7 +98,7 @@ dropped_on may s t u =
 abbrev pub kept : (ℕ → Bool) → Joint → Joint → ℕ → Bool
 kept may x y a = is_kept_or_dropped (may a) (state_at x a) (state_at y a)
 
-four : (a b c d : Bool) → (a && (b && (c && (d && true)))) ≡ true → (a ≡ true) × (b ≡ true) × (c ≡ true) × (d ≡ true)
+pub four : (a b c d : Bool) → (a && (b && (c && (d && true)))) ≡ true → (a ≡ true) × (b ≡ true) × (c ≡ true) × (d ≡ true)
 four true true true true e = (refl, refl, refl, refl)
 four true true true false e = absurd (cc)
 four true true false d e = absurd (cc)
@@ -226,7 +226,7 @@ pub held_there : each_where (λ a. is_same_state (state_at (alone Exclusive a) a
 unfolding each_where is_same_state state_at alone
 held_there = refl
 
-implied : (a b : Bool) → (not a || b) ≡ true → a ≡ true → b ≡ true
+pub implied : (a b : Bool) → (not a || b) ≡ true → a ≡ true → b ≡ true
 implied a b e t = let h = rw t at e in h
 
 -- only a line that was Exclusive at the agent is Exclusive there after drops

@@ -432,7 +432,7 @@ same_hit : (v : Trace) (i s c : ℕ) → snoop_end_of v i ≡ Some s → has_oth
 unfolding has_other_hit line_at_snoop_end is_some_and
 same_hit v i s c e h = same_by (line_at HIT v s) (line_at HIT v c) (let k = rw e at h in k)
 
-middle_off : (b d : Bool) → d ≡ true → (true && b && d) ≡ false → b ≡ false
+pub middle_off : (b d : Bool) → d ≡ true → (true && b && d) ≡ false → b ≡ false
 middle_off true d e h = absurd (both_ways d h e)
 middle_off false d e h = refl
 

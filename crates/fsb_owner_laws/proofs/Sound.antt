@@ -33,13 +33,13 @@ use Rattle.fsb_laws.proofs.Interface.{ads_before_end, may_answer-stays}
 use Rattle.fsb_owner_laws.proofs.AgreeWords.{put_off}
 use Rattle.fsb_owner_laws.proofs.AskedOnce.{deferred_quiet, off_then}
 
-slice_get-take : (n : ℕ) (w : Trace) (c : ℕ) → c < n → slice_get (take n w) c ≡ slice_get w c
+pub slice_get-take : (n : ℕ) (w : Trace) (c : ℕ) → c < n → slice_get (take n w) c ≡ slice_get w c
 slice_get-take zero w c l = absurd (omega (arith, l))
 slice_get-take (suc n) [] c l = refl
 slice_get-take (suc n) (x ∷ w) zero l = refl
 slice_get-take (suc n) (x ∷ w) (suc c) l = slice_get-take n w c (omega (arith, l))
 
-prefix-agree : (v : Trace) (c : ℕ) → c < length v → AgreeTo (c + 1) (take (c + 1) v) v
+pub prefix-agree : (v : Trace) (c : ℕ) → c < length v → AgreeTo (c + 1) (take (c + 1) v) v
 prefix-agree v c l =
     let size = length-take-le (c + 1) v (omega (arith, l)) in
     record { left = omega (arith, size); right = omega (arith, l); same = λ d m. slice_get-take (c + 1) v d m }

@@ -148,7 +148,7 @@ kept_by : (step : Joint → Joint → Bool) (set : List Joint) → ((x : Joint) 
 kept_by step set h a =
     none_reached step set ∙ ap not (any_alike (lands step) (λ x. true) set (stays step h) a) ∙ some_left set
 
-same_state : (s : Mesi) → is_same_state s s ≡ true
+pub same_state : (s : Mesi) → is_same_state s s ≡ true
 unfolding is_same_state
 same_state Invalid = refl
 same_state Shared = refl

@@ -1,0 +1,17 @@
+pub mod Sets
+pub mod Writers
+pub mod Begins
+pub mod Snoops
+pub mod Unseen
+pub mod Ends
+pub mod Spoiled
+pub mod Tests
+pub mod Fits
+pub mod Turning
+pub mod Prefixes
+pub mod Kept
+pub mod Explaining
+pub mod Found
+pub mod Machine
+pub mod Answers
+pub mod Runs
