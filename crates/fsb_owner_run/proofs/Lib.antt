@@ -1,0 +1,17 @@
+pub mod Cut
+pub mod Sets
+pub mod States
+pub mod Claims
+pub mod AskedOnce
+pub mod Begun
+pub mod Snooped
+pub mod Replied
+pub mod Coming
+pub mod Unseen
+pub mod Moves
+pub mod Turned
+pub mod Contained
+pub mod Unbroken
+pub mod HeldBack
+pub mod Answered
+pub mod Verdict
