@@ -1,10 +1,10 @@
 -- Rules 30 and 31: a reply repeats HIT#, and a line that is deferred is given to nobody else.
-use Rattle.std.proofs.Common.{ℕ, ◌+◌, ◌-◌, ◌<◌, ◌≤◌, ◌≡◌, Bool, true, false, ◌&&◌, ◌||◌, not, nat_eq, nat_lt, length, List, Option, Some, None}
+use Rattle.std.proofs.Common.{ℕ, ◌+◌, ◌<◌, ◌≡◌, Bool, true, false, ◌&&◌, not, nat_lt, length, List, Option, Some, None}
 use Rattle.std.proofs.Common.{refl, sym, ap, subst, ◌∙◌, arith, inl, inr, if◌then◌else◌}
 use Rattle.std.specs.Option.{option_and_then}
-use Rattle.std.proofs.lemmas.Bool.{and_from, and_parts, both_ways, cases_Bool, false_from_ne_true, lt-ltb, ltb-true, not-true, or_cases}
+use Rattle.std.proofs.lemmas.Bool.{and_parts, both_ways, false_from_ne_true, ltb-true, not-true}
 use Rattle.fsb_count.specs.Clocks.{any_where}
-use Rattle.fsb_count.specs.Options.{is_at, is_before, is_some_and}
+use Rattle.fsb_count.specs.Options.{is_before, is_some_and}
 use Rattle.fsb_count.proofs.Interface.{any_where-found, is_before-from}
 use Rattle.fsb_encode.specs.declared.request.Kind.{Kind}
 use Rattle.fsb_encode.specs.declared.request.Request.{Request}
@@ -21,12 +21,12 @@ use Rattle.fsb_trace.specs.Outcome.{is_deferral, is_deferred}
 use Rattle.fsb_trace.specs.Requests.{is_reply, is_reply_kind, live_clock_of, live_count, live_request_of}
 use Rattle.fsb_trace.specs.Snoop.{line_at_snoop_end, snoop_end_of}
 use Rattle.fsb_trace.proofs.Interface.{snoop_end_of-clock}
-use Rattle.fsb_timely.specs.Past.{Claim, Grant, Past, SnoopEnd}
+use Rattle.fsb_timely.specs.Past.{Claim, Grant, SnoopEnd}
 use Rattle.fsb_timely.specs.Moments.{number_snooped_at, served_number, turns_in}
 use Rattle.fsb_timely.specs.Runs.{Run, past_of, past_to, run_to}
 use Rattle.fsb_timely.specs.Snoops.{is_keep, number_served_at, was_hit_before}
 use Rattle.fsb_timely.proofs.Interface.{snoop-tied}
-use Rattle.fsb_lawful.proofs.Interface.{past-cut, some-and, wants-lawfully}
+use Rattle.fsb_lawful.proofs.Interface.{past-cut, some-and}
 use Rattle.fsb_coherent.specs.Awaits as awaits
 use Rattle.fsb_coherent.specs.Settled.{outcome_by_turn, outcome_under}
 use Rattle.fsb_tied.proofs.Interface.{IsSnooped, begun-shown, begun-want, outcome-shown, reply-end-at, snooped-by, told-again}
@@ -37,7 +37,7 @@ use Rattle.fsb_run_laws.specs.Reaches.{Reaches}
 use Rattle.fsb_owners.specs.Joint.{Joint}
 use Rattle.fsb_owners.specs.Rules.{has_other_hit, is_answered_below, is_given_again, is_given_again_to, is_hit_of_reply_wrong}
 use Rattle.fsb_owners.specs.Rules.{is_served_or_deferred, of_request}
-use Rattle.fsb_owners.specs.Shown.{agent_at, is_for_line, names, origin_clock_of, origin_of, purpose_at, snooped_at}
+use Rattle.fsb_owners.specs.Shown.{agent_at, names, origin_clock_of, origin_of, purpose_at, snooped_at}
 use Rattle.fsb_owner_laws.proofs.AgreeEnders.{ender_from, for_line-from, origin_parts, snooped_found, snooped_from}
 use Rattle.fsb_owner_laws.proofs.AgreeWords as words
 use Rattle.fsb_owner_laws.proofs.BrokenRules.{named}
@@ -47,7 +47,7 @@ use Rattle.fsb_owner_run.proofs.Begun.{purpose-there}
 use Rattle.fsb_owner_run.proofs.Claims.{asks-purpose, shown-begun}
 use Rattle.fsb_owner_run.proofs.Coming.{defer-shown, line-at-end}
 use Rattle.fsb_owner_run.proofs.HeldBack.{agent-there}
-use Rattle.fsb_owner_run.proofs.Replied.{IsRepliedEnd, put-off-told, replied-end, reply-origin, told-same}
+use Rattle.fsb_owner_run.proofs.Replied.{put-off-told, replied-end, reply-origin, told-same}
 use Rattle.fsb_owner_run.proofs.Snooped.{the-asker, the-orderly}
 
 -- the reply whose snoop end is the last clock of the run, as the run has it

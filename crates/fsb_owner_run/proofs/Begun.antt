@@ -1,31 +1,28 @@
 -- What an agent of a timely run asks suits what it has: the joint state of the run is left by each request that begins.
-use Rattle.std.proofs.Common.{ℕ, ◌+◌, ◌<◌, ◌≤◌, ◌≡◌, ◌≢◌, Bool, true, false, ◌&&◌, ◌||◌, not, length, List, Option, Some, None}
-use Rattle.std.proofs.Common.{refl, sym, ap, subst, ◌∙◌, arith, inl, inr, if◌then◌else◌}
+use Rattle.std.proofs.Common.{ℕ, ◌+◌, ◌<◌, ◌≡◌, Bool, true, not, length, List, Option, Some}
+use Rattle.std.proofs.Common.{refl, sym, ap, subst, ◌∙◌, arith}
 use Rattle.std.specs.List.{Contains}
 use Rattle.std.specs.Option.{option_and_then}
-use Rattle.std.proofs.lemmas.Bool.{and_from, and_parts, both_ways, cases_Bool, false_from_ne_true}
+use Rattle.std.proofs.lemmas.Bool.{and_from}
 use Rattle.fsb_encode.specs.declared.request.Kind.{Kind}
 use Rattle.fsb_encode.specs.declared.request.Kind.TheVariants as kinds
 use Rattle.fsb_encode.specs.declared.request.Request.{Request}
 use Rattle.fsb_line.specs.declared.purpose.Purpose.{Purpose}
 use Rattle.fsb_line.specs.declared.purpose.Purpose.TheVariants.{Own, Read, Upgrade, WriteBack}
-use Rattle.fsb_line.specs.declared.state.Mesi.{Mesi}
-use Rattle.fsb_line.specs.States.{is_held, is_modified, is_sole, suits}
 use Rattle.fsb_timely.specs.Past.{Claim, Owing, Past}
-use Rattle.fsb_timely.specs.Grants.{begun_at, holds_line, is_exclusive}
-use Rattle.fsb_timely.specs.Hits.{is_dirty, line_state_of}
+use Rattle.fsb_timely.specs.Grants.{begun_at, holds_line}
+use Rattle.fsb_timely.specs.Hits.{line_state_of}
 use Rattle.fsb_timely.specs.Runs.{Run, past_of}
 use Rattle.fsb_timely.specs.Scripts.{Need}
-use Rattle.fsb_timely.specs.Wants.{is_missing, kind_needed, may_upgrade, owed, request_of_kind, victim_of, want_for, want_of}
+use Rattle.fsb_timely.specs.Wants.{kind_needed, may_upgrade, request_of_kind, victim_of, want_for, want_of}
 use Rattle.fsb_timely.specs.Wants.{write_back_of}
-use Rattle.fsb_timely.proofs.Interface.{find-passes}
 use Rattle.fsb_coherent.specs.Awaits as awaits
 use Rattle.fsb_coherent.specs.Awaits.{purpose_wanted}
 use Rattle.fsb_coherent.specs.Facts.{IsBegunRightly, suits_holder}
 use Rattle.fsb_tied.proofs.Interface.{begun-shown, begun-want, clock-facts}
 use Rattle.fsb_tied.proofs.Beginnings.{IsBegunWant}
 use Rattle.fsb_run_laws.specs.Reaches.{Reaches}
-use Rattle.fsb_owners.specs.Joint.{Joint, every_joint, state_at}
+use Rattle.fsb_owners.specs.Joint.{Joint}
 use Rattle.fsb_owners.specs.Possible.{after_begin, asking, may_ask}
 use Rattle.fsb_owners.specs.Shown.{agent_at, names, purpose_at}
 use Rattle.fsb_owner_laws.proofs.Emptied.{agent_four}

@@ -1,22 +1,20 @@
 -- What the wires show of a request that begins, and what the run says of it.
-use Rattle.std.proofs.Common.{ℕ, ◌+◌, ◌<◌, ◌≤◌, ◌≡◌, Bool, true, false, ◌&&◌, ◌||◌, not, nat_eq, length, Option, Some, None}
-use Rattle.std.proofs.Common.{refl, sym, ap, subst, ◌∙◌, arith, inl, inr, if◌then◌else◌}
-use Rattle.std.specs.List.{filter, filter_map, list_any}
-use Rattle.std.specs.Option.{option_and_then, option_map}
-use Rattle.std.proofs.lemmas.Bool.{and_from, and_parts, both_ways, cases_lt, eq-eqb, eqb-true, false_from_ne_true, not-true}
+use Rattle.std.proofs.Common.{ℕ, ◌+◌, ◌<◌, ◌≡◌, Bool, true, false, ◌&&◌, not, nat_eq, length, Option, Some, None}
+use Rattle.std.proofs.Common.{refl, sym, ap, ◌∙◌, arith, inl, inr}
+use Rattle.std.specs.List.{filter, list_any}
+use Rattle.std.specs.Option.{option_and_then}
+use Rattle.std.proofs.lemmas.Bool.{and_from, and_parts, cases_lt, eq-eqb}
 use Rattle.fsb_count.specs.Options.{is_at, is_some_and}
 use Rattle.fsb_count.proofs.Interface.{is_at-from, is_at-some}
 use Rattle.fsb_encode.specs.declared.request.Kind.{Kind}
 use Rattle.fsb_encode.specs.declared.request.Kind.TheVariants as kinds
 use Rattle.fsb_encode.specs.declared.request.Request.{Request}
 use Rattle.fsb_line.specs.declared.purpose.Purpose.{Purpose}
-use Rattle.fsb_signal.specs.declared.lines.TheConstants.Lines.{ADS}
-use Rattle.fsb_signal.specs.Samples.{line_at}
 use Rattle.fsb_trace.specs.declared.who.Who.{Who}
 use Rattle.fsb_trace.specs.declared.who.Who.TheVariants.{Priority, Symmetric}
 use Rattle.fsb_trace.specs.At.{Trace, request_at}
 use Rattle.fsb_trace.specs.Flight.{is_outstanding, outstanding}
-use Rattle.fsb_trace.specs.Requests.{is_reply, is_reply_kind, line_of}
+use Rattle.fsb_trace.specs.Requests.{is_reply, line_of}
 use Rattle.fsb_trace.specs.Winner.{symmetric_after, winner_at}
 use Rattle.fsb_laws.proofs.Interface.{ads_before_end, request_at-last}
 use Rattle.fsb_timely.specs.Past.{Claim, Owing, Past}
@@ -25,8 +23,7 @@ use Rattle.fsb_timely.specs.Moments as moments
 use Rattle.fsb_timely.specs.Moments.{claim_at}
 use Rattle.fsb_timely.specs.Runs.{Run, past_of}
 use Rattle.fsb_timely.specs.Timely.{Timely}
-use Rattle.fsb_timely.specs.Wants.{is_asked_for, outstanding_at, owed, want_of}
-use Rattle.fsb_timely.proofs.Interface.{begun-told, want_of-new}
+use Rattle.fsb_timely.specs.Wants.{is_asked_for, owed}
 use Rattle.fsb_lawful.specs.Beginning.{KeepsBounds}
 use Rattle.fsb_lawful.proofs.Interface.{IsListed, any-kept, any-listed, map-some}
 use Rattle.fsb_coherent.specs.Awaits as awaits
@@ -36,7 +33,7 @@ use Rattle.fsb_tied.proofs.PendingLines.{claim-names}
 use Rattle.fsb_run_laws.specs.Reaches.{Reaches}
 use Rattle.fsb_run_laws.specs.RunSteps.{owing_begun}
 use Rattle.fsb_run_laws.proofs.Interface.{owed-told}
-use Rattle.fsb_owners.specs.Shown.{agent_at, asks, is_still_asking, names, purpose_at, purpose_of}
+use Rattle.fsb_owners.specs.Shown.{agent_at, asks, names, purpose_at, purpose_of}
 use Rattle.fsb_owner_laws.proofs.BrokenRules.{named}
 
 -- the agent of a request is the same in both words

@@ -1,15 +1,14 @@
 -- Bytes that are under way to an agent were granted to it, and it awaits the end.
-use Rattle.std.proofs.Common.{ℕ, zero, suc, ◌+◌, ◌<◌, ◌≤◌, ◌≡◌, ◌==◌, Bool, true, false, ◌&&◌, ◌||◌, not, nat_eq, length}
-use Rattle.std.proofs.Common.{List, [], ◌∷◌, ◌++◌, Option, Some, None, refl, sym, ap, subst, ◌∙◌, arith, inl, inr, ◌⊎◌, if◌then◌else◌}
-use Rattle.std.specs.Option.{option_and_then, option_map_or}
-use Rattle.std.proofs.lemmas.Bool.{and_from, and_parts, both_ways, cases_Bool, cases_lt, eq-eqb, eqb-true, false_from_ne_true}
-use Rattle.std.proofs.lemmas.Bool.{not-true, or_parts, or_left, or_right}
+use Rattle.std.proofs.Common.{ℕ, zero, suc, ◌+◌, ◌<◌, ◌≡◌, ◌==◌, Bool, true, false, ◌&&◌, ◌||◌, not, length}
+use Rattle.std.proofs.Common.{List, [], ◌∷◌, ◌++◌, Some, None, refl, sym, ap, subst, ◌∙◌, arith, inl, inr, ◌⊎◌, if◌then◌else◌}
+use Rattle.std.specs.Option.{option_and_then}
+use Rattle.std.proofs.lemmas.Bool.{and_from, and_parts, both_ways, cases_lt, eq-eqb, false_from_ne_true}
+use Rattle.std.proofs.lemmas.Bool.{not-true, or_left, or_right}
 use Rattle.fsb_count.specs.Options.{is_at, is_before, is_some_and}
-use Rattle.fsb_count.proofs.Interface.{any_where-at, any_where-found, is_at-some, is_before-from, is_before-parts}
+use Rattle.fsb_count.proofs.Interface.{any_where-found, is_at-some, is_before-from, is_before-parts}
 use Rattle.fsb_encode.specs.declared.request.Kind.{Kind}
 use Rattle.fsb_encode.specs.declared.request.Request.{Request}
 use Rattle.fsb_hazard.specs.declared.choice.Turn.{Turn}
-use Rattle.fsb_hazard.specs.declared.choice.Turn.TheVariants.{Defer, Keep, Retry}
 use Rattle.fsb_line.specs.declared.link.Link.{Link}
 use Rattle.fsb_line.specs.declared.purpose.Purpose.{Purpose}
 use Rattle.fsb_line.specs.Links.{is_linked}
@@ -17,14 +16,12 @@ use Rattle.fsb_line.specs.States.{gets_line}
 use Rattle.fsb_signal.specs.declared.lines.Lines.{Lines}
 use Rattle.fsb_signal.specs.declared.lines.TheConstants.Lines.{DEFER, HITM}
 use Rattle.fsb_signal.specs.Samples.{line_at}
-use Rattle.fsb_trace.specs.declared.outcome.Outcome.{Outcome}
-use Rattle.fsb_trace.specs.declared.outcome.Outcome.TheVariants as outcomes
 use Rattle.fsb_trace.specs.At.{Trace, request_at}
 use Rattle.fsb_trace.specs.Outcome.{outcome_by_kind}
 use Rattle.fsb_trace.specs.Requests.{is_reply, is_write_back, is_write_back_kind, live_clock_of, live_count, live_request_of}
 use Rattle.fsb_trace.specs.Response.{end_of}
 use Rattle.fsb_trace.specs.Snoop.{line_at_snoop_end, snoop_end_of}
-use Rattle.fsb_timely.specs.Past.{Claim, Grant, Past, SnoopEnd}
+use Rattle.fsb_timely.specs.Past.{Grant, Past, SnoopEnd}
 use Rattle.fsb_timely.specs.Grants.{grant_at, is_end_at, is_ended, is_granted, snooped_at}
 use Rattle.fsb_timely.specs.Moments.{is_got, is_upgraded, makes_grant}
 use Rattle.fsb_timely.specs.Runs.{Run, past_of, run_to}
@@ -36,20 +33,19 @@ use Rattle.fsb_coherent.specs.Awaits as awaits
 use Rattle.fsb_coherent.specs.Awaits.{Awaited, awaited_by, awaited_by_grant}
 use Rattle.fsb_coherent.specs.Relation.{chain_below, links_left}
 use Rattle.fsb_coherent.specs.Settled.{outcome_by_turn, outcome_under}
-use Rattle.fsb_tied.proofs.Interface.{Ends, IsSnooped, at-there, awaits-grant, ended-number, link_of, links_at}
+use Rattle.fsb_tied.proofs.Interface.{IsSnooped, at-there, awaits-grant, ended-number, link_of, links_at}
 use Rattle.fsb_tied.proofs.Interface.{outcome-shown}
 use Rattle.fsb_tied.proofs.SnoopTold.{line-whole}
 use Rattle.fsb_tied.proofs.WholeOrder.{one-begins}
 use Rattle.fsb_run_laws.specs.Reaches.{Reaches}
-use Rattle.fsb_owners.specs.Shown.{agent_at, asks, brings_bytes, is_coming, is_coming_by, is_for_line, is_turned, names}
+use Rattle.fsb_owners.specs.Shown.{agent_at, asks, brings_bytes, is_coming, is_coming_by, is_turned, names}
 use Rattle.fsb_owners.specs.Shown.{origin_clock_of, purpose_at}
 use Rattle.fsb_trace.proofs.Interface.{snoop_end_of-stays}
 use Rattle.fsb_owner_laws.proofs.AgreeEnders.{ender_from, for_line-from, origin_parts, snooped_from}
 use Rattle.fsb_owner_laws.proofs.AgreeWords as words
-use Rattle.fsb_owner_laws.proofs.AskedOnce.{IsAsker}
-use Rattle.fsb_owner_laws.proofs.Emptied.{Ender, agent_four, ender, ender_four}
+use Rattle.fsb_owner_laws.proofs.Emptied.{Ender, ender, ender_four}
 use Rattle.fsb_owner_run.proofs.Begun.{purpose-there}
-use Rattle.fsb_owner_run.proofs.Replied.{IsRepliedEnd, replied-end}
+use Rattle.fsb_owner_run.proofs.Replied.{replied-end}
 use Rattle.fsb_owner_run.proofs.Snooped.{IsAskedEnd, asked-end, the-asker, the-orderly}
 
 -- DEFER# is at a snoop end exactly where its turn is not to be kept

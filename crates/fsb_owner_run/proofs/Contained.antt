@@ -1,16 +1,14 @@
 -- The joint state of a line in a timely run is, clock by clock, one of those that the wires leave.
-use Rattle.std.proofs.Common.{ℕ, zero, suc, ◌+◌, ◌<◌, ◌≤◌, ◌≡◌, Bool, true, false, ◌&&◌, ◌||◌, not, nat_eq, length}
-use Rattle.std.proofs.Common.{List, [], ◌∷◌, Option, Some, None, refl, sym, ap, subst, ◌∙◌, add-one, arith, inl, inr, ◌⊎◌, if◌then◌else◌}
+use Rattle.std.proofs.Common.{ℕ, zero, suc, ◌+◌, ◌≡◌, Bool, true, false, ◌&&◌, not, nat_eq}
+use Rattle.std.proofs.Common.{List, [], ◌∷◌, Option, Some, None, refl, sym, ap, subst, ◌∙◌, add-one, arith, inl, inr}
 use Rattle.std.specs.List.{Contains}
 use Rattle.std.specs.Option.{option_and_then}
-use Rattle.std.proofs.lemmas.Bool.{and_from, and_parts, both_ways, cases_Bool, eqb-true, false_from_ne_true, ne_eqb}
+use Rattle.std.proofs.lemmas.Bool.{eqb-true, false_from_ne_true}
 use Rattle.fsb_count.specs.Options.{is_some_and}
 use Rattle.fsb_line.specs.declared.purpose.Settled.TheVariants.{Replied}
 use Rattle.fsb_line.specs.declared.state.Mesi.{Mesi}
 use Rattle.fsb_signal.specs.declared.lines.TheConstants.Lines.{HIT, HITM}
 use Rattle.fsb_signal.specs.Samples.{line_at}
-use Rattle.fsb_encode.specs.declared.request.Request.{Request}
-use Rattle.fsb_trace.specs.At.{Trace, request_at}
 use Rattle.fsb_trace.specs.Requests.{is_reply, is_reply_kind, live_clock_of, live_request_of}
 use Rattle.fsb_timely.specs.Past.{Claim, Grant, Past, SnoopEnd}
 use Rattle.fsb_timely.specs.Grants.{grant_at, is_claim_of, is_claim_of_other, is_granted, is_named_by_other, is_snooped}
@@ -18,19 +16,18 @@ use Rattle.fsb_timely.specs.Grants.{is_taken_away, is_written_back, snooped_at}
 use Rattle.fsb_timely.specs.Hits.{line_state_of}
 use Rattle.fsb_timely.specs.Runs.{Run, past_of}
 use Rattle.fsb_timely.proofs.Interface.{tied-snoop}
-use Rattle.fsb_tied.proofs.Interface.{IsSnooped, claimed-at, clock-facts, live-request, reply-end-at, snooped-by}
+use Rattle.fsb_tied.proofs.Interface.{claimed-at, clock-facts, live-request, reply-end-at, snooped-by}
 use Rattle.fsb_tied.proofs.ReplyEnds.{IsReplyEnd}
 use Rattle.fsb_run_laws.specs.Reaches.{Reaches}
-use Rattle.fsb_owners.specs.Joint.{Joint, every_joint, is_after_snoop_end, reached_by, unheld}
-use Rattle.fsb_owners.specs.Possible.{after_answer, after_begin, after_clock, after_snoop_end, after_unseen, left_by, made_by}
-use Rattle.fsb_owners.specs.Possible.{possible, possible_begun, possible_shown, replied_to, settled_at_end}
-use Rattle.fsb_owners.specs.Shown.{agent_at, is_for_line, is_turned, names, origin_clock_of, origin_of, purpose_at}
-use Rattle.fsb_owner_laws.proofs.AgreeEnders.{ender_from, for_line-from, snooped_found, snooped_from}
-use Rattle.fsb_owner_laws.proofs.AskedOnce.{IsAsker}
+use Rattle.fsb_owners.specs.Joint.{Joint, every_joint, is_after_snoop_end, unheld}
+use Rattle.fsb_owners.specs.Possible.{after_answer, after_begin, after_clock, after_snoop_end, made_by}
+use Rattle.fsb_owners.specs.Possible.{possible, possible_begun, possible_shown, replied_to}
+use Rattle.fsb_owners.specs.Shown.{is_turned, names, origin_clock_of, origin_of}
+use Rattle.fsb_owner_laws.proofs.AgreeEnders.{ender_from, for_line-from, snooped_from}
 use Rattle.fsb_owner_laws.proofs.Emptied.{Ender, at_ender, ender, ender_four, step_by}
 use Rattle.fsb_owner_run.proofs.Begun.{begin-leaves, purpose-there}
 use Rattle.fsb_owner_run.proofs.Claims.{begun-shows}
-use Rattle.fsb_owner_run.proofs.Moves.{May, Ready, hits-moved}
+use Rattle.fsb_owner_run.proofs.Moves.{hits-moved}
 use Rattle.fsb_owner_run.proofs.Replied.{IsRepliedEnd, replied-end, replied-fits, reply-origin}
 use Rattle.fsb_owner_run.proofs.Sets.{joint_of, reached_in, reply_turns, request_turns, turn_step, turned}
 use Rattle.fsb_owner_run.proofs.Snooped.{IsAskedEnd, answer-leaves, asked-end, asked-fits, the-asker}

@@ -1,6 +1,6 @@
 -- A timely run that is cut at a clock is a timely run.
 use Rattle.std.proofs.Common.{ℕ, zero, suc, ◌+◌, ◌<◌, ◌≤◌, ◌≡◌, Bool, true, ◌&&◌, nat_le, nat_lt, List, [], ◌∷◌}
-use Rattle.std.proofs.Common.{length, take, refl, sym, ap, subst, ◌∙◌, arith, inl, inr}
+use Rattle.std.proofs.Common.{length, take, refl, sym, subst, ◌∙◌, arith, inl, inr}
 use Rattle.std.specs.List.{list_all}
 use Rattle.std.proofs.lemmas.Bool.{and_from, and_parts, cases_lt, le-leb, leb-true, lt-leb, lt-ltb}
 use Rattle.fsb_access.specs.declared.log.Done.{Done}

@@ -1,8 +1,8 @@
 -- Rule 22: an owner writes a line back, and in its turn.
-use Rattle.std.proofs.Common.{ℕ, ◌+◌, ◌-◌, ◌<◌, ◌≤◌, ◌≡◌, Bool, true, false, ◌&&◌, ◌||◌, not, nat_eq, nat_lt, length, List, Option, Some, None}
-use Rattle.std.proofs.Common.{refl, sym, ap, subst, ◌∙◌, arith, inl, inr}
-use Rattle.std.proofs.lemmas.Bool.{and_from, and_parts, both_ways, cases_Bool, eq-eqb, eqb-true, false_from_ne_true, lt-ltb, ltb-true}
-use Rattle.std.proofs.lemmas.Bool.{not-true, or_parts}
+use Rattle.std.proofs.Common.{ℕ, ◌+◌, ◌<◌, ◌≡◌, Bool, true, false, ◌&&◌, ◌||◌, not, Option, Some, None}
+use Rattle.std.proofs.Common.{refl, ap, subst, ◌∙◌, arith}
+use Rattle.std.proofs.lemmas.Bool.{and_from, and_parts, both_ways, eqb-true, false_from_ne_true, lt-ltb}
+use Rattle.std.proofs.lemmas.Bool.{not-true}
 use Rattle.fsb_count.specs.Clocks.{any_where}
 use Rattle.fsb_count.specs.Options.{is_at, is_before, is_some_and}
 use Rattle.fsb_count.proofs.Interface.{any_where-at, any_where-found, is_at-from, is_at-some, is_before-from}
@@ -10,8 +10,7 @@ use Rattle.fsb_lawful.proofs.Interface.{some-and}
 use Rattle.fsb_line.specs.declared.purpose.Purpose.{Purpose}
 use Rattle.fsb_line.specs.declared.purpose.Purpose.TheVariants.{Own, Read, Upgrade, WriteBack}
 use Rattle.fsb_line.specs.Line.{OpenRequest}
-use Rattle.fsb_line.specs.States.{asks_line}
-use Rattle.fsb_signal.specs.declared.lines.TheConstants.Lines.{ADS, AERR}
+use Rattle.fsb_signal.specs.declared.lines.TheConstants.Lines.{AERR}
 use Rattle.fsb_signal.specs.Samples.{line_at}
 use Rattle.fsb_trace.specs.declared.who.Who.{Who}
 use Rattle.fsb_trace.specs.declared.who.Who.TheVariants.{Priority, Symmetric}
@@ -21,7 +20,7 @@ use Rattle.fsb_trace.specs.Requests.{is_cancelled, line_of, live_clock_of, live_
 use Rattle.fsb_trace.specs.Snoop.{snoop_end_of}
 use Rattle.fsb_trace.specs.Winner.{symmetric_after, winner_at}
 use Rattle.fsb_trace.proofs.Interface.{live_below_count}
-use Rattle.fsb_timely.specs.Past.{Claim, Past, SnoopEnd}
+use Rattle.fsb_timely.specs.Past.{Claim}
 use Rattle.fsb_timely.specs.Grants.{snooped_at}
 use Rattle.fsb_timely.specs.Moments.{is_snoop_of}
 use Rattle.fsb_timely.specs.Runs.{Run, past_of}
@@ -34,7 +33,7 @@ use Rattle.fsb_run_laws.specs.Reaches.{Reaches}
 use Rattle.fsb_owners.specs.Rules.{is_begun_unfit, is_write_back_purpose, is_write_back_unfit}
 use Rattle.fsb_owners.specs.Shown.{agent_at, is_held_back, is_open_at, names, purpose_at}
 use Rattle.fsb_owner_laws.proofs.BrokenRules.{named}
-use Rattle.fsb_owner_run.proofs.Begun.{IsAsked, asked-as}
+use Rattle.fsb_owner_run.proofs.Begun.{asked-as}
 use Rattle.fsb_owner_run.proofs.Claims.{shown-begun}
 use Rattle.fsb_owner_run.proofs.Unbroken.{Empty, begun-fit, no-decoding}
 

@@ -15,3 +15,4 @@ pub mod Unbroken
 pub mod HeldBack
 pub mod Answered
 pub mod Verdict
+pub mod Coherent

@@ -1,14 +1,14 @@
 -- From the snoop end of a clock to the next clock, agent by agent: nothing happens that an agent may not do unseen.
-use Rattle.std.proofs.Common.{ℕ, zero, suc, ◌+◌, ◌<◌, ◌≤◌, ◌≡◌, ◌≢◌, Bool, true, false, ◌&&◌, ◌||◌, not, nat_eq, length}
-use Rattle.std.proofs.Common.{List, [], ◌∷◌, Option, Some, None, refl, sym, ap, subst, ◌∙◌, arith, inl, inr, ◌⊎◌, if◌then◌else◌}
-use Rattle.std.proofs.lemmas.Bool.{and_from, and_parts, both_ways, cases_Bool, cases_lt, eqb-true, false_from_ne_true}
+use Rattle.std.proofs.Common.{ℕ, ◌+◌, ◌≡◌, Bool, true, false, ◌&&◌, ◌||◌, not, nat_eq}
+use Rattle.std.proofs.Common.{List, [], ◌∷◌, Option, Some, None, refl, sym, ap, subst, ◌∙◌, arith, inl, inr, if◌then◌else◌}
+use Rattle.std.proofs.lemmas.Bool.{and_parts, both_ways, cases_Bool, eqb-true, false_from_ne_true}
 use Rattle.std.specs.List.{list_any}
 use Rattle.fsb_count.specs.Options.{is_at, is_some_and}
 use Rattle.fsb_count.proofs.Interface.{any_where-found, is_at-some}
 use Rattle.fsb_line.specs.declared.state.Mesi.{Mesi}
 use Rattle.fsb_line.specs.declared.state.Mesi.TheVariants.{Exclusive, Invalid, Modified, Shared}
 use Rattle.fsb_line.specs.Links.{is_linked}
-use Rattle.fsb_line.specs.States.{is_held, is_modified}
+use Rattle.fsb_line.specs.States.{is_modified}
 use Rattle.fsb_access.specs.declared.log.Done.{Done}
 use Rattle.fsb_trace.specs.At.{Trace, request_at}
 use Rattle.fsb_trace.specs.Flight.{is_outstanding}
@@ -29,9 +29,9 @@ use Rattle.fsb_run_laws.proofs.Interface.{state-by-stores}
 use Rattle.fsb_run_laws.proofs.LineStates.{state-by-hits}
 use Rattle.fsb_owners.specs.Shown.{asks, is_coming, is_upgrading, may_drop_at, names, agent_at}
 use Rattle.fsb_owner_run.proofs.Claims.{shown-begun, shown-owed}
-use Rattle.fsb_owner_run.proofs.Coming.{coming-linked, coming-next, coming-parts, not-coming}
+use Rattle.fsb_owner_run.proofs.Coming.{coming-next, not-coming}
 use Rattle.fsb_owner_run.proofs.States.{state-modified}
-use Rattle.fsb_owner_run.proofs.Unseen.{is_moved, moved-drop, moved-on, moved-same, moved-store}
+use Rattle.fsb_owner_run.proofs.Unseen.{is_moved, moved-on, moved-same, moved-store}
 
 -- an agent that stores has the line ready
 stored-ready : (p : Past) (a line n : ℕ) → stores_at p a line n ≡ true → is_ready p a line n ≡ true

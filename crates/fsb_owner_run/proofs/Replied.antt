@@ -1,28 +1,25 @@
 -- The snoop end of a reply for a line, as the rules of ownership see it and as the run has it.
-use Rattle.std.proofs.Common.{ℕ, zero, suc, ◌+◌, ◌-◌, ◌<◌, ◌≤◌, ◌≡◌, ◌≢◌, Bool, true, false, ◌&&◌, ◌||◌, not, nat_eq, length}
-use Rattle.std.proofs.Common.{List, [], ◌∷◌, Option, Some, None, refl, sym, ap, subst, ◌∙◌, arith, inl, inr, if◌then◌else◌}
-use Rattle.std.specs.List.{Contains, list_any}
-use Rattle.std.specs.Option.{option_and_then, option_map}
+use Rattle.std.proofs.Common.{ℕ, ◌+◌, ◌<◌, ◌≡◌, ◌≢◌, Bool, true, false, ◌&&◌, ◌||◌, not, nat_eq}
+use Rattle.std.proofs.Common.{[], Option, Some, None, refl, sym, ap, subst, ◌∙◌, arith, inl, inr}
+use Rattle.std.specs.Option.{option_map}
 use Rattle.std.proofs.lemmas.Bool.{and_from, and_parts, both_ways, cases_Bool, cases_lt, false_from_ne_true, eq-eqb}
-use Rattle.fsb_count.specs.Clocks.{first_where}
 use Rattle.fsb_count.specs.Options.{is_at, is_some_and}
-use Rattle.fsb_count.proofs.Interface.{first_where-at, first_where-found, first_where-none, is_at-from, is_at-some}
+use Rattle.fsb_count.proofs.Interface.{first_where-at, is_at-from, is_at-some}
 use Rattle.fsb_encode.specs.declared.request.Kind.{Kind}
 use Rattle.fsb_encode.specs.declared.request.Request.{Request}
 use Rattle.fsb_line.specs.declared.purpose.Purpose.{Purpose}
 use Rattle.fsb_line.specs.declared.purpose.Purpose.TheVariants.{Own, Read, Upgrade, WriteBack}
-use Rattle.fsb_line.specs.Line.{LineDeferral}
 use Rattle.fsb_line.specs.States.{asks_line, gets_line, is_held, is_sole, kind_owns}
 use Rattle.fsb_signal.specs.declared.lines.TheConstants.Lines.{HIT, HITM}
 use Rattle.fsb_signal.specs.Samples.{line_at}
 use Rattle.fsb_trace.specs.At.{Trace, request_at}
 use Rattle.fsb_trace.specs.Flight.{reply_clock_of, reply_number_of}
-use Rattle.fsb_trace.specs.Outcome.{is_deferral, is_deferred, outcome_of, response_clock_of}
+use Rattle.fsb_trace.specs.Outcome.{is_deferral, is_deferred, response_clock_of}
 use Rattle.fsb_trace.specs.Requests.{is_reply, is_reply_kind, line_of, live_clock_of, live_count, live_number_of, live_request_of}
 use Rattle.fsb_trace.specs.Snoop.{snoop_end_of}
 use Rattle.fsb_trace.proofs.Interface.{AgreeTo-sym, is_deferred-stays, live_below_count, response_clock_of-stays}
 use Rattle.fsb_trace.proofs.Interface.{snoop_end_of-stays}
-use Rattle.fsb_timely.specs.Past.{Claim, Grant, Past, SnoopEnd}
+use Rattle.fsb_timely.specs.Past.{Claim, Grant, SnoopEnd}
 use Rattle.fsb_timely.specs.Grants.{holds_line, is_exclusive, is_owning, snooped_at}
 use Rattle.fsb_timely.specs.Hits.{line_state_of}
 use Rattle.fsb_timely.specs.Moments.{claim_at, grant_to, is_owner_request, is_shared_at}
@@ -31,9 +28,8 @@ use Rattle.fsb_timely.specs.Timely.{Timely}
 use Rattle.fsb_timely.proofs.Interface.{snoop-tied}
 use Rattle.fsb_lawful.proofs.Interface.{run_to-agrees, told-as-settled, turned-at, wants-lawfully}
 use Rattle.fsb_coherent.specs.Awaits as awaits
-use Rattle.fsb_coherent.specs.Facts.{IsRepliedOn}
 use Rattle.fsb_tied.proofs.Ended.{response-within}
-use Rattle.fsb_tied.proofs.Interface.{IsPutOff, IsSnooped, clock-facts, events-may-happen, has-reply, reply-end-at}
+use Rattle.fsb_tied.proofs.Interface.{IsPutOff, IsSnooped, clock-facts, events-may-happen, has-reply}
 use Rattle.fsb_tied.proofs.Interface.{reply-grants, snooped-by, told-again}
 use Rattle.fsb_hazard.specs.Choice.{is_never_held_up}
 use Rattle.fsb_tied.proofs.Interface.{asked-at, deferred-held}
@@ -41,14 +37,13 @@ use Rattle.fsb_tied.proofs.OneReply.{two-replies}
 use Rattle.fsb_tied.proofs.ReplyEnds.{IsReplyEnd}
 use Rattle.fsb_tied.proofs.SnoopClaims.{kind-shown}
 use Rattle.fsb_run_laws.specs.Reaches.{Reaches}
-use Rattle.fsb_owners.specs.Joint.{Joint, agents, has_other_holder, state_at}
-use Rattle.fsb_owners.specs.Shown.{agent_at, is_for_line, is_reply_of, names, origin_clock_of, origin_of, purpose_at}
+use Rattle.fsb_owners.specs.Joint.{has_other_holder, state_at}
+use Rattle.fsb_owners.specs.Shown.{agent_at, is_reply_of, names, origin_of}
 use Rattle.fsb_owner_laws.specs.Losses.{fits_reply, has_other_sole}
-use Rattle.fsb_owner_laws.proofs.AgreeEnders.{ender_from, for_line-from, snooped_from}
 use Rattle.fsb_owner_laws.proofs.AgreeWords as words
 use Rattle.fsb_owner_laws.proofs.AskedOnce.{IsAsker, IsReplied}
-use Rattle.fsb_owner_laws.proofs.BrokenRules.{IsEnder, named}
-use Rattle.fsb_owner_laws.proofs.Emptied.{Ender, ender}
+use Rattle.fsb_owner_laws.proofs.BrokenRules.{named}
+use Rattle.fsb_owner_laws.proofs.Emptied.{Ender}
 use Rattle.fsb_owner_run.proofs.Claims.{asks-purpose, claim-of}
 use Rattle.fsb_owner_run.proofs.Sets.{at_agent}
 use Rattle.fsb_owner_run.proofs.Snooped.{none-of-four, the-orderly}

@@ -2,14 +2,13 @@
 use Rattle.std.proofs.Common.{ℕ, zero, suc, ◌<◌, ◌≡◌, Bool, true, false, ◌&&◌, ◌||◌, not, nat_eq, List, [], ◌∷◌, Option, Some, None}
 use Rattle.std.proofs.Common.{refl, sym, ap, subst, ◌∙◌, arith, map, if◌then◌else◌}
 use Rattle.std.specs.List.{Contains, filter, list_any}
-use Rattle.std.proofs.lemmas.Bool.{both_ways}
 use Rattle.fsb_line.specs.declared.purpose.Purpose.{Purpose}
 use Rattle.fsb_line.specs.declared.purpose.Settled.{Settled}
 use Rattle.fsb_line.specs.declared.purpose.Settled.TheVariants.{Replied}
 use Rattle.fsb_line.specs.declared.state.Mesi.{Mesi}
 use Rattle.fsb_line.specs.States.{state_after}
 use Rattle.fsb_owners.specs.Joint.{Joint, agents, every_joint, is_after_snoop_end, is_same_joint, reached_by, state_at}
-use Rattle.fsb_owners.specs.Possible.{asking, may_ask, replied_to, settled_at_end, showing}
+use Rattle.fsb_owners.specs.Possible.{asking, may_ask, replied_to, settled_at_end}
 use Rattle.fsb_owners.specs.Rules.{is_none_left}
 use Rattle.fsb_owner_laws.specs.Losses.{AreCoherent, fits_reply}
 use Rattle.fsb_owner_laws.proofs.Losses.{any_filter, lands, none_reached}

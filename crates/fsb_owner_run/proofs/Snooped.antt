@@ -1,14 +1,9 @@
 -- The snoop end of a request for a line, as the rules of ownership see it and as the run has it.
-use Rattle.std.proofs.Common.{ℕ, zero, suc, ◌+◌, ◌<◌, ◌≤◌, ◌≡◌, Bool, true, false, ◌&&◌, ◌||◌, not, nat_eq, length}
-use Rattle.std.proofs.Common.{List, [], ◌∷◌, Option, Some, None, refl, sym, ap, subst, ◌∙◌, arith, inl, inr, if◌then◌else◌}
+use Rattle.std.proofs.Common.{ℕ, ◌+◌, ◌<◌, ◌≡◌, Bool, true, false, ◌&&◌, ◌||◌, not, nat_eq}
+use Rattle.std.proofs.Common.{List, [], Option, Some, None, refl, sym, ap, subst, ◌∙◌, arith, inl, inr, if◌then◌else◌}
 use Rattle.std.specs.List.{Contains, list_any}
-use Rattle.std.specs.Option.{option_and_then, option_map}
-use Rattle.std.proofs.lemmas.Bool.{and_from, and_parts, both_ways, cases_lt, false_from_ne_true}
-use Rattle.fsb_count.specs.Clocks.{any_where, first_where}
-use Rattle.fsb_count.specs.Options.{is_at, is_some_and}
-use Rattle.fsb_count.proofs.Interface.{first_where-at, first_where-found, is_at-from, is_at-some}
-use Rattle.fsb_encode.specs.declared.request.Kind.{Kind}
-use Rattle.fsb_encode.specs.declared.request.Request.{Request}
+use Rattle.std.proofs.lemmas.Bool.{and_parts, both_ways}
+use Rattle.fsb_count.specs.Clocks.{any_where}
 use Rattle.fsb_line.specs.declared.purpose.Purpose.{Purpose}
 use Rattle.fsb_line.specs.declared.purpose.Purpose.TheVariants.{Own, Read, Upgrade, WriteBack}
 use Rattle.fsb_line.specs.Line.{OpenRequest}
@@ -17,24 +12,20 @@ use Rattle.fsb_line.specs.declared.state.Mesi.{Mesi}
 use Rattle.fsb_line.specs.declared.state.Mesi.TheVariants.{Modified}
 use Rattle.fsb_signal.specs.declared.lines.TheConstants.Lines.{HIT, HITM}
 use Rattle.fsb_signal.specs.Samples.{line_at}
-use Rattle.fsb_trace.specs.At.{Trace, request_at}
-use Rattle.fsb_trace.specs.Requests.{is_reply, line_of, live_clock_of, live_count, live_request_of}
-use Rattle.fsb_trace.specs.Snoop.{snoop_end_of}
+use Rattle.fsb_trace.specs.Requests.{is_reply, line_of, live_clock_of, live_request_of}
 use Rattle.fsb_laws.specs.Orderly.{Orderly}
 use Rattle.fsb_timely.specs.Past.{Claim, Past, SnoopEnd}
-use Rattle.fsb_timely.specs.Grants.{holds_line, is_exclusive, snooped_at}
+use Rattle.fsb_timely.specs.Grants.{holds_line, is_exclusive}
 use Rattle.fsb_timely.specs.Hits.{is_dirty, is_hit, line_state_of}
-use Rattle.fsb_timely.specs.Moments.{claim_at}
 use Rattle.fsb_timely.specs.Runs.{Run, past_of, past_to}
 use Rattle.fsb_timely.specs.Snoops.{is_dirty_elsewhere, is_held_elsewhere}
-use Rattle.fsb_timely.specs.Tied.{IsSnoopOf}
-use Rattle.fsb_timely.proofs.Interface.{snoop-tied, tied-snoop}
+use Rattle.fsb_timely.proofs.Interface.{snoop-tied}
 use Rattle.fsb_coherent.specs.Awaits as awaits
 use Rattle.fsb_coherent.specs.Facts.{IsSettledOn}
 use Rattle.fsb_coherent.specs.Relation.{is_dirty_below}
 use Rattle.fsb_tied.proofs.Interface.{IsSnooped, claimed-at, clock-facts, events-may-happen, orderly-whole, snooped-by}
 use Rattle.fsb_tied.proofs.SnoopClaims.{IsClaimed}
-use Rattle.fsb_tied.proofs.SnoopTold.{IsTold, dirty-whole, held-whole}
+use Rattle.fsb_tied.proofs.SnoopTold.{dirty-whole, held-whole}
 use Rattle.fsb_trace.specs.declared.outcome.Outcome.{Outcome}
 use Rattle.fsb_trace.specs.declared.outcome.Outcome.TheVariants.{Granted, Handed}
 use Rattle.fsb_tied.proofs.SnoopOutcomes.{told-of, unhanded-told}
@@ -42,16 +33,15 @@ use Rattle.fsb_run_laws.specs.Reaches.{Reaches}
 use Rattle.fsb_run_laws.specs.RunStates.{state_below, state_of_tests, state_stored, state_through, stores_at}
 use Rattle.fsb_run_laws.proofs.Interface.{state-by-stores}
 use Rattle.fsb_run_laws.proofs.LineStates.{state-by-hits}
-use Rattle.fsb_owners.specs.Joint.{Joint, agents, every_joint, has_other_holder, has_other_owner, state_at}
+use Rattle.fsb_owners.specs.Joint.{Joint, agents, has_other_holder, has_other_owner, state_at}
 use Rattle.fsb_owners.specs.Possible.{after_answer, fits_answer, left_by, showing}
-use Rattle.fsb_owners.specs.Shown.{agent_at, is_for_line, names, origin_clock_of, origin_of, purpose_at}
-use Rattle.fsb_owner_laws.proofs.AgreeEnders.{ender_from, for_line-from, snooped_from}
+use Rattle.fsb_owners.specs.Shown.{agent_at, purpose_at}
 use Rattle.fsb_owner_laws.proofs.AskedOnce.{IsAsker, IsPlain, asker}
-use Rattle.fsb_owner_laws.proofs.BrokenRules.{IsEnder, ender_parts, named}
+use Rattle.fsb_owner_laws.proofs.BrokenRules.{ender_parts, named}
 use Rattle.fsb_owner_laws.proofs.Emptied.{Ender, at_ender, ender, ender_four, step_by}
 use Rattle.fsb_owner_laws.proofs.StepLosses.{fits_end, showing_fits}
-use Rattle.fsb_owner_run.proofs.Claims.{asks-purpose, begun-shows, claim-of, same-purpose}
-use Rattle.fsb_owner_run.proofs.Sets.{at_agent, if_in, joint_of, kept_in}
+use Rattle.fsb_owner_run.proofs.Claims.{asks-purpose, claim-of}
+use Rattle.fsb_owner_run.proofs.Sets.{at_agent, if_in, kept_in}
 use Rattle.fsb_owner_run.proofs.States.{exclusive-held, joint_at, run-coherent, state-held, state-modified}
 
 pub the-orderly : (r : Run) (n : ℕ) → Reaches r (n + 1) → Orderly r.trace

@@ -1,8 +1,8 @@
 -- The joint state of a line in a run: the state at each agent, at the sample of a clock.
-use Rattle.std.proofs.Common.{ℕ, zero, suc, ◌+◌, ◌<◌, ◌≤◌, ◌≡◌, Bool, true, false, ◌&&◌, ◌||◌, not, nat_eq}
-use Rattle.std.proofs.Common.{List, [], ◌∷◌, length, refl, sym, ap, subst, ◌∙◌, arith, map, inl, inr, if◌then◌else◌}
-use Rattle.std.specs.List.{Contains, list_all, list_any}
-use Rattle.std.proofs.lemmas.Bool.{and_from, and_parts, both_ways, cases_Bool, cases_eq, false_from_ne_true}
+use Rattle.std.proofs.Common.{ℕ, ◌≤◌, ◌≡◌, Bool, true, false, ◌&&◌, ◌||◌, not}
+use Rattle.std.proofs.Common.{[], ◌∷◌, length, refl, sym, subst, ◌∙◌, arith}
+use Rattle.std.specs.List.{Contains, list_any}
+use Rattle.std.proofs.lemmas.Bool.{and_from, and_parts, false_from_ne_true}
 use Rattle.fsb_count.specs.Clocks.{all_where}
 use Rattle.fsb_line.specs.declared.state.Mesi.{Mesi}
 use Rattle.fsb_line.specs.declared.state.Mesi.TheVariants.{Exclusive, Invalid, Modified, Shared}
@@ -15,7 +15,7 @@ use Rattle.fsb_timely.specs.Timely.{Timely}
 use Rattle.fsb_timely.proofs.Interface.{holds_line-says}
 use Rattle.fsb_lawful.specs.Beginning.{KeepsBounds}
 use Rattle.fsb_tied.proofs.Interface.{alone-in-run, dirty-held}
-use Rattle.fsb_owners.specs.Joint.{Joint, agents, alone, every_joint, is_same_joint, is_same_state, sharing, unheld}
+use Rattle.fsb_owners.specs.Joint.{Joint, alone, every_joint, is_same_joint, is_same_state, sharing, unheld}
 use Rattle.fsb_owner_laws.proofs.Quiet.{any_found, same_joints}
 use Rattle.fsb_owner_run.proofs.Sets.{joint_of}
 

@@ -1,11 +1,9 @@
 -- What a snoop end makes of the state at each agent: as the rules of ownership say it, and as the run has it.
-use Rattle.std.proofs.Common.{ℕ, zero, suc, ◌+◌, ◌<◌, ◌≤◌, ◌≡◌, ◌≢◌, Bool, true, false, ◌&&◌, ◌||◌, not, nat_eq, length}
-use Rattle.std.proofs.Common.{cond, List, [], ◌∷◌, Option, Some, None, refl, sym, ap, subst, ◌∙◌, arith, inl, inr, ◌⊎◌, if◌then◌else◌}
-use Rattle.std.proofs.lemmas.Bool.{and_from, and_parts, both_ways, cases_Bool, cases_eq, eq-eqb, eqb-true, false_from_ne_true, or_right}
-use Rattle.std.specs.List.{Contains}
+use Rattle.std.proofs.Common.{ℕ, ◌+◌, ◌≡◌, Bool, true, false, ◌&&◌, ◌||◌, not, nat_eq}
+use Rattle.std.proofs.Common.{cond, Option, Some, None, refl, sym, ap, subst, ◌∙◌, arith, inl, inr, if◌then◌else◌}
+use Rattle.std.proofs.lemmas.Bool.{and_from, cases_Bool, cases_eq, eq-eqb, eqb-true, false_from_ne_true, or_right}
 use Rattle.fsb_count.specs.Options.{is_some_and}
 use Rattle.fsb_encode.specs.declared.request.Kind.{Kind}
-use Rattle.fsb_encode.specs.declared.request.Kind.TheVariants as kinds
 use Rattle.fsb_encode.specs.declared.request.Request.{Request}
 use Rattle.fsb_hazard.specs.declared.choice.Turn.{Turn}
 use Rattle.fsb_line.specs.declared.purpose.Purpose.{Purpose}
@@ -17,15 +15,13 @@ use Rattle.fsb_line.specs.declared.state.Mesi.TheVariants.{Exclusive, Invalid, M
 use Rattle.fsb_line.specs.States.{after_other, asks_line, after_own, after_snoop, is_held, is_modified, kind_owns, state_after}
 use Rattle.fsb_signal.specs.declared.lines.TheConstants.Lines.{HIT, HITM}
 use Rattle.fsb_signal.specs.Samples.{line_at}
-use Rattle.fsb_trace.specs.declared.outcome.Outcome.{Outcome}
 use Rattle.fsb_trace.specs.declared.outcome.Outcome.TheVariants as outcomes
-use Rattle.fsb_trace.specs.At.{Trace}
 use Rattle.fsb_trace.specs.Outcome.{outcome_by_kind}
-use Rattle.fsb_trace.specs.Requests.{is_reply, is_write_back_kind, live_request_of}
-use Rattle.fsb_timely.specs.Past.{Claim, Grant, Past, SnoopEnd}
+use Rattle.fsb_trace.specs.Requests.{is_write_back_kind}
+use Rattle.fsb_timely.specs.Past.{Grant, Past, SnoopEnd}
 use Rattle.fsb_timely.specs.Grants.{grant_at, holds_line, is_claim_of, is_claim_of_other, is_evicted, is_exclusive, is_granted}
 use Rattle.fsb_timely.specs.Grants.{is_lost, is_named_by_other, is_owning, is_snooped, is_taken_away, is_written_back, snooped_at}
-use Rattle.fsb_timely.specs.Hits.{is_dirty, line_state_of}
+use Rattle.fsb_timely.specs.Hits.{line_state_of}
 use Rattle.fsb_timely.specs.Moments.{is_got, is_upgraded, makes_grant}
 use Rattle.fsb_timely.specs.Runs.{Run, past_of}
 use Rattle.fsb_timely.specs.Snoops.{is_held_elsewhere, is_keep}

@@ -1,26 +1,21 @@
 -- A timely run breaks none of the rules of ownership.
-use Rattle.std.proofs.Common.{ℕ, zero, suc, ◌+◌, ◌-◌, ◌<◌, ◌≤◌, ◌≡◌, ◌≢◌, Bool, true, false, ◌&&◌, ◌||◌, not, nat_eq, nat_lt, length}
-use Rattle.std.proofs.Common.{List, [], ◌∷◌, Option, Some, None, refl, sym, ap, subst, ◌∙◌, arith, inl, inr, take, if◌then◌else◌}
-use Rattle.std.specs.List.{Contains}
-use Rattle.std.specs.Option.{option_and_then}
-use Rattle.std.proofs.lemmas.Bool.{and_from, and_parts, both_ways, cases_Bool, false_from_ne_true, ltb-true, not-true, or_cases}
-use Rattle.fsb_count.specs.Options.{is_at, is_before, is_some_and}
-use Rattle.fsb_count.proofs.Interface.{any_where-at, any_where-found, any_where-none, is_at-from, is_at-some, is_before-from}
+use Rattle.std.proofs.Common.{ℕ, ◌+◌, ◌-◌, ◌<◌, ◌≡◌, Bool, true, false, ◌&&◌, nat_lt}
+use Rattle.std.proofs.Common.{List, [], ◌∷◌, Some, arith, inl, inr}
+use Rattle.std.proofs.lemmas.Bool.{and_parts, both_ways, false_from_ne_true, ltb-true, or_cases}
+use Rattle.fsb_count.specs.Options.{is_some_and}
 use Rattle.fsb_lawful.proofs.Interface.{some-and}
 use Rattle.fsb_line.specs.declared.purpose.Purpose.{Purpose}
-use Rattle.fsb_line.specs.declared.purpose.Purpose.TheVariants.{WriteBack}
-use Rattle.fsb_line.specs.States.{asks_line, gets_line}
+use Rattle.fsb_line.specs.States.{gets_line}
 use Rattle.fsb_line.specs.Links.{upgrades}
-use Rattle.fsb_trace.specs.At.{Trace}
 use Rattle.fsb_timely.specs.Runs.{Run, past_of}
 use Rattle.fsb_run_laws.specs.Reaches.{Reaches}
 use Rattle.fsb_owners.specs.Joint.{Joint, unheld}
-use Rattle.fsb_owners.specs.Possible.{possible, possible_begun, possible_shown}
+use Rattle.fsb_owners.specs.Possible.{possible_begun, possible_shown}
 use Rattle.fsb_owners.specs.Rules.{at_answer, at_decoding, is_answer_unfit, is_asked_in_vain, is_begun_unfit}
 use Rattle.fsb_owners.specs.Rules.{is_holder_lacking, is_holder_silent, is_none_left, is_owner_lacking, is_owner_silent}
-use Rattle.fsb_owners.specs.Rules.{is_upgrade_unfit, is_write_back_unfit, is_written_when_lost, of_answer, of_request}
-use Rattle.fsb_owners.specs.Shown.{agent_at, names, origin_clock_of, purpose_at, snooped_at}
-use Rattle.fsb_owner_run.proofs.AskedOnce.{IsDecoded, decoding-parts, request-parts}
+use Rattle.fsb_owners.specs.Rules.{is_upgrade_unfit, is_written_when_lost, of_answer, of_request}
+use Rattle.fsb_owners.specs.Shown.{agent_at, names, origin_clock_of, snooped_at}
+use Rattle.fsb_owner_run.proofs.AskedOnce.{decoding-parts, request-parts}
 use Rattle.fsb_owner_run.proofs.Contained.{contained-begun, contained-shown}
 use Rattle.fsb_owner_run.proofs.Sets.{some_left}
 use Rattle.fsb_owner_run.proofs.States.{joint_at}

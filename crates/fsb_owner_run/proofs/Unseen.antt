@@ -1,8 +1,8 @@
 -- What nobody sees, agent by agent: a store into an Exclusive copy that is ready, and the drop of a clean one.
-use Rattle.std.proofs.Common.{ℕ, zero, suc, ◌+◌, ◌<◌, ◌≤◌, ◌≡◌, Bool, true, false, ◌&&◌, ◌||◌, not, nat_eq, List, [], ◌∷◌}
-use Rattle.std.proofs.Common.{refl, sym, ap, subst, ◌∙◌, arith, inl, inr, ◌⊎◌, map, if◌then◌else◌}
+use Rattle.std.proofs.Common.{ℕ, zero, suc, ◌+◌, ◌<◌, ◌≤◌, ◌≡◌, Bool, true, false, ◌&&◌, ◌||◌, not, List}
+use Rattle.std.proofs.Common.{refl, sym, ap, subst, ◌∙◌, arith, inl, inr, ◌⊎◌}
 use Rattle.std.specs.List.{Contains, list_all, list_any}
-use Rattle.std.proofs.lemmas.Bool.{and_from, and_parts, both_ways, cases_Bool, cases_lt}
+use Rattle.std.proofs.lemmas.Bool.{and_from, and_parts, cases_Bool, cases_lt}
 use Rattle.std.proofs.lemmas.List.Elements.{All-contains}
 use Rattle.std.proofs.lemmas.List.Sums.{AllPass-from_list_all}
 use Rattle.fsb_count.specs.Clocks.{all_where, each_where}
@@ -16,8 +16,7 @@ use Rattle.fsb_owners.specs.Joint.{is_same_joint, is_same_state, reached_by, sha
 use Rattle.fsb_owners.specs.Possible.{after_unseen}
 use Rattle.fsb_owners.specs.Shown.{is_coming, may_drop_at}
 use Rattle.fsb_owner_laws.proofs.Members.{below_four}
-use Rattle.fsb_owner_laws.proofs.Quiet.{same_joints}
-use Rattle.fsb_owner_laws.proofs.StepLosses.{drops_stay, same_joint, stores_stay}
+use Rattle.fsb_owner_laws.proofs.StepLosses.{drops_stay, stores_stay}
 use Rattle.fsb_owner_run.proofs.Sets.{at_agent, joint_of, reached_in}
 
 -- the agent has stored into an Exclusive copy that is ready

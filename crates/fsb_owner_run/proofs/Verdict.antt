@@ -1,15 +1,14 @@
 -- No rule of ownership is broken at any clock of a timely run: the verdict on its trace is none.
-use Rattle.std.proofs.Common.{ℕ, zero, suc, ◌+◌, ◌-◌, ◌<◌, ◌≤◌, ◌≡◌, Bool, true, false, ◌&&◌, not, nat_le, nat_lt, is_some, length}
-use Rattle.std.proofs.Common.{List, [], ◌∷◌, Option, Some, None, refl, sym, ap, subst, ◌∙◌, arith, inl, inr, slice_get, take}
+use Rattle.std.proofs.Common.{ℕ, zero, suc, ◌+◌, ◌-◌, ◌<◌, ◌≡◌, Bool, true, false, ◌&&◌, not, nat_le, nat_lt, is_some, length}
+use Rattle.std.proofs.Common.{List, [], ◌∷◌, None, refl, sym, ap, arith, slice_get, take}
 use Rattle.std.specs.List.{list_all}
 use Rattle.std.specs.Option.{option_and_then, option_map}
-use Rattle.std.proofs.lemmas.Bool.{and_from, and_parts, both_ways, cases_Bool, cases_lt, false_from_ne_true, ltb-true}
+use Rattle.std.proofs.lemmas.Bool.{and_parts, both_ways, false_from_ne_true, ltb-true}
 use Rattle.fsb_count.specs.Clocks.{first_where}
 use Rattle.fsb_count.specs.Options.{is_some_and}
 use Rattle.fsb_count.proofs.Interface.{first_where-off}
-use Rattle.fsb_signal.specs.Parity.{marks_in}
 use Rattle.fsb_trace.specs.At.{Trace}
-use Rattle.fsb_timely.specs.Runs.{Run, past_of, run_to}
+use Rattle.fsb_timely.specs.Runs.{Run, run_to}
 use Rattle.fsb_timely.specs.Timely.{Timely}
 use Rattle.fsb_lawful.specs.Beginning.{KeepsBounds}
 use Rattle.fsb_lawful.proofs.CutRuns.{run-twice}

@@ -5,6 +5,6 @@
 //! agent may do unseen.
 #![tactic(auto)]
 
-pub use laws::{runs_ask_once, runs_keep_ownership};
+pub use laws::{runs_are_coherent, runs_ask_once, runs_keep_ownership};
 
 mod laws;
