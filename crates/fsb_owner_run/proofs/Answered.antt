@@ -1,5 +1,5 @@
 -- Rules 30 and 31: a reply repeats HIT#, and a line that is deferred is given to nobody else.
-use Rattle.std.proofs.Common.{ℕ, ◌+◌, ◌<◌, ◌≡◌, Bool, true, false, ◌&&◌, not, nat_lt, length, List, Option, Some, None}
+use Rattle.std.proofs.Common.{ℕ, ◌+◌, ◌<◌, ◌≡◌, Bool, true, false, ◌&&◌, not, nat_lt, length, List, Option, Some}
 use Rattle.std.proofs.Common.{refl, sym, ap, subst, ◌∙◌, arith, inl, inr, if◌then◌else◌}
 use Rattle.std.specs.Option.{option_and_then}
 use Rattle.std.proofs.lemmas.Bool.{and_parts, both_ways, false_from_ne_true, ltb-true, not-true}
@@ -18,7 +18,7 @@ use Rattle.fsb_signal.specs.Samples.{line_at}
 use Rattle.fsb_trace.specs.At.{Trace, request_at}
 use Rattle.fsb_trace.specs.Flight.{reply_number_of}
 use Rattle.fsb_trace.specs.Outcome.{is_deferral, is_deferred}
-use Rattle.fsb_trace.specs.Requests.{is_reply, is_reply_kind, live_clock_of, live_count, live_request_of}
+use Rattle.fsb_trace.specs.Requests.{is_reply, live_clock_of, live_count, live_request_of}
 use Rattle.fsb_trace.specs.Snoop.{line_at_snoop_end, snoop_end_of}
 use Rattle.fsb_trace.proofs.Interface.{snoop_end_of-clock}
 use Rattle.fsb_timely.specs.Past.{Claim, Grant, SnoopEnd}
@@ -29,7 +29,7 @@ use Rattle.fsb_timely.proofs.Interface.{snoop-tied}
 use Rattle.fsb_lawful.proofs.Interface.{past-cut, some-and}
 use Rattle.fsb_coherent.specs.Awaits as awaits
 use Rattle.fsb_coherent.specs.Settled.{outcome_by_turn, outcome_under}
-use Rattle.fsb_tied.proofs.Interface.{IsSnooped, begun-shown, begun-want, outcome-shown, reply-end-at, snooped-by, told-again}
+use Rattle.fsb_tied.proofs.Interface.{IsSnooped, begun-shown, begun-want, live-request, outcome-shown, reply-end-at, snooped-by, told-again}
 use Rattle.fsb_tied.proofs.PendingLines.{pending-retried}
 use Rattle.fsb_tied.proofs.ReplyEnds.{IsReplyEnd}
 use Rattle.fsb_tied.proofs.SnoopClaims.{kind-shown}
@@ -47,7 +47,7 @@ use Rattle.fsb_owner_run.proofs.Begun.{purpose-there}
 use Rattle.fsb_owner_run.proofs.Claims.{asks-purpose, shown-begun}
 use Rattle.fsb_owner_run.proofs.Coming.{defer-shown, line-at-end}
 use Rattle.fsb_owner_run.proofs.HeldBack.{agent-there}
-use Rattle.fsb_owner_run.proofs.Replied.{put-off-told, replied-end, reply-origin, told-same}
+use Rattle.fsb_owner_run.proofs.Replied.{decoded-reply, put-off-told, replied-end, reply-origin, told-same}
 use Rattle.fsb_owner_run.proofs.Snooped.{the-asker, the-orderly}
 
 -- the reply whose snoop end is the last clock of the run, as the run has it
@@ -125,16 +125,6 @@ repeated w c i e = by-hit (line_at_snoop_end HIT w i) (line_at HIT w c) e
     by-hit true false h = absurd (let no : ⊥ = cc in no)
     by-hit false true h = absurd (let no : ⊥ = cc in no)
 
-decoded-reply : (o : Option Request) → is_reply o ≡ true → (request : Request) × (o ≡ Some request)
-    × (is_reply_kind request.kind ≡ true)
-unfolding is_reply is_some_and
-decoded-reply None e = absurd (let no : ⊥ = cc in no)
-decoded-reply (Some request) e = (request, refl, e)
-
-request-here : (w : Trace) (i q : ℕ) → live_clock_of w i ≡ Some q → live_request_of w i ≡ request_at w q
-unfolding live_request_of
-request-here w i q e = rw e refl
-
 pub hits-repeated : (first : List Joint) (r : Run) (c : ℕ) → Reaches r (c + 1) → run_to r c ≡ r
     → is_hit_of_reply_wrong first r.trace c ≡ false
 unfolding is_hit_of_reply_wrong
@@ -154,7 +144,7 @@ hits-repeated first r c h run =
     let k = heard r c j.0 q.0 h j.1 o.0 q.1 d in
     let same : i.0 ≡ k.reply_end.served = words.some_same i.0 k.reply_end.served (sym i.1 ∙ k.origin) in
     let there = decoded-reply (live_request_of w j.0) o.0 in
-    let first-at = sym (request-here w j.0 k.end.first k.snooped.tied.first) ∙ there.1 in
+    let first-at = sym (live-request w j.0 k.end.first k.snooped.tied.first) ∙ there.1 in
     let again = told-again r c k.end there.0.kind h.timely k.snooped.within k.snooped.tied.there
     (kind-shown r c j.0 k.end there.0 k.snooped first-at) there.2 in
     let hit = again.hit ∙ told-before r c j.0 k.reply_end.served run past j.1 k.serves in

@@ -117,7 +117,7 @@ purpose-decoded w q kind e =
           let no : ⊥ = cc in no)
     ]
 
-asks-parts : (w : Trace) (line a q : ℕ) → asks w line a q ≡ true
+pub asks-parts : (w : Trace) (line a q : ℕ) → asks w line a q ≡ true
     → (names w line q ≡ true) × (agent_at w q ≡ Some a)
 unfolding asks
 asks-parts w line a q e =

@@ -3,14 +3,14 @@ use Rattle.std.proofs.Common.{ℕ, ◌+◌, ◌≡◌, Bool, true, false, ◌&&�
 use Rattle.std.proofs.Common.{List, [], ◌∷◌, Option, Some, None, refl, sym, ap, subst, ◌∙◌, arith, inl, inr, if◌then◌else◌}
 use Rattle.std.proofs.lemmas.Bool.{and_parts, both_ways, cases_Bool, eqb-true, false_from_ne_true}
 use Rattle.std.specs.List.{list_any}
-use Rattle.fsb_count.specs.Options.{is_at, is_some_and}
-use Rattle.fsb_count.proofs.Interface.{any_where-found, is_at-some}
+use Rattle.fsb_count.specs.Options.{is_some_and}
+use Rattle.fsb_count.proofs.Interface.{any_where-found}
 use Rattle.fsb_line.specs.declared.state.Mesi.{Mesi}
 use Rattle.fsb_line.specs.declared.state.Mesi.TheVariants.{Exclusive, Invalid, Modified, Shared}
 use Rattle.fsb_line.specs.Links.{is_linked}
 use Rattle.fsb_line.specs.States.{is_modified}
 use Rattle.fsb_access.specs.declared.log.Done.{Done}
-use Rattle.fsb_trace.specs.At.{Trace, request_at}
+use Rattle.fsb_trace.specs.At.{request_at}
 use Rattle.fsb_trace.specs.Flight.{is_outstanding}
 use Rattle.fsb_trace.specs.Requests.{is_upgrade}
 use Rattle.fsb_timely.specs.Past.{Claim, Grant, Past}
@@ -27,8 +27,8 @@ use Rattle.fsb_run_laws.specs.Reaches.{Reaches}
 use Rattle.fsb_run_laws.specs.RunStates.{state_below, state_of_tests, state_stored, state_through, stores_at}
 use Rattle.fsb_run_laws.proofs.Interface.{state-by-stores}
 use Rattle.fsb_run_laws.proofs.LineStates.{state-by-hits}
-use Rattle.fsb_owners.specs.Shown.{asks, is_coming, is_upgrading, may_drop_at, names, agent_at}
-use Rattle.fsb_owner_run.proofs.Claims.{shown-begun, shown-owed}
+use Rattle.fsb_owners.specs.Shown.{asks, is_coming, is_upgrading, may_drop_at}
+use Rattle.fsb_owner_run.proofs.Claims.{asks-parts, shown-begun, shown-owed}
 use Rattle.fsb_owner_run.proofs.Coming.{coming-next, not-coming}
 use Rattle.fsb_owner_run.proofs.States.{state-modified}
 use Rattle.fsb_owner_run.proofs.Unseen.{is_moved, moved-on, moved-same, moved-store}
@@ -58,9 +58,9 @@ stored-unlinked r a line n h held stores =
     let long = h.long in
     (clock-facts r line n h.timely h.bounds (omega arith)).accesses.unlinked a held (stored-ready (past_of r) a line n stores)
 
-exclusive-held : (p : Past) (a line n : ℕ) → state_below p a line n ≡ Exclusive → holds_line p a line n ≡ true
+below-held : (p : Past) (a line n : ℕ) → state_below p a line n ≡ Exclusive → holds_line p a line n ≡ true
 unfolding state_below state_of_tests
-exclusive-held p a line n e =
+below-held p a line n e =
     by-held (holds_line p a line n) (is_exclusive p a line n) (is_dirty_below p a line n) e
   where
     by-held : (held own dirty : Bool)
@@ -107,7 +107,7 @@ through-moved r a line n h none =
           ap not (false_from_ne_true _ (λ t. elim (coming-next r line a n h t) [
             | inl granted ↦ both_ways (is_granted p a line n) none granted
             | inr linked ↦ both_ways (is_linked a (chain_below p line n))
-                (stored-unlinked r a line n h (exclusive-held p a line n e) stores) linked
+                (stored-unlinked r a line n h (below-held p a line n e) stores) linked
           ]))) in
           subst (λ s. is_moved ready may s through ≡ true) (sym same)
           (subst (λ s. is_moved ready may below s ≡ true) (sym (state-by-stores p a line n)) move)
@@ -146,7 +146,7 @@ hits-moved r a line n from h move =
     (more-stored ready may (stores_at p a line (n + 1)) (is_hit p a (n + 1)) from (state_below p a line (n + 1))
     (state_through p a line (n + 1)) move (state-by-stores p a line (n + 1)) (λ e stores.
     ap not (not-coming r line a (n + 1) next
-    (stored-unlinked r a line (n + 1) now (exclusive-held p a line (n + 1) e) stores))))
+    (stored-unlinked r a line (n + 1) now (below-held p a line (n + 1) e) stores))))
 
 -- an agent that drops a line for another one of its set awaits nothing of it
 unasked : (r : Run) (a line n : ℕ) → Reaches r (n + 1) → is_evicted (past_of r) a line n ≡ true
@@ -168,12 +168,6 @@ evicts-other p a line n claim e begun same =
 linked-asked : (r : Run) (a line n : ℕ) → Reaches r (n + 1) → is_linked a (chain_below (past_of r) line n) ≡ true
     → is_asked_for (owed (past_of r) a n) line ≡ true
 linked-asked r a line n h t = let long = h.long in link-owed r a line n h.timely h.bounds (omega arith) t
-
-asks-parts : (w : Trace) (line a q : ℕ) → asks w line a q ≡ true
-    → (names w line q ≡ true) × (agent_at w q ≡ Some a)
-unfolding asks
-asks-parts w line a q e =
-    let p = and_parts (names w line q) (is_at (agent_at w q) a) e in (p.0, is_at-some (agent_at w q) a p.1)
 
 not-upgrading : (r : Run) (a line n : ℕ) → Reaches r (n + 1) → is_evicted (past_of r) a line n ≡ true
     → is_upgrading r.trace line a n ≡ false

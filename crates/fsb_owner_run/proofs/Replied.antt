@@ -29,7 +29,7 @@ use Rattle.fsb_timely.proofs.Interface.{snoop-tied}
 use Rattle.fsb_lawful.proofs.Interface.{run_to-agrees, told-as-settled, turned-at, wants-lawfully}
 use Rattle.fsb_coherent.specs.Awaits as awaits
 use Rattle.fsb_tied.proofs.Ended.{response-within}
-use Rattle.fsb_tied.proofs.Interface.{IsPutOff, IsSnooped, clock-facts, events-may-happen, has-reply}
+use Rattle.fsb_tied.proofs.Interface.{IsPutOff, IsSnooped, clock-facts, events-may-happen, has-reply, live-request}
 use Rattle.fsb_tied.proofs.Interface.{reply-grants, snooped-by, told-again}
 use Rattle.fsb_hazard.specs.Choice.{is_never_held_up}
 use Rattle.fsb_tied.proofs.Interface.{asked-at, deferred-held}
@@ -117,7 +117,7 @@ number-of-reply : (w : Trace) (i c j : ℕ) → reply_clock_of w i ≡ Some c �
 unfolding reply_number_of
 number-of-reply w i c j e f = ap (option_map (live_number_of w)) e ∙ ap Some f
 
-owner-kind : (kind : Kind) (purpose : Purpose) → awaits.purpose_of kind ≡ Some purpose → is_owning kind ≡ kind_owns purpose
+pub owner-kind : (kind : Kind) (purpose : Purpose) → awaits.purpose_of kind ≡ Some purpose → is_owning kind ≡ kind_owns purpose
 unfolding awaits.purpose_of is_owning
 owner-kind kind purpose h1 = grind arith
 
@@ -135,15 +135,11 @@ shared-hit w n e = rw e (or-false (line_at HIT w n))
     or-false true = refl
     or-false false = refl
 
-decoded-reply : (o : Option Request) → is_reply o ≡ true → (request : Request) × (o ≡ Some request)
+pub decoded-reply : (o : Option Request) → is_reply o ≡ true → (request : Request) × (o ≡ Some request)
     × (is_reply_kind request.kind ≡ true)
 unfolding is_reply is_some_and
 decoded-reply None e = absurd (let no : ⊥ = cc in no)
 decoded-reply (Some request) e = (request, refl, e)
-
-request-here : (w : Trace) (i q : ℕ) → live_clock_of w i ≡ Some q → live_request_of w i ≡ request_at w q
-unfolding live_request_of
-request-here w i q e = rw e refl
 
 -- what is put off asks for its line
 held-asks : (kind : Kind) (purpose : Purpose) → awaits.purpose_of kind ≡ Some purpose → is_never_held_up kind ≡ false
@@ -169,7 +165,7 @@ replied-end r line n e h k way four =
     let decoded = subst (λ q. request_at w q ≡ Some asked.request) d.2 asked.decoded in
     let purpose = sym (asks-purpose w k.clock asked.request decoded) ∙ k.kind in
     let there = decoded-reply (live_request_of w e.0) way.reply in
-    let first = sym (request-here w e.0 g.end.first g.snooped.tied.first) ∙ there.1 in
+    let first = sym (live-request w e.0 g.end.first g.snooped.tied.first) ∙ there.1 in
     let again = told-again r n g.end there.0.kind h.timely g.snooped.within g.snooped.tied.there
     (kind-shown r n e.0 g.end there.0 g.snooped first) there.2 in
     record {
@@ -298,7 +294,7 @@ pub reply-origin : (r : Run) (line n : ℕ) (s : SnoopEnd) (grant : Grant) → R
 unfolding origin_of is_reply_of
 reply-origin r line n s grant h k =
     let w = r.trace in
-    let is = request-here w k.number s.first k.snooped.tied.first in
+    let is = live-request w k.number s.first k.snooped.tied.first in
     let reply : is_reply (live_request_of w k.number) ≡ true = ap is_reply is ∙ k.replies in
     let has = has-reply w k.served k.number k.reply in
     let told = told-same r k.served k.clock has.response k.put_off.end h.timely k.put_off.snooped has.is_response

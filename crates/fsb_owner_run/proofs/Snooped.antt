@@ -43,6 +43,7 @@ use Rattle.fsb_owner_laws.proofs.StepLosses.{fits_end, showing_fits}
 use Rattle.fsb_owner_run.proofs.Claims.{asks-purpose, claim-of}
 use Rattle.fsb_owner_run.proofs.Sets.{at_agent, if_in, kept_in}
 use Rattle.fsb_owner_run.proofs.States.{exclusive-held, joint_at, run-coherent, state-held, state-modified}
+use Rattle.fsb_owner_laws.proofs.AgreeWords.{some_same}
 
 pub the-orderly : (r : Run) (n : ℕ) → Reaches r (n + 1) → Orderly r.trace
 the-orderly r n h = let long = h.long in orderly-whole r n h.timely (omega arith)
@@ -65,11 +66,8 @@ pub record IsAskedEnd (r : Run) (line n : ℕ) (e : Ender) : Type 0 where
   pub plain : is_reply (live_request_of r.trace e.0) ≡ false
   pub four : e.1.0 < 4
 
-some-one : {A : Type 0} (x y : A) → Some x ≡ Some y → x ≡ y
-some-one x y e = cc
-
 claim-agent : (one other : Claim) → Some one ≡ Some other → one.agent ≡ other.agent
-claim-agent one other e = ap (λ c. c.agent) (some-one one other e)
+claim-agent one other e = ap (λ c. c.agent) (some_same one other e)
 
 pub asked-end : (r : Run) (line n : ℕ) (e : Ender) → Reaches r (n + 1) → (k : IsAsker r.trace line n e)
     → IsPlain r.trace e.0 k.number → e.1.0 < 4 → IsAskedEnd r line n e
@@ -95,7 +93,7 @@ asked-end r line n e h k plain four =
     sym (asks-purpose w s.first claimed.request claimed.decoded) ∙ asks in
     let kinds : Some settled.fits.kind ≡ Some claimed.request.kind = sym settled.fits.known ∙ claimed.kind in
     let purposes : Some settled.purpose ≡ Some e.1.1 =
-    sym settled.known ∙ ap awaits.purpose_of (some-one settled.fits.kind claimed.request.kind kinds) ∙ kind in
+    sym settled.known ∙ ap awaits.purpose_of (some_same settled.fits.kind claimed.request.kind kinds) ∙ kind in
     record {
       end = s;
       snooped = sn;
@@ -104,8 +102,8 @@ asked-end r line n e h k plain four =
       settled = settled;
       asker = claim-agent (record { first = s.first; agent = settled.fits.agent; line = line }) claim
           (sym settled.fits.claimed ∙ claims);
-      purpose = some-one settled.purpose e.1.1 purposes;
-      same_kind = some-one settled.fits.kind claimed.request.kind kinds;
+      purpose = some_same settled.purpose e.1.1 purposes;
+      same_kind = some_same settled.fits.kind claimed.request.kind kinds;
       kind = kind;
       plain = plain.request;
       four = four;

@@ -119,7 +119,7 @@ apart-by s t f g = and_from _ _ (one-way (is_sole s) (is_held t) f) (one-way (is
     one-way true c h = rw (h refl) refl
     one-way false c h = refl
 
-implied : (a b : Bool) → (not a || b) ≡ true → a ≡ true → b ≡ true
+pub implied : (a b : Bool) → (not a || b) ≡ true → a ≡ true → b ≡ true
 implied a b e t = let h = rw t at e in h
 
 -- where who has the line for itself is its only holder, the joint state is one of a coherent line

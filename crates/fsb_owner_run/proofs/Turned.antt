@@ -39,7 +39,7 @@ use Rattle.fsb_owners.specs.Shown.{is_turned}
 use Rattle.fsb_owner_laws.proofs.Emptied.{Ender}
 use Rattle.fsb_owner_run.proofs.Coming.{outcome-at, turned-shown}
 use Rattle.fsb_owner_run.proofs.Moves.{May, Ready, evicted-clean, evicted-may, through-moved}
-use Rattle.fsb_owner_run.proofs.Replied.{IsRepliedEnd}
+use Rattle.fsb_owner_run.proofs.Replied.{IsRepliedEnd, owner-kind}
 use Rattle.fsb_owner_run.proofs.Sets.{turned}
 use Rattle.fsb_owner_run.proofs.Snooped.{IsAskedEnd, hit-seen, written-modified}
 use Rattle.fsb_owner_run.proofs.States.{dirty-own, state-held, state-modified}
@@ -190,10 +190,6 @@ snoop-clean Modified Read e = refl
 snoop-clean state Own e = refl
 snoop-clean state Upgrade e = refl
 snoop-clean state WriteBack e = e
-
-owner-purpose : (kind : Kind) (purpose : Purpose) → awaits.purpose_of kind ≡ Some purpose → is_owning kind ≡ kind_owns purpose
-unfolding awaits.purpose_of is_owning
-owner-purpose kind purpose h1 = grind arith
 
 owns-away : (state : Mesi) (kind : Purpose) → kind_owns kind ≡ true → after_snoop state kind ≡ Invalid
 owns-away state Own e = refl
@@ -458,7 +454,7 @@ other-state r line n a e h k other =
       shared = k.settled.fits.shared;
     }) a line differ in
     let effects = claimed-effects p a e.1.0 line n k.end request.kind there k.claims k.claimed.kind in
-    let owning = owner-purpose request.kind e.1.1 k.kind in
+    let owning = owner-kind request.kind e.1.1 k.kind in
     elim (cases_Bool (is_evicted p a line n)) [
       | inl gone ↦
           leads-dropped r line n a (after_snoop state e.1.1) h none gone

@@ -2,7 +2,7 @@
 use Rattle.std.proofs.Common.{ℕ, zero, suc, ◌+◌, ◌<◌, ◌≤◌, ◌≡◌, Bool, true, false, ◌&&◌, ◌||◌, not, List}
 use Rattle.std.proofs.Common.{refl, sym, ap, subst, ◌∙◌, arith, inl, inr, ◌⊎◌}
 use Rattle.std.specs.List.{Contains, list_all, list_any}
-use Rattle.std.proofs.lemmas.Bool.{and_from, and_parts, cases_Bool, cases_lt}
+use Rattle.std.proofs.lemmas.Bool.{and_from, and_parts, cases_Bool, cases_lt, or_right}
 use Rattle.std.proofs.lemmas.List.Elements.{All-contains}
 use Rattle.std.proofs.lemmas.List.Sums.{AllPass-from_list_all}
 use Rattle.fsb_count.specs.Clocks.{all_where, each_where}
@@ -18,6 +18,7 @@ use Rattle.fsb_owners.specs.Shown.{is_coming, may_drop_at}
 use Rattle.fsb_owner_laws.proofs.Members.{below_four}
 use Rattle.fsb_owner_laws.proofs.StepLosses.{drops_stay, stores_stay}
 use Rattle.fsb_owner_run.proofs.Sets.{at_agent, joint_of, reached_in}
+use Rattle.fsb_owner_run.proofs.States.{implied}
 
 -- the agent has stored into an Exclusive copy that is ready
 abbrev pub is_stored : Bool → Mesi → Mesi → Bool
@@ -66,9 +67,6 @@ modified_computed : each_where (alone_in Modified) 4 ≡ true
 unfolding each_where alone_in is_same_joint is_same_state state_at every_joint sharing alone all_where unheld
 modified_computed = refl
 
-implied : (a b : Bool) → (not a || b) ≡ true → a ≡ true → b ≡ true
-implied a b e t = let h = rw t at e in h
-
 alone-by : (s : Mesi) (a : ℕ) (f : ℕ → Mesi) → a < 4 → alone_in s a ≡ true → Contains every_joint (joint_of f)
     → is_same_state (f a) s ≡ true → is_same_joint (joint_of f) (alone s a) ≡ true
 unfolding alone_in
@@ -78,19 +76,15 @@ alone-by s a f l e c t =
     (AllPass-from_list_all (λ z. not (is_same_state (state_at z a) s) || is_same_joint z (alone s a)) every_joint e) c)
     (ap (λ x. is_same_state x s) (at_agent f a l) ∙ t)
 
-second : (a b : Bool) → b ≡ true → (a || b) ≡ true
-second true b e = refl
-second false b e = e
-
 among : (test : ℕ → Bool) (a : ℕ) → a < 4 → test a ≡ true → list_any test agents ≡ true
 among test =
     below_four (λ a. test a ≡ true → list_any test agents ≡ true)
     (λ t. rw t refl)
-    (λ t. second (test 0) (test 1 || (test 2 || (test 3 || false))) (rw t refl))
-    (λ t. second (test 0) (test 1 || (test 2 || (test 3 || false)))
-    (second (test 1) (test 2 || (test 3 || false)) (rw t refl)))
-    (λ t. second (test 0) (test 1 || (test 2 || (test 3 || false)))
-    (second (test 1) (test 2 || (test 3 || false)) (second (test 2) (test 3 || false) (rw t refl))))
+    (λ t. or_right (test 0) (test 1 || (test 2 || (test 3 || false))) (rw t refl))
+    (λ t. or_right (test 0) (test 1 || (test 2 || (test 3 || false)))
+    (or_right (test 1) (test 2 || (test 3 || false)) (rw t refl)))
+    (λ t. or_right (test 0) (test 1 || (test 2 || (test 3 || false)))
+    (or_right (test 1) (test 2 || (test 3 || false)) (or_right (test 2) (test 3 || false) (rw t refl))))
 
 -- one agent has stored
 store-step : (ready : ℕ → Bool) (f g : ℕ → Mesi) (a : ℕ) → a < 4 → Contains every_joint (joint_of f)
@@ -102,7 +96,7 @@ store-step ready f g a l cf cg e =
     let s = and_parts (is_same_state (f a) Exclusive) (is_same_state (g a) Modified) p.1 in
     let from = alone-by Exclusive a f l (each_where-at (alone_in Exclusive) 4 exclusive_computed a l) cf s.0 in
     let to = alone-by Modified a g l (each_where-at (alone_in Modified) 4 modified_computed a l) cg s.1 in
-    second (is_same_joint (joint_of f) (joint_of g)) _
+    or_right (is_same_joint (joint_of f) (joint_of g)) _
     (among (λ b. ready b && is_same_joint (joint_of f) (alone Exclusive b) && is_same_joint (joint_of g) (alone Modified b))
     a l (and_from _ _ (and_from _ _ p.0 from) to))
 

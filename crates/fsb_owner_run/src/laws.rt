@@ -9,15 +9,15 @@ ghost use Rattle.fsb_owners.specs.Joint.{Joint, unheld};
 ghost use Rattle.fsb_owner_verdict.specs.Coherence.{coherence_verdict};
 ghost use Rattle.fsb_owners.specs.Rules.{is_ownership_broken, ownership_verdict};
 
-/// An agent of a timely run asks for a line once, until its request is answered: rule 21 is broken at
-/// no clock, whatever the caches may hold at first.
+/// An agent of a timely run asks for a line once, until its request is answered: rule 21 is broken
+/// at no clock, whatever the caches may hold at first.
 pub fn runs_ask_once()
     ensures { (first : List Joint) (r : Run) (c : ℕ) → Timely r → KeepsBounds r.plan →
         is_ownership_broken first r.trace c 21 ≡ false }
 {}
 
-/// A timely run begins with empty caches and breaks no rule of ownership: none is broken at any of its
-/// clocks, and the verdict on its trace is none.
+/// A timely run begins with empty caches and breaks no rule of ownership: none is broken at any of
+/// its clocks, and the verdict on its trace is none.
 pub fn runs_keep_ownership()
     ensures clock { (r : Run) (c j : ℕ) → Timely r → KeepsBounds r.plan →
         is_ownership_broken (unheld ∷ []) r.trace c j ≡ false }
