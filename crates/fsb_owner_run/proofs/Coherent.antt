@@ -1,0 +1,18 @@
+-- A timely run is coherent: of all rules, phase rules and rules of ownership, its trace breaks none.
+use Rattle.std.proofs.Common.{◌≡◌, None, ◌∙◌}
+use Rattle.fsb_signal.specs.Parity.{marks_in}
+use Rattle.fsb_timely.specs.Runs.{Run}
+use Rattle.fsb_timely.specs.Timely.{Timely}
+use Rattle.fsb_lawful.specs.Beginning.{KeepsBounds}
+use Rattle.fsb_lawful.proofs.Interface.{accepted}
+use Rattle.fsb_tied.proofs.Interface.{writes-back-alone}
+use Rattle.fsb_owner_verdict.specs.Coherence.{coherence_verdict, earlier_of}
+use Rattle.fsb_owner_verdict.proofs.Earlier.{earlier}
+use Rattle.fsb_owner_run.proofs.Unbroken.{Empty}
+use Rattle.fsb_owner_run.proofs.Verdict.{none-broken}
+
+pub coherent-run : (r : Run) → Timely r → KeepsBounds r.plan
+    → coherence_verdict (marks_in r.plan.profile) Empty r.trace ≡ None
+coherent-run r h bounds =
+    earlier (marks_in r.plan.profile) Empty r.trace
+    ∙ (λ i. earlier_of (accepted r h bounds (writes-back-alone r h bounds) i) (none-broken r h bounds i))

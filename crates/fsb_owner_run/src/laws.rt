@@ -1,0 +1,33 @@
+//! Laws over the definitions: no code.
+
+ghost use Rattle.std.specs.Prelude.{◌≡◌, ◌∷◌, [], ℕ, List, None, false};
+ghost use Rattle.fsb_signal.specs.Parity.{marks_in};
+ghost use Rattle.fsb_timely.specs.Runs.{Run};
+ghost use Rattle.fsb_timely.specs.Timely.{Timely};
+ghost use Rattle.fsb_lawful.specs.Beginning.{KeepsBounds};
+ghost use Rattle.fsb_owners.specs.Joint.{Joint, unheld};
+ghost use Rattle.fsb_owner_verdict.specs.Coherence.{coherence_verdict};
+ghost use Rattle.fsb_owners.specs.Rules.{is_ownership_broken, ownership_verdict};
+
+/// An agent of a timely run asks for a line once, until its request is answered: rule 21 is broken
+/// at no clock, whatever the caches may hold at first.
+pub fn runs_ask_once()
+    ensures { (first : List Joint) (r : Run) (c : ℕ) → Timely r → KeepsBounds r.plan →
+        is_ownership_broken first r.trace c 21 ≡ false }
+{}
+
+/// A timely run begins with empty caches and breaks no rule of ownership: none is broken at any of
+/// its clocks, and the verdict on its trace is none.
+pub fn runs_keep_ownership()
+    ensures clock { (r : Run) (c j : ℕ) → Timely r → KeepsBounds r.plan →
+        is_ownership_broken (unheld ∷ []) r.trace c j ≡ false }
+    ensures verdict { (r : Run) → Timely r → KeepsBounds r.plan →
+        ownership_verdict (unheld ∷ []) r.trace ≡ None }
+{}
+
+/// So a timely run is coherent: of all rules, 1 to 31, its trace breaks none, in profile 2 with its
+/// parity and in profile 1 without.
+pub fn runs_are_coherent()
+    ensures { (r : Run) → Timely r → KeepsBounds r.plan →
+        coherence_verdict (marks_in r.plan.profile) (unheld ∷ []) r.trace ≡ None }
+{}

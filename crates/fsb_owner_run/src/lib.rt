@@ -1,0 +1,10 @@
+//! A simulated run breaks no rule of ownership: laws over the definitions, and no code.
+//!
+//! `proofs/` shows that the joint state of a line in a run is one of those that the wires leave,
+//! clock by clock. Its agents ask what suits it, and HIT# and HITM# say it. What happens unseen is
+//! what an agent may do unseen.
+#![tactic(auto)]
+
+pub use laws::{runs_are_coherent, runs_ask_once, runs_keep_ownership};
+
+mod laws;
