@@ -8,6 +8,7 @@ ghost use Rattle.fsb_lawful.specs.Beginning.{KeepsBounds};
 ghost use Rattle.fsb_owners.specs.Joint.{Joint, unheld};
 ghost use Rattle.fsb_owner_verdict.specs.Coherence.{coherence_verdict};
 ghost use Rattle.fsb_owners.specs.Rules.{is_ownership_broken, ownership_verdict};
+ghost use Rattle.fsb_courses.specs.Coherent.{CouldBeMade};
 
 /// An agent of a timely run asks for a line once, until its request is answered: rule 21 is broken
 /// at no clock, whatever the caches may hold at first.
@@ -30,4 +31,10 @@ pub fn runs_keep_ownership()
 pub fn runs_are_coherent()
     ensures { (r : Run) → Timely r → KeepsBounds r.plan →
         coherence_verdict (marks_in r.plan.profile) (unheld ∷ []) r.trace ≡ None }
+{}
+
+/// And a coherent system could have made its trace: up to each clock each line has a course, and its
+/// requests wait for their turn, unless one of them failed hard.
+pub fn runs_could_be_made()
+    ensures { (r : Run) → Timely r → KeepsBounds r.plan → CouldBeMade (unheld ∷ []) r.trace }
 {}

@@ -5,6 +5,6 @@
 //! what an agent may do unseen.
 #![tactic(auto)]
 
-pub use laws::{runs_are_coherent, runs_ask_once, runs_keep_ownership};
+pub use laws::{runs_are_coherent, runs_ask_once, runs_could_be_made, runs_keep_ownership};
 
 mod laws;

@@ -3,3 +3,4 @@ mod Places
 mod Passing
 mod Seeing
 mod Wholes
+mod Explained

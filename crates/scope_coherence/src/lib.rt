@@ -10,8 +10,10 @@
 
 pub use answer::{Cohered, CoheredPart, CoherenceFinding, coherence_of};
 pub use cohering::Incoherent;
+pub use laws::coherent_parts_could_be_made;
 
 mod answer;
 mod coherer;
 mod cohering;
+mod laws;
 mod part;
