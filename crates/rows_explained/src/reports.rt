@@ -306,6 +306,78 @@ fn reports_show_the_requests_around_the_clock(rt: HostRuntime) {
     }
 }
 
+/// The drawing of a report: the lines that its reasons speak of, and no others.
+const DRAWN: [Row; 4] = [
+    (
+        0,
+        &READ,
+        5,
+        (HIT, 0, 0),
+        "
+
+            0   1   2   3   4   5*
+  ADS#    ‾‾‾‾‾‾‾‾\\___/‾‾‾‾‾‾‾‾‾‾‾
+  HIT#    ‾‾‾‾‾‾‾‾‾‾‾‾‾‾‾‾‾‾‾‾\\___
+  HITM#   ‾‾‾‾‾‾‾‾‾‾‾‾‾‾‾‾‾‾‾‾‾‾‾‾
+
+",
+    ),
+    (
+        0,
+        &LEAST_RULE_NAMED,
+        1,
+        (ADS | AERR, 0, 0),
+        "
+
+            0   1*
+  ADS#    ‾‾‾‾\\___
+  AERR#   ‾‾‾‾\\___
+
+",
+    ),
+    (
+        0,
+        &[(BREQ1, 0, 0), (BREQ1, 0, 0), (BREQ1 | ADS, 0x6, 0x8)],
+        3,
+        (0, 0x2, 0x2),
+        "
+
+            0   1   2   3*
+  BREQ0#  ‾‾‾‾‾‾‾‾‾‾‾‾‾‾‾‾
+  BREQ1#  \\___________/‾‾‾
+  BREQ2#  ‾‾‾‾‾‾‾‾‾‾‾‾‾‾‾‾
+  BREQ3#  ‾‾‾‾‾‾‾‾‾‾‾‾‾‾‾‾
+  BPRI#   ‾‾‾‾‾‾‾‾‾‾‾‾‾‾‾‾
+  LOCK#   ‾‾‾‾‾‾‾‾‾‾‾‾‾‾‾‾
+  ADS#    ‾‾‾‾‾‾‾‾\\___/‾‾‾
+  A                40  10
+
+",
+    ),
+    (
+        0,
+        &[],
+        2,
+        (DBSY, 0, 0),
+        "
+
+            0   1   2*
+  ADS#    ‾‾‾‾‾‾‾‾‾‾‾‾
+  RS#     ‾‾‾‾‾‾‾‾‾‾‾‾
+  DBSY#   ‾‾‾‾‾‾‾‾\\___
+  DRDY#   ‾‾‾‾‾‾‾‾‾‾‾‾
+
+",
+    ),
+];
+
+#[test]
+fn reports_draw_the_lines_that_reasons_speak_of(rt: HostRuntime) {
+    for (at, row) in DRAWN.iter().enumerate() {
+        assert!(rt; matches!(is_shown(rt.alloc(), row), Ok(true)), "row {at}");
+    }
+}
+
 /// A read of agent 0 with its data, and nothing behind it.
 const LOAD: [Clock; 12] = [
     (BREQ0, 0, 0),
