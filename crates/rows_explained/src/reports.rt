@@ -11,7 +11,7 @@ use rows_store::{
 use std::alloc::{AllocError, Global};
 
 /// A read by agent 0 that begins at 2; behind it nothing happens.
-const READ: [Clock; 4] = [
+pub(crate) const READ: [Clock; 4] = [
     (BREQ0, 0, 0),
     (BREQ0, 0, 0),
     (BREQ0 | ADS, 0x6, 0x8),
@@ -26,10 +26,10 @@ const NO_LEVELS: Blur = Blur {
 
 /// How many clocks come before the first one with levels, the clocks behind them, at which one, counted from there, the rule
 /// is broken, with idle clocks up to it, the lines there, and the sentence.
-type Row = (u32, &'static [Clock], u32, Clock, &'static str);
+pub(crate) type Row = (u32, &'static [Clock], u32, Clock, &'static str);
 
 /// The waveform of a row.
-fn waveform(alloc: Global, row: &Row) -> Result<Vec<Sample>, AllocError> {
+pub(crate) fn waveform(alloc: Global, row: &Row) -> Result<Vec<Sample>, AllocError> {
     let &(before, clocks, at, last, _) = row;
     let mut samples = Vec::new(alloc);
     for _ in 0..before {
