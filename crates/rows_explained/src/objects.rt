@@ -60,7 +60,10 @@ fn has_requests(alloc: Global, row: &Row) -> Result<bool, Memory> {
 #[test]
 fn objects_have_the_requests_around_the_clock(rt: HostRuntime) {
     for (at, row) in REQUESTS.iter().enumerate() {
-        assert!(rt; matches!(has_requests(rt.alloc(), row), Ok(true)), "row {at}");
+        assert!(rt;
+            matches!(has_requests(rt.alloc(), row), Ok(true)),
+            "row {at}"
+        );
     }
 }
 
@@ -72,7 +75,8 @@ fn objects_have_what_is_without_a_level(rt: HostRuntime) {
         lines: HIT | HITM | RS1,
         ..CLEAR
     };
-    let lines = ":[{\"facts\":{\"lines\":[\"HIT\",\"HITM\",\"RS1\"]},\"kind\":\"unknown_lines\",\"rule\":1,";
+    let lines =
+        ":[{\"facts\":{\"lines\":[\"HIT\",\"HITM\",\"RS1\"]},\"kind\":\"unknown_lines\",\"rule\":1,";
     assert!(rt; has(a, &[idle, blurred((0, 0, 0), unknown)], lines) == Ok(true));
     let data = Blur {
         data: 0x8000_0000_0000_00f0,
