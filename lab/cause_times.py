@@ -18,11 +18,10 @@ TURNS = 3
 
 
 def codes(path):
-    """The codes of the lines by their names, and how many bytes the header has."""
-    found, size = {}, 0
+    """The codes of the lines by their names."""
+    found = {}
     with open(path, "rb") as lines:
         for line in lines:
-            size += len(line)
             words = line.split()
             if words[:1] == [b"$var"]:
                 found[words[4].decode()] = words[3].decode()
@@ -55,17 +54,22 @@ def broken(path):
             dump.write("#%d\n1%s\n" % (at, clock))
 
 
-def timed(words, stdin=None):
-    best = None
-    for _ in range(TURNS):
-        begin = time.perf_counter()
-        with open(stdin or os.devnull, "rb") as source:
-            done = subprocess.run(words, stdin=source, stdout=subprocess.PIPE, stderr=subprocess.PIPE)
-        taken = time.perf_counter() - begin
-        if done.returncode != 1:
-            sys.exit("%s ends with status %d: %s" % (" ".join(words), done.returncode, done.stderr.decode()))
-        best = taken if best is None else min(best, taken)
-    return best
+def called(words, piped):
+    """The wall time of one call. A file that is piped comes by cat, so that it cannot be read again."""
+    begin = time.perf_counter()
+    cat = subprocess.Popen(["cat", piped], stdout=subprocess.PIPE) if piped else None
+    done = subprocess.run(words, stdin=cat.stdout if cat else subprocess.DEVNULL, stdout=subprocess.PIPE, stderr=subprocess.PIPE)
+    taken = time.perf_counter() - begin
+    if cat:
+        cat.stdout.close()
+        cat.wait()
+    if done.returncode != 1:
+        sys.exit("%s ends with status %d: %s" % (" ".join(words), done.returncode, done.stderr.decode()))
+    return taken
+
+
+def timed(words, piped=None):
+    return min(called(words, piped) for _ in range(TURNS))
 
 
 def main():
@@ -85,8 +89,8 @@ def main():
             ("and a save file and the clocks around it", [scope, "check", "--save", save, "--cut", cut, large], None),
         )
         print("rejected dump, %.0f MB: from verdict to the cause" % (os.path.getsize(large) / 1e6))
-        for what, call, stdin in rows:
-            print("%-58s %6.2f s" % (what, timed(call, stdin)))
+        for what, call, piped in rows:
+            print("%-58s %6.2f s" % (what, timed(call, piped)))
 
 
 if __name__ == "__main__":

@@ -6,6 +6,7 @@ use Rattle.fsb_encode.specs.declared.decoding.DecodeFault.TheVariants.{BadCode, 
 use Rattle.fsb_reasons.specs.declared.reason.Reason.{Reason}
 use Rattle.fsb_reasons.specs.declared.reason.Reason.TheVariants.{UnknownLines, TooSoon, UnknownBits, Unlawful, QueueFull, Blocked, Locked, NoneAsks, NoId, ReplyByOther, IdOfOther, Dropped, Held, ErrorAlone, SnoopsOver, SnoopEarly, SnoopBetween, WriteBackSnooped, ReplySnooped, NothingToAnswer, ResponseEarly, CodeForNone, CodeUnsettled, CodeWrong, ReadyForNone, ReadyUnsettled, ReadyUnwanted, ReadyEarly, ReadyTwice, ResponseUnready, DataForNone, BusyMissing, BusyForNone, UnknownData, ReplyUnawaited, IdTaken, TooMany, AddressParity}
 use Rattle.fsb_trace.specs.Outcome.{response_code_of}
+use Rattle.reason_facts.specs.Unknown.{unknown_facts}
 use Rattle.reason_facts.specs.Values.{agent, maybe_agent, with_count, with_flag, with_maybe, with_request, with_snoop, with_wait}
 
 -- with the request whose second clock this is: its first clock
@@ -106,5 +107,5 @@ data_facts _ ms = ms
 -- all numbers of a reason that holds at this clock
 unfoldable pub facts : ℕ → Reason → Members
 facts clock reason =
-    data_facts reason (ready_facts reason (answer_facts reason (snoop_facts reason
-    (line_facts clock reason (id_facts clock reason (begin_facts clock reason no_members))))))
+    unknown_facts reason (data_facts reason (ready_facts reason (answer_facts reason (snoop_facts reason
+    (line_facts clock reason (id_facts clock reason (begin_facts clock reason no_members)))))))

@@ -1,3 +1,4 @@
 pub mod Facts
 pub mod Kinds
+pub mod Unknown
 pub mod Values

@@ -8,6 +8,7 @@ ghost use Rattle.reason_facts.specs.Facts.{facts};
 use crate::answers::{put_answer, put_data, put_ready};
 use crate::begins::{put_begin, put_id, put_line};
 use crate::snoops::put_snooped;
+use crate::unknown::put_unknown;
 use fsb_reasons::Reason;
 use serde_json::{Map, Value};
 use std::alloc::{AllocError, Global};
@@ -25,5 +26,6 @@ pub fn facts_value(alloc: Global, clock: u32, reason: &Reason) -> Result<Value, 
     put_answer(&mut object, alloc, reason)?;
     put_ready(&mut object, alloc, reason)?;
     put_data(&mut object, alloc, reason)?;
+    put_unknown(&mut object, alloc, reason)?;
     Ok(Value::Object(object))
 }

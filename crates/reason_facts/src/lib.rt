@@ -8,11 +8,12 @@
 
 pub use facts::facts_value;
 pub use kind::kind_of;
-pub use value::{maybe, put_count, put_flag, put_word};
+pub use value::{maybe, put_count, put_flag, put_maybe_agent, put_word};
 
 mod answers;
 mod begins;
 mod facts;
 mod kind;
 mod snoops;
+mod unknown;
 mod value;

@@ -137,8 +137,8 @@ pub(crate) fn put_agent(
 }
 
 /// Puts an agent at a name, or null where it is nobody.
-pub(crate) fn put_maybe_agent(
-    object: &mut Object,
+pub fn put_maybe_agent(
+    object: &mut Map<String, Value>,
     alloc: Global,
     name: &str,
     who: Option<Who>,

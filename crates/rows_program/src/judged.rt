@@ -94,8 +94,6 @@ rejected at clock 0, 5 ns (line 22 of the file): rule 2, request spacing
 
             0*  1   2
   ADS#    \\___________
-  REQ      x   x   x
-  A        x   x   x
 
 ";
 

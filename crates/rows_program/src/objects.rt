@@ -40,7 +40,7 @@ const ROWS: [Row; 4] = [
         90,
         3,
         0,
-        "{\"absent\":[\"BREQ1_n\",\"BREQ2_n\",\"BREQ3_n\",\"BPRI_n\",\"LOCK_n\",\"BNR_n\",\"AERR_n\",\"DEFER_n\",\"AP_n\",\"RP_n\"],\"after\":[],\"broken_count\":0,\"clocks\":3,\"cut_at\":null,\"edge\":\"rise\",\"file\":\"x.vcd\",\"findings\":[],\"first\":false,\"first_hole\":null,\"hints\":[],\"holes\":0,\"judged\":3,\"left_out\":[],\"limit_at\":null,\"part_count\":1,\"parts\":[{\"end\":\"dump\",\"is_history_known\":true,\"judged\":3,\"start\":0,\"verdict\":\"accepted\"}],\"schema\":1,\"scope\":\"tb.dut\",\"status\":0,\"timescale\":{\"factor\":1,\"unit\":\"ns\"},\"verdict\":\"accepted\"}\n",
+        "{\"absent\":[\"BREQ1_n\",\"BREQ2_n\",\"BREQ3_n\",\"BPRI_n\",\"LOCK_n\",\"BNR_n\",\"AERR_n\",\"DEFER_n\",\"AP_n\",\"RP_n\"],\"after\":[],\"broken_count\":0,\"clocks\":3,\"cut_at\":null,\"edge\":\"rise\",\"file\":\"x.vcd\",\"findings\":[],\"first\":false,\"first_hole\":null,\"hints\":[],\"holes\":0,\"judged\":3,\"left_out\":[],\"limit_at\":null,\"part_count\":1,\"parts\":[{\"end\":\"dump\",\"is_history_known\":true,\"judged\":3,\"start\":0,\"verdict\":\"accepted\"}],\"requests_in_flight\":[],\"requests_over\":[],\"schema\":1,\"scope\":\"tb.dut\",\"status\":0,\"timescale\":{\"factor\":1,\"unit\":\"ns\"},\"verdict\":\"accepted\"}\n",
     ),
     (
         "check|--format=json|--without|BNR_n|x.vcd",
@@ -49,7 +49,7 @@ const ROWS: [Row; 4] = [
         6,
         30,
         1,
-        "{\"absent\":[\"BREQ1_n\",\"BREQ2_n\",\"BREQ3_n\",\"BPRI_n\",\"LOCK_n\",\"AERR_n\",\"DEFER_n\",\"AP_n\",\"RP_n\"],\"after\":[],\"broken_count\":1,\"clocks\":30,\"cut_at\":null,\"edge\":\"rise\",\"file\":\"x.vcd\",\"findings\":[{\"clock\":6,\"line\":47,\"part_start\":0,\"reasons\":[{\"facts\":{\"asked_at\":4},\"kind\":\"none_asks\",\"rule\":6,\"sentence\":\"ADS# is asserted at 6. No agent asked for the bus two clocks before, at 4.\",\"title\":\"arbitration winner\"}],\"rule\":6,\"step\":65,\"time\":650,\"title\":\"arbitration winner\",\"unit\":\"ps\"}],\"first\":false,\"first_hole\":null,\"hints\":[],\"holes\":0,\"judged\":30,\"left_out\":[\"BNR_n\"],\"limit_at\":null,\"part_count\":1,\"parts\":[{\"end\":\"broken\",\"is_history_known\":true,\"judged\":30,\"start\":0,\"verdict\":\"rejected\"}],\"schema\":1,\"scope\":\"tb.dut\",\"status\":1,\"timescale\":{\"factor\":10,\"unit\":\"ps\"},\"verdict\":\"rejected\"}\n",
+        "{\"absent\":[\"BREQ1_n\",\"BREQ2_n\",\"BREQ3_n\",\"BPRI_n\",\"LOCK_n\",\"AERR_n\",\"DEFER_n\",\"AP_n\",\"RP_n\"],\"after\":[],\"broken_count\":1,\"clocks\":30,\"cut_at\":null,\"edge\":\"rise\",\"file\":\"x.vcd\",\"findings\":[{\"clock\":6,\"line\":47,\"part_start\":0,\"reasons\":[{\"facts\":{\"asked_at\":4},\"kind\":\"none_asks\",\"rule\":6,\"sentence\":\"ADS# is asserted at 6. No agent asked for the bus two clocks before, at 4.\",\"title\":\"arbitration winner\"}],\"rule\":6,\"step\":65,\"time\":650,\"title\":\"arbitration winner\",\"unit\":\"ps\"}],\"first\":false,\"first_hole\":null,\"hints\":[],\"holes\":0,\"judged\":30,\"left_out\":[\"BNR_n\"],\"limit_at\":null,\"part_count\":1,\"parts\":[{\"end\":\"broken\",\"is_history_known\":true,\"judged\":30,\"start\":0,\"verdict\":\"rejected\"}],\"requests_in_flight\":[],\"requests_over\":[],\"schema\":1,\"scope\":\"tb.dut\",\"status\":1,\"timescale\":{\"factor\":10,\"unit\":\"ps\"},\"verdict\":\"rejected\"}\n",
     ),
     (
         "check|--format|json|--at|9|x.vcd",
@@ -58,7 +58,7 @@ const ROWS: [Row; 4] = [
         90,
         3,
         3,
-        "{\"absent\":[\"BREQ1_n\",\"BREQ2_n\",\"BREQ3_n\",\"BPRI_n\",\"LOCK_n\",\"BNR_n\",\"AERR_n\",\"DEFER_n\",\"AP_n\",\"RP_n\"],\"after\":[],\"broken_count\":0,\"clocks\":3,\"cut_at\":null,\"edge\":\"rise\",\"file\":\"x.vcd\",\"findings\":[],\"first\":false,\"first_hole\":null,\"hints\":[],\"holes\":0,\"judged\":0,\"left_out\":[],\"limit_at\":null,\"part_count\":0,\"parts\":[],\"schema\":1,\"scope\":\"tb.dut\",\"status\":3,\"timescale\":{\"factor\":1,\"unit\":\"ns\"},\"verdict\":\"nothing\"}\n",
+        "{\"absent\":[\"BREQ1_n\",\"BREQ2_n\",\"BREQ3_n\",\"BPRI_n\",\"LOCK_n\",\"BNR_n\",\"AERR_n\",\"DEFER_n\",\"AP_n\",\"RP_n\"],\"after\":[],\"broken_count\":0,\"clocks\":3,\"cut_at\":null,\"edge\":\"rise\",\"file\":\"x.vcd\",\"findings\":[],\"first\":false,\"first_hole\":null,\"hints\":[],\"holes\":0,\"judged\":0,\"left_out\":[],\"limit_at\":null,\"part_count\":0,\"parts\":[],\"requests_in_flight\":[],\"requests_over\":[],\"schema\":1,\"scope\":\"tb.dut\",\"status\":3,\"timescale\":{\"factor\":1,\"unit\":\"ns\"},\"verdict\":\"nothing\"}\n",
     ),
     (
         "check|--format|json|x.vcd",

@@ -12,7 +12,7 @@ use rows_store::{
 use std::alloc::{AllocError, Global};
 
 /// A read by agent 0 that begins at 2; behind it nothing happens.
-const READ: [Clock; 4] = [
+pub(crate) const READ: [Clock; 4] = [
     (BREQ0, 0, 0),
     (BREQ0, 0, 0),
     (BREQ0 | ADS, 0x6, 0x8),
@@ -27,10 +27,10 @@ const NO_LEVELS: Blur = Blur {
 
 /// How many clocks come before the first one with levels, the clocks behind them, at which one, counted from there, the rule
 /// is broken, with idle clocks up to it, the lines there, and the sentence.
-type Row = (u32, &'static [Clock], u32, Clock, &'static str);
+pub(crate) type Row = (u32, &'static [Clock], u32, Clock, &'static str);
 
 /// The waveform of a row.
-fn waveform(alloc: Global, row: &Row) -> Result<Vec<Sample>, AllocError> {
+pub(crate) fn waveform(alloc: Global, row: &Row) -> Result<Vec<Sample>, AllocError> {
     let &(before, clocks, at, last, _) = row;
     let mut samples = Vec::new(alloc);
     for _ in 0..before {
@@ -303,6 +303,78 @@ fn is_shown(alloc: Global, row: &Row) -> Result<bool, Memory> {
 #[test]
 fn reports_show_the_requests_around_the_clock(rt: HostRuntime) {
     for (at, row) in AROUND.iter().enumerate() {
+        assert!(rt; matches!(is_shown(rt.alloc(), row), Ok(true)), "row {at}");
+    }
+}
+
+/// The drawing of a report: the lines that its reasons speak of, and no others.
+const DRAWN: [Row; 4] = [
+    (
+        0,
+        &READ,
+        5,
+        (HIT, 0, 0),
+        "
+
+            0   1   2   3   4   5*
+  ADS#    ‾‾‾‾‾‾‾‾\\___/‾‾‾‾‾‾‾‾‾‾‾
+  HIT#    ‾‾‾‾‾‾‾‾‾‾‾‾‾‾‾‾‾‾‾‾\\___
+  HITM#   ‾‾‾‾‾‾‾‾‾‾‾‾‾‾‾‾‾‾‾‾‾‾‾‾
+
+",
+    ),
+    (
+        0,
+        &LEAST_RULE_NAMED,
+        1,
+        (ADS | AERR, 0, 0),
+        "
+
+            0   1*
+  ADS#    ‾‾‾‾\\___
+  AERR#   ‾‾‾‾\\___
+
+",
+    ),
+    (
+        0,
+        &[(BREQ1, 0, 0), (BREQ1, 0, 0), (BREQ1 | ADS, 0x6, 0x8)],
+        3,
+        (0, 0x2, 0x2),
+        "
+
+            0   1   2   3*
+  BREQ0#  ‾‾‾‾‾‾‾‾‾‾‾‾‾‾‾‾
+  BREQ1#  \\___________/‾‾‾
+  BREQ2#  ‾‾‾‾‾‾‾‾‾‾‾‾‾‾‾‾
+  BREQ3#  ‾‾‾‾‾‾‾‾‾‾‾‾‾‾‾‾
+  BPRI#   ‾‾‾‾‾‾‾‾‾‾‾‾‾‾‾‾
+  LOCK#   ‾‾‾‾‾‾‾‾‾‾‾‾‾‾‾‾
+  ADS#    ‾‾‾‾‾‾‾‾\\___/‾‾‾
+  A                40  10
+
+",
+    ),
+    (
+        0,
+        &[],
+        2,
+        (DBSY, 0, 0),
+        "
+
+            0   1   2*
+  ADS#    ‾‾‾‾‾‾‾‾‾‾‾‾
+  RS#     ‾‾‾‾‾‾‾‾‾‾‾‾
+  DBSY#   ‾‾‾‾‾‾‾‾\\___
+  DRDY#   ‾‾‾‾‾‾‾‾‾‾‾‾
+
+",
+    ),
+];
+
+#[test]
+fn reports_draw_the_lines_that_reasons_speak_of(rt: HostRuntime) {
+    for (at, row) in DRAWN.iter().enumerate() {
         assert!(rt; matches!(is_shown(rt.alloc(), row), Ok(true)), "row {at}");
     }
 }

@@ -6,9 +6,6 @@ use fsb_signal::{Lines, Sample, control_line};
 use scope_ring::Ring;
 use std::alloc::{AllocError, Global};
 
-/// The number of ADS#.
-const ADS: usize = 7;
-
 /// What a line has at a clock; it is low where it is asserted.
 #[derive(Clone, Copy, PartialEq, Eq)]
 enum Level {
@@ -20,27 +17,8 @@ enum Level {
 /// What is drawn of the lines of a response: their code, where it is known.
 const RESPONSE: [Lines; 3] = [Lines::RS2, Lines::RS1, Lines::RS0];
 
-/// Appends a row for each of these control lines that is asserted or unknown at a drawn clock, and for ADS#.
-pub(crate) fn put_lines(
-    text: &mut Vec<u8>,
-    alloc: Global,
-    ring: &Ring,
-    span: Span,
-    numbers: &[usize],
-) -> Result<(), AllocError> {
-    for number in numbers {
-        if *number < 21 {
-            let (name, line) = control_line(*number);
-            if *number == ADS || is_seen(ring, span, line) {
-                put_line(text, alloc, ring, span, name, line)?;
-            }
-        }
-    }
-    Ok(())
-}
-
-// Whether the line is asserted or unknown at a drawn clock.
-fn is_seen(ring: &Ring, span: Span, line: Lines) -> bool {
+/// Whether the line is asserted or unknown at a drawn clock.
+pub(crate) fn is_line_seen(ring: &Ring, span: Span, line: Lines) -> bool {
     for place in 0..span.count {
         if level_of(ring.sample_at(span.clock(place)), line) != Level::High {
             return true;
@@ -66,15 +44,15 @@ fn level_in(sample: &Sample, line: Lines) -> Level {
     }
 }
 
-fn put_line(
+/// Appends the row of a control line.
+pub(crate) fn put_line(
     text: &mut Vec<u8>,
     alloc: Global,
     ring: &Ring,
     span: Span,
-    name: &str,
     line: Lines,
 ) -> Result<(), AllocError> {
-    put_head(text, alloc, name)?;
+    put_head(text, alloc, name_of(line))?;
     let mut before = level_of(sample_before(ring, span.from), line);
     for place in 0..span.count {
         let now = level_of(ring.sample_at(span.clock(place)), line);
@@ -82,6 +60,16 @@ fn put_line(
         before = now;
     }
     put(text, "\n")
+}
+
+// The name of a control line.
+fn name_of(line: Lines) -> &'static str {
+    let number = line.0.trailing_zeros() as usize;
+    if number < 21 {
+        control_line(number).0
+    } else {
+        ""
+    }
 }
 
 // The beginning of a row, up to its first cell.
@@ -113,22 +101,23 @@ fn cell(before: Level, now: Level) -> &'static str {
     }
 }
 
-/// Appends the row of RS#, where a response comes or is unknown at a drawn clock.
+/// Whether a line of the response is asserted or unknown at a drawn clock.
+pub(crate) fn is_response_seen(ring: &Ring, span: Span) -> bool {
+    for line in RESPONSE.iter() {
+        if is_line_seen(ring, span, *line) {
+            return true;
+        }
+    }
+    false
+}
+
+/// Appends the row of RS#.
 pub(crate) fn put_response(
     text: &mut Vec<u8>,
     alloc: Global,
     ring: &Ring,
     span: Span,
 ) -> Result<(), AllocError> {
-    for line in RESPONSE.iter() {
-        if is_seen(ring, span, *line) {
-            return put_codes(text, alloc, ring, span);
-        }
-    }
-    Ok(())
-}
-
-fn put_codes(text: &mut Vec<u8>, alloc: Global, ring: &Ring, span: Span) -> Result<(), AllocError> {
     put_head(text, alloc, "RS")?;
     let mut before = response_level(sample_before(ring, span.from));
     for place in 0..span.count {

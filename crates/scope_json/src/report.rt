@@ -11,8 +11,10 @@ use crate::lines::{lines_beside, lines_value};
 use crate::parts::{parts_value, verdict_word};
 use crate::places::{put_place, unit_name};
 use crate::text::text_value;
+use fsb_recent::Around;
 use reason_facts::{maybe, put_count, put_flag, put_word};
 use reason_texts::Sentence;
+use request_facts::put_requests;
 use scope_parts::PartsFound;
 use scope_pick::Variable;
 use scope_report::{Ending, ending_of, status, verdict_over};
@@ -38,6 +40,10 @@ pub struct Judging<'a> {
     pub told: &'a JudgedText,
     /// The reasons of the first broken clock.
     pub reasons: &'a [Sentence],
+    /// The requests around that clock.
+    pub around: &'a Around,
+    /// How many clocks of the dump come before those of these requests.
+    pub before: u32,
     /// The ways in which a rejected dump gets further.
     pub hints: &'a [Hint],
 }
@@ -76,6 +82,7 @@ fn report_value(alloc: Global, judging: &Judging<'_>) -> Result<Value, AllocErro
     let faults = found.faults.as_slice();
     let findings = findings_value(alloc, faults, scale, judging.reasons)?;
     put(&mut object, alloc, "findings", findings)?;
+    put_requests(&mut object, alloc, judging.before, judging.around)?;
     put(
         &mut object,
         alloc,

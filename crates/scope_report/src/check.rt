@@ -3,7 +3,7 @@
 use crate::lines::put_home;
 use crate::notices::{put_cut_comment, put_limit_behind, put_lost_levels, put_traffic};
 use crate::parts::{put_behind, put_holes, put_parts, put_starts};
-use crate::reasons::{Grounds, put_reasons};
+use crate::reasons::{Grounds, named_by, put_reasons};
 use crate::rules::{put_gist, title_of};
 use crate::scale::time_of;
 use crate::scopes::Heading;
@@ -128,7 +128,7 @@ fn put_found(
             put_rule(text, rule)?;
             put_traffic(text, found, last)?;
             grounds.put_requests(text, alloc)?;
-            put_drawing(text, alloc, clock, last)
+            put_drawing(text, alloc, clock, last, grounds)
         }
     }
 }
@@ -163,14 +163,16 @@ pub(crate) fn put_rule(text: &mut Vec<u8>, rule: u8) -> Result<(), AllocError> {
     put(text, " prints this rule\n")
 }
 
-// The lines around the broken clock.
+// The lines around the broken clock: those that its reasons speak of, and all that are seen where there is none.
 fn put_drawing(
     text: &mut Vec<u8>,
     alloc: Global,
     clock: u64,
     last: &Ring,
+    grounds: &Grounds,
 ) -> Result<(), AllocError> {
-    let rows = drawing(alloc, last, clock)?;
+    let named = named_by(&grounds.sentences);
+    let rows = drawing(alloc, last, clock, named.as_ref())?;
     put(text, "\n")?;
     text.extend_from_slice(&rows)?;
     put(text, "\n")

@@ -4,7 +4,8 @@
 //! picked and what helps, `fault_text` and its siblings why a dump was not read. Nothing is read here. `status` is the
 //! exit status: 0 only where a clock was judged and no rule is broken, or where what was asked for was printed.
 //!
-//! The line of a verdict has its text in `specs/`; the other texts are tested, in rows_program.
+//! The line of a verdict has its text in `specs/`, and so has which lines are drawn (`named_by`); the other texts are
+//! tested, in rows_program.
 //!
 //! Next: scope_wiring and scope_parts, whose answers these are.
 #![tactic(auto)]
@@ -14,7 +15,7 @@ pub use coherence::{CoherenceTold, coherence_text};
 pub use ending::{Ending, ending_of, status};
 pub use fault::{fault_text, limit_text, unread_text, unscaled_text};
 pub use lines::lines_text;
-pub use reasons::Grounds;
+pub use reasons::{Grounds, named_by};
 pub use refusal::refusal_text;
 pub use rules::{rule_list, rule_text};
 pub use verdict::{put_verdict, verdict_over};

@@ -1,8 +1,12 @@
 //! Why rules are broken at the first broken clock.
 
+ghost use Rattle.std.specs.Prelude.{◌≡◌};
+ghost use Rattle.scope_report.specs.Grounds.{lines_named, named_by};
+
 use crate::rules::title_of;
 use crate::text::put;
 use fsb_recent::Around;
+use reason_lines::{NamedLines, lines_of};
 use reason_texts::Sentence;
 use request_texts::put_around;
 use std::alloc::{AllocError, Global};
@@ -34,6 +38,28 @@ impl Grounds {
     /// Appends the requests around the clock, if there are any.
     pub(crate) fn put_requests(&self, text: &mut Vec<u8>, alloc: Global) -> Result<(), AllocError> {
         put_around(text, alloc, &self.around, self.before)
+    }
+}
+
+/// All lines of which one of the reasons speaks.
+fn lines_named(reasons: &[Sentence]) -> NamedLines
+    ensures { result ≡ lines_named reasons.now }
+{
+    let mut named = NamedLines::none();
+    for reason in reasons {
+        named = named.both(lines_of(&reason.reason));
+    }
+    named
+}
+
+/// The lines that are drawn of a broken clock with these reasons, if there are any.
+#[tactic(auto, unfolding(crate::specs::Grounds::named_by))]
+pub fn named_by(reasons: &[Sentence]) -> Option<NamedLines>
+    ensures { result ≡ named_by reasons.now }
+{
+    match reasons.first() {
+        None => None,
+        Some(_) => Some(lines_named(reasons)),
     }
 }
 

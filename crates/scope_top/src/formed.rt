@@ -98,6 +98,8 @@ fn object_text(alloc: Global, report: &Report<'_>) -> Result<Vec<u8>, AllocError
                 wiring,
                 told,
                 reasons: report.grounds.sentences.as_slice(),
+                around: &report.grounds.around,
+                before: report.grounds.before,
                 hints: report.hints,
             },
         ),
