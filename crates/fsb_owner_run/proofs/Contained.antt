@@ -1,6 +1,6 @@
 -- The joint state of a line in a timely run is, clock by clock, one of those that the wires leave.
 use Rattle.std.proofs.Common.{ℕ, zero, suc, ◌+◌, ◌≡◌, Bool, true, false, ◌&&◌, not, nat_eq}
-use Rattle.std.proofs.Common.{List, [], ◌∷◌, Option, Some, None, refl, sym, ap, subst, ◌∙◌, add-one, arith, inl, inr}
+use Rattle.std.proofs.Common.{List, Option, Some, None, refl, sym, ap, subst, ◌∙◌, add-one, arith, inl, inr}
 use Rattle.std.specs.List.{Contains}
 use Rattle.std.specs.Option.{option_and_then}
 use Rattle.std.proofs.lemmas.Bool.{eqb-true, false_from_ne_true}
@@ -309,27 +309,27 @@ clock-leads r line n set h c =
     (λ a l. hits-moved r a line n (k.0 a) h (k.1.leads a))
     (k.1.left begun (begin-leaves r line n set now c))
 
--- so it is possible at each clock
-pub contained : (r : Run) (line n : ℕ) → Reaches r (n + 1)
-    → Contains (possible (unheld ∷ []) r.trace line n) (joint_at (past_of r) line n)
+-- so it is possible at each clock, where empty caches are possible at first
+pub contained : (first : List Joint) (r : Run) (line n : ℕ) → Contains first unheld → Reaches r (n + 1)
+    → Contains (possible first r.trace line n) (joint_at (past_of r) line n)
 unfolding possible
-contained r line zero h = (0, omega arith, sym (first-joint (past_of r) line))
-contained r line (suc n) h =
+contained first r line zero empty h = subst (λ x. Contains first x) (sym (first-joint (past_of r) line)) empty
+contained first r line (suc n) empty h =
     let long = h.long in
     let before : Reaches r (n + 1) = record { timely = h.timely; bounds = h.bounds; long = omega arith } in
     let now : Reaches r (n + 2) = record { timely = h.timely; bounds = h.bounds; long = omega arith } in
     let next : n + 1 ≡ suc n = add-one n in
-    subst (λ m. Contains (after_clock r.trace line n (possible (unheld ∷ []) r.trace line n)) (joint_at (past_of r) line m))
-    next (clock-leads r line n (possible (unheld ∷ []) r.trace line n) now (contained r line n before))
+    subst (λ m. Contains (after_clock r.trace line n (possible first r.trace line n)) (joint_at (past_of r) line m)) next
+    (clock-leads r line n (possible first r.trace line n) now (contained first r line n empty before))
 
-pub contained-begun : (r : Run) (line n : ℕ) → Reaches r (n + 1)
-    → Contains (possible_begun (unheld ∷ []) r.trace line n) (joint_at (past_of r) line n)
+pub contained-begun : (first : List Joint) (r : Run) (line n : ℕ) → Contains first unheld → Reaches r (n + 1)
+    → Contains (possible_begun first r.trace line n) (joint_at (past_of r) line n)
 unfolding possible_begun
-contained-begun r line n h =
-    begin-leaves r line n (possible (unheld ∷ []) r.trace line n) h (contained r line n h)
+contained-begun first r line n empty h =
+    begin-leaves r line n (possible first r.trace line n) h (contained first r line n empty h)
 
-pub contained-shown : (r : Run) (line n : ℕ) → Reaches r (n + 1)
-    → Contains (possible_shown (unheld ∷ []) r.trace line n) (joint_at (past_of r) line n)
+pub contained-shown : (first : List Joint) (r : Run) (line n : ℕ) → Contains first unheld → Reaches r (n + 1)
+    → Contains (possible_shown first r.trace line n) (joint_at (past_of r) line n)
 unfolding possible_shown
-contained-shown r line n h =
-    answer-leaves r line n (possible_begun (unheld ∷ []) r.trace line n) h (contained-begun r line n h)
+contained-shown first r line n empty h =
+    answer-leaves r line n (possible_begun first r.trace line n) h (contained-begun first r line n empty h)

@@ -1,5 +1,5 @@
 -- Rule 22: an owner writes a line back, and in its turn.
-use Rattle.std.proofs.Common.{ℕ, ◌+◌, ◌<◌, ◌≡◌, Bool, true, false, ◌&&◌, ◌||◌, not, Option, Some, None}
+use Rattle.std.proofs.Common.{ℕ, ◌+◌, ◌<◌, ◌≡◌, Bool, true, false, ◌&&◌, ◌||◌, not, Option, Some, None, List}
 use Rattle.std.proofs.Common.{refl, ap, subst, ◌∙◌, arith}
 use Rattle.std.proofs.lemmas.Bool.{and_from, and_parts, both_ways, eqb-true, false_from_ne_true, lt-ltb}
 use Rattle.std.proofs.lemmas.Bool.{not-true}
@@ -30,12 +30,14 @@ use Rattle.fsb_coherent.specs.Relation.{IsOpen, is_cancelled_below, is_snooped_b
 use Rattle.fsb_tied.proofs.Interface.{begun-want, cancels}
 use Rattle.fsb_tied.proofs.SnoopOpen.{wanted-then}
 use Rattle.fsb_run_laws.specs.Reaches.{Reaches}
+use Rattle.std.specs.List.{Contains}
+use Rattle.fsb_owners.specs.Joint.{Joint, unheld}
 use Rattle.fsb_owners.specs.Rules.{is_begun_unfit, is_write_back_purpose, is_write_back_unfit}
 use Rattle.fsb_owners.specs.Shown.{agent_at, is_held_back, is_open_at, names, purpose_at}
 use Rattle.fsb_owner_laws.proofs.BrokenRules.{named}
 use Rattle.fsb_owner_run.proofs.Begun.{asked-as}
 use Rattle.fsb_owner_run.proofs.Claims.{shown-begun}
-use Rattle.fsb_owner_run.proofs.Unbroken.{Empty, begun-fit, no-decoding}
+use Rattle.fsb_owner_run.proofs.Unbroken.{begun-fit, no-decoding}
 
 -- a request that names a line is a symmetric agent's
 agent-by : (w : Trace) (q line : ℕ) (o : Option Who) → winner_at w q ≡ o → line_of w q ≡ Some line
@@ -131,16 +133,16 @@ both-off : (a b c : Bool) → (a ≡ true → b ≡ false) → (a ≡ true → c
 both-off true b c f g = rw (f refl, g refl) refl
 both-off false b c f g = refl
 
-pub write-backs-fit : (r : Run) (c : ℕ) → Reaches r (c + 1) → is_write_back_unfit Empty r.trace c ≡ false
+pub write-backs-fit : (first : List Joint) (r : Run) (c : ℕ) → Contains first unheld → Reaches r (c + 1) → is_write_back_unfit first r.trace c ≡ false
 unfolding is_write_back_unfit
-write-backs-fit r c h =
+write-backs-fit first r c empty h =
     let w = r.trace in
     no-decoding r c (λ q line a. is_some_and (purpose_at w q) is_write_back_purpose
-    && (is_begun_unfit Empty is_write_back_purpose w q line || is_held_back w line a q)) h (λ q line a same shown agent.
+    && (is_begun_unfit first is_write_back_purpose w q line || is_held_back w line a q)) h (λ q line a same shown agent.
     let long = h.long in
     let before : Reaches r (q + 1) = record { timely = h.timely; bounds = h.bounds; long = omega arith } in
-    both-off (is_some_and (purpose_at w q) is_write_back_purpose) (is_begun_unfit Empty is_write_back_purpose w q line)
-    (is_held_back w line a q) (λ t. begun-fit r line q is_write_back_purpose before) (λ t.
+    both-off (is_some_and (purpose_at w q) is_write_back_purpose) (is_begun_unfit first is_write_back_purpose w q line)
+    (is_held_back w line a q) (λ t. begun-fit first r line q is_write_back_purpose empty before) (λ t.
     let kind = some-and (purpose_at w q) is_write_back_purpose t in
     never-held-back r line a q before shown agent
     (kind.1 ∙ ap (λ x. Some x) (write-back-is kind.0 kind.2))))

@@ -1,7 +1,8 @@
 -- A timely run breaks none of the rules of ownership.
 use Rattle.std.proofs.Common.{ℕ, ◌+◌, ◌-◌, ◌<◌, ◌≡◌, Bool, true, false, ◌&&◌, nat_lt}
-use Rattle.std.proofs.Common.{List, [], ◌∷◌, Some, arith, inl, inr}
+use Rattle.std.proofs.Common.{List, Some, arith, inl, inr}
 use Rattle.std.proofs.lemmas.Bool.{and_parts, both_ways, false_from_ne_true, ltb-true, or_cases}
+use Rattle.std.specs.List.{Contains}
 use Rattle.fsb_count.specs.Options.{is_some_and}
 use Rattle.fsb_lawful.proofs.Interface.{some-and}
 use Rattle.fsb_line.specs.declared.purpose.Purpose.{Purpose}
@@ -20,56 +21,58 @@ use Rattle.fsb_owner_run.proofs.Contained.{contained-begun, contained-shown}
 use Rattle.fsb_owner_run.proofs.Sets.{some_left}
 use Rattle.fsb_owner_run.proofs.States.{joint_at}
 
--- empty caches at first
-abbrev pub Empty : List Joint
-Empty = unheld ∷ []
-
 -- a request that begins leaves a joint state
-pub begun-fit : (r : Run) (line q : ℕ) (is_kind : Purpose → Bool) → Reaches r (q + 1)
-    → is_begun_unfit Empty is_kind r.trace q line ≡ false
+pub begun-fit : (first : List Joint) (r : Run) (line q : ℕ) (is_kind : Purpose → Bool)
+    → Contains first unheld → Reaches r (q + 1)
+    → is_begun_unfit first is_kind r.trace q line ≡ false
 unfolding is_begun_unfit
-begun-fit r line q is_kind h =
-    let left = some_left (possible_begun Empty r.trace line q) (joint_at (past_of r) line q) (contained-begun r line q h) in
+begun-fit first r line q is_kind empty h =
+    let left = some_left (possible_begun first r.trace line q) (joint_at (past_of r) line q) (contained-begun first r line q empty h) in
     false_from_ne_true _ (λ t.
-    let none = and_parts _ (is_none_left (possible_begun Empty r.trace line q)) t in
-    both_ways (is_none_left (possible_begun Empty r.trace line q)) left none.1)
+    let none = and_parts _ (is_none_left (possible_begun first r.trace line q)) t in
+    both_ways (is_none_left (possible_begun first r.trace line q)) left none.1)
 
 -- and so does a snoop end
-answer-fit : (r : Run) (line s : ℕ) → Reaches r (s + 1) → is_answer_unfit Empty r.trace s line ≡ false
+answer-fit : (first : List Joint) (r : Run) (line s : ℕ)
+    → Contains first unheld → Reaches r (s + 1)
+    → is_answer_unfit first r.trace s line ≡ false
 unfolding is_answer_unfit
-answer-fit r line s h =
-    let left = some_left (possible_shown Empty r.trace line s) (joint_at (past_of r) line s) (contained-shown r line s h) in
+answer-fit first r line s empty h =
+    let left = some_left (possible_shown first r.trace line s) (joint_at (past_of r) line s) (contained-shown first r line s empty h) in
     false_from_ne_true _ (λ t.
-    let none = and_parts _ (is_none_left (possible_shown Empty r.trace line s)) t in
-    both_ways (is_none_left (possible_shown Empty r.trace line s)) left none.1)
+    let none = and_parts _ (is_none_left (possible_shown first r.trace line s)) t in
+    both_ways (is_none_left (possible_shown first r.trace line s)) left none.1)
 
-no-answer : (r : Run) (s : ℕ) (test : ℕ → ℕ → ℕ → Bool) → Reaches r (s + 1) → of_answer Empty r.trace s test ≡ false
+no-answer : (first : List Joint) (r : Run) (s : ℕ) (test : ℕ → ℕ → ℕ → Bool)
+    → Contains first unheld → Reaches r (s + 1)
+    → of_answer first r.trace s test ≡ false
 unfolding of_answer
-no-answer r s test h =
+no-answer first r s test empty h =
     let w = r.trace in
     false_from_ne_true _ (λ t.
     let j = some-and (snooped_at w s) (λ j. is_some_and (origin_clock_of w j) (λ q. of_request w q (λ line a.
-    is_answer_unfit Empty w s line && test j line a))) t in
+    is_answer_unfit first w s line && test j line a))) t in
     let q = some-and (origin_clock_of w j.0) (λ q. of_request w q (λ line a.
-    is_answer_unfit Empty w s line && test j.0 line a)) j.2 in
-    let k = request-parts w q.0 (λ line a. is_answer_unfit Empty w s line && test j.0 line a) q.2 in
-    let unfit = and_parts (is_answer_unfit Empty w s k.line) (test j.0 k.line k.agent) k.passes in
-    both_ways (is_answer_unfit Empty w s k.line) (answer-fit r k.line s h) unfit.0)
+    is_answer_unfit first w s line && test j.0 line a)) j.2 in
+    let k = request-parts w q.0 (λ line a. is_answer_unfit first w s line && test j.0 line a) q.2 in
+    let unfit = and_parts (is_answer_unfit first w s k.line) (test j.0 k.line k.agent) k.passes in
+    both_ways (is_answer_unfit first w s k.line) (answer-fit first r k.line s empty h) unfit.0)
 
-no-answer-at : (r : Run) (c : ℕ) (test : ℕ → ℕ → ℕ → ℕ → Bool) → Reaches r (c + 1)
-    → at_answer Empty r.trace c test ≡ false
+no-answer-at : (first : List Joint) (r : Run) (c : ℕ) (test : ℕ → ℕ → ℕ → ℕ → Bool)
+    → Contains first unheld → Reaches r (c + 1)
+    → at_answer first r.trace c test ≡ false
 unfolding at_answer
-no-answer-at r c test h =
+no-answer-at first r c test empty h =
     let w = r.trace in
     let long = h.long in
     false_from_ne_true _ (λ t.
-    elim (or_cases (of_answer Empty w c (test c)) (nat_lt 0 c && of_answer Empty w (c - 1) (test (c - 1))) t) [
-      | inl here ↦ both_ways (of_answer Empty w c (test c)) (no-answer r c (test c) h) here
+    elim (or_cases (of_answer first w c (test c)) (nat_lt 0 c && of_answer first w (c - 1) (test (c - 1))) t) [
+      | inl here ↦ both_ways (of_answer first w c (test c)) (no-answer first r c (test c) empty h) here
       | inr before ↦
-          let p = and_parts (nat_lt 0 c) (of_answer Empty w (c - 1) (test (c - 1))) before in
+          let p = and_parts (nat_lt 0 c) (of_answer first w (c - 1) (test (c - 1))) before in
           let later : 0 < c = ltb-true 0 c p.0 in
           let earlier : Reaches r (c - 1 + 1) = record { timely = h.timely; bounds = h.bounds; long = omega arith } in
-          both_ways (of_answer Empty w (c - 1) (test (c - 1))) (no-answer r (c - 1) (test (c - 1)) earlier) p.1
+          both_ways (of_answer first w (c - 1) (test (c - 1))) (no-answer first r (c - 1) (test (c - 1)) empty earlier) p.1
     ])
 
 pub no-decoding : (r : Run) (c : ℕ) (test : ℕ → ℕ → ℕ → Bool) → Reaches r (c + 1)
@@ -82,38 +85,52 @@ no-decoding r c test h none =
     let below = k.0 in
     both_ways (test (c - 1) d.line d.agent) (none (c - 1) d.line d.agent (omega arith) d.names_line d.is_agent) d.passes)
 
-pub upgrades-fit : (r : Run) (c : ℕ) → Reaches r (c + 1) → is_upgrade_unfit Empty r.trace c ≡ false
+pub upgrades-fit : (first : List Joint) (r : Run) (c : ℕ)
+    → Contains first unheld → Reaches r (c + 1)
+    → is_upgrade_unfit first r.trace c ≡ false
 unfolding is_upgrade_unfit
-upgrades-fit r c h =
-    no-decoding r c (λ q line a. is_begun_unfit Empty upgrades r.trace q line) h (λ q line a same shown agent.
+upgrades-fit first r c empty h =
+    no-decoding r c (λ q line a. is_begun_unfit first upgrades r.trace q line) h (λ q line a same shown agent.
     let long = h.long in
     let before : Reaches r (q + 1) = record { timely = h.timely; bounds = h.bounds; long = omega arith } in
-    begun-fit r line q upgrades before)
+    begun-fit first r line q upgrades empty before)
 
-pub never-in-vain : (r : Run) (c : ℕ) → Reaches r (c + 1) → is_asked_in_vain Empty r.trace c ≡ false
+pub never-in-vain : (first : List Joint) (r : Run) (c : ℕ)
+    → Contains first unheld → Reaches r (c + 1)
+    → is_asked_in_vain first r.trace c ≡ false
 unfolding is_asked_in_vain
-never-in-vain r c h =
-    no-decoding r c (λ q line a. is_begun_unfit Empty gets_line r.trace q line) h (λ q line a same shown agent.
+never-in-vain first r c empty h =
+    no-decoding r c (λ q line a. is_begun_unfit first gets_line r.trace q line) h (λ q line a same shown agent.
     let long = h.long in
     let before : Reaches r (q + 1) = record { timely = h.timely; bounds = h.bounds; long = omega arith } in
-    begun-fit r line q gets_line before)
+    begun-fit first r line q gets_line empty before)
 
-pub owners-there : (r : Run) (c : ℕ) → Reaches r (c + 1) → is_owner_lacking Empty r.trace c ≡ false
+pub owners-there : (first : List Joint) (r : Run) (c : ℕ)
+    → Contains first unheld → Reaches r (c + 1)
+    → is_owner_lacking first r.trace c ≡ false
 unfolding is_owner_lacking
-owners-there r c h = no-answer-at r c _ h
+owners-there first r c empty h = no-answer-at first r c _ empty h
 
-pub owners-told : (r : Run) (c : ℕ) → Reaches r (c + 1) → is_owner_silent Empty r.trace c ≡ false
+pub owners-told : (first : List Joint) (r : Run) (c : ℕ)
+    → Contains first unheld → Reaches r (c + 1)
+    → is_owner_silent first r.trace c ≡ false
 unfolding is_owner_silent
-owners-told r c h = no-answer-at r c _ h
+owners-told first r c empty h = no-answer-at first r c _ empty h
 
-pub holders-told : (r : Run) (c : ℕ) → Reaches r (c + 1) → is_holder_silent Empty r.trace c ≡ false
+pub holders-told : (first : List Joint) (r : Run) (c : ℕ)
+    → Contains first unheld → Reaches r (c + 1)
+    → is_holder_silent first r.trace c ≡ false
 unfolding is_holder_silent
-holders-told r c h = no-answer-at r c _ h
+holders-told first r c empty h = no-answer-at first r c _ empty h
 
-pub holders-there : (r : Run) (c : ℕ) → Reaches r (c + 1) → is_holder_lacking Empty r.trace c ≡ false
+pub holders-there : (first : List Joint) (r : Run) (c : ℕ)
+    → Contains first unheld → Reaches r (c + 1)
+    → is_holder_lacking first r.trace c ≡ false
 unfolding is_holder_lacking
-holders-there r c h = no-answer-at r c _ h
+holders-there first r c empty h = no-answer-at first r c _ empty h
 
-pub written-kept : (r : Run) (c : ℕ) → Reaches r (c + 1) → is_written_when_lost Empty r.trace c ≡ false
+pub written-kept : (first : List Joint) (r : Run) (c : ℕ)
+    → Contains first unheld → Reaches r (c + 1)
+    → is_written_when_lost first r.trace c ≡ false
 unfolding is_written_when_lost
-written-kept r c h = no-answer-at r c _ h
+written-kept first r c empty h = no-answer-at first r c _ empty h

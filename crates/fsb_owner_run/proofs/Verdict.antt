@@ -1,10 +1,10 @@
 -- No rule of ownership is broken at any clock of a timely run: the verdict on its trace is none.
 use Rattle.std.proofs.Common.{ℕ, zero, suc, ◌+◌, ◌-◌, ◌<◌, ◌≡◌, Bool, true, false, ◌&&◌, not, nat_le, nat_lt, is_some, length}
-use Rattle.std.proofs.Common.{List, [], ◌∷◌, None, refl, sym, ap, arith, slice_get, take}
-use Rattle.std.specs.List.{list_all}
+use Rattle.std.proofs.Common.{List, [], ◌∷◌, None, refl, sym, ap, arith, slice_get, take, subst}
+use Rattle.std.specs.List.{Contains, list_all, list_any}
 use Rattle.std.specs.Option.{option_and_then, option_map}
 use Rattle.std.proofs.lemmas.Bool.{and_parts, both_ways, false_from_ne_true, ltb-true}
-use Rattle.fsb_count.specs.Clocks.{first_where}
+use Rattle.fsb_count.specs.Clocks.{all_where, first_where}
 use Rattle.fsb_count.specs.Options.{is_some_and}
 use Rattle.fsb_count.proofs.Interface.{first_where-off}
 use Rattle.fsb_trace.specs.At.{Trace}
@@ -14,14 +14,15 @@ use Rattle.fsb_lawful.specs.Beginning.{KeepsBounds}
 use Rattle.fsb_lawful.proofs.CutRuns.{run-twice}
 use Rattle.fsb_lawful.proofs.Interface.{length-cut}
 use Rattle.fsb_run_laws.specs.Reaches.{Reaches}
-use Rattle.fsb_owners.specs.Joint.{Joint}
+use Rattle.fsb_owners.specs.Joint.{Joint, alone, every_joint, is_same_joint, is_same_state, sharing, unheld}
+use Rattle.fsb_owner_laws.proofs.Quiet.{any_found, same_joints}
 use Rattle.fsb_owners.specs.Least.{is_some_broken, least_at, least_broken}
 use Rattle.fsb_owners.specs.Rules.{is_ownership_broken, ownership_rules, ownership_verdict}
 use Rattle.fsb_owner_run.proofs.Answered.{hits-repeated, never-given-again}
 use Rattle.fsb_owner_run.proofs.AskedOnce.{never-twice}
 use Rattle.fsb_owner_run.proofs.Cut.{cut-timely}
 use Rattle.fsb_owner_run.proofs.HeldBack.{write-backs-fit}
-use Rattle.fsb_owner_run.proofs.Unbroken.{Empty, holders-there, holders-told, never-in-vain, owners-there, owners-told}
+use Rattle.fsb_owner_run.proofs.Unbroken.{holders-there, holders-told, never-in-vain, owners-there, owners-told}
 use Rattle.fsb_owner_run.proofs.Unbroken.{upgrades-fit, written-kept}
 
 -- the run up to one of its clocks
@@ -63,33 +64,33 @@ none-passes (rule ∷ rules) v c zero e =
 none-passes (rule ∷ rules) v c (suc k) e =
     let p = and_parts (not (rule v c)) (list_all (λ rule. not (rule v c)) rules) e in none-passes rules v c k p.1
 
-all-kept : (r : Run) (c : ℕ) → Reaches r (c + 1) → run_to r c ≡ r → c + 1 ≡ length r.trace
-    → list_all (λ rule. not (rule r.trace c)) (ownership_rules Empty) ≡ true
+all-kept : (first : List Joint) (r : Run) (c : ℕ) → Contains first unheld → Reaches r (c + 1) → run_to r c ≡ r → c + 1 ≡ length r.trace
+    → list_all (λ rule. not (rule r.trace c)) (ownership_rules first) ≡ true
 unfolding ownership_rules
-all-kept r c h run size =
+all-kept first r c empty h run size =
     rw (
-      never-twice Empty r c h,
-      write-backs-fit r c h,
-      upgrades-fit r c h,
-      never-in-vain r c h,
-      owners-there r c h,
-      owners-told r c h,
-      holders-told r c h,
-      holders-there r c h,
-      written-kept r c h,
-      hits-repeated Empty r c h run,
-      never-given-again Empty r c (c + 1) h size,
+      never-twice first r c h,
+      write-backs-fit first r c empty h,
+      upgrades-fit first r c empty h,
+      never-in-vain first r c empty h,
+      owners-there first r c empty h,
+      owners-told first r c empty h,
+      holders-told first r c empty h,
+      holders-there first r c empty h,
+      written-kept first r c empty h,
+      hits-repeated first r c h run,
+      never-given-again first r c (c + 1) h size,
     ) refl
 
 -- no rule is broken at any clock
-pub unbroken : (r : Run) (c j : ℕ) → Timely r → KeepsBounds r.plan → is_ownership_broken Empty r.trace c j ≡ false
+pub unbroken : (first : List Joint) (r : Run) (c j : ℕ) → Contains first unheld → Timely r → KeepsBounds r.plan → is_ownership_broken first r.trace c j ≡ false
 unfolding run_to
-unbroken r c j h bounds =
+unbroken first r c j empty h bounds =
     false_from_ne_true _ (λ t.
-    let p = rule-parts Empty r.trace c j t in
+    let p = rule-parts first r.trace c j t in
     let v = run_to r c in
-    let kept = all-kept v c (cut-reaches r c h bounds p.0) (run-twice r c c (omega arith)) (sym (length-cut r c p.0)) in
-    both_ways _ (none-passes (ownership_rules Empty) v.trace c (j - 21) kept) p.1)
+    let kept = all-kept first v c empty (cut-reaches r c h bounds p.0) (run-twice r c c (omega arith)) (sym (length-cut r c p.0)) in
+    both_ways _ (none-passes (ownership_rules first) v.trace c (j - 21) kept) p.1)
 
 none-least : (p : ℕ → ℕ → Bool) (m n : ℕ) → ((c j : ℕ) → p c j ≡ false) → least_broken p m n ≡ None
 unfolding least_broken is_some_broken least_at
@@ -99,7 +100,26 @@ none-least p m n h =
     ap is_some (first_where-off (p c) m (λ j k. h c j))))
 
 -- so the verdict of ownership is none
-pub none-broken : (r : Run) → Timely r → KeepsBounds r.plan → ownership_verdict Empty r.trace ≡ None
+pub none-broken : (first : List Joint) (r : Run) → Contains first unheld → Timely r → KeepsBounds r.plan → ownership_verdict first r.trace ≡ None
 unfolding ownership_verdict
-none-broken r h bounds =
-    none-least (is_ownership_broken Empty r.trace) 32 (length r.trace) (λ c j. unbroken r c j h bounds)
+none-broken first r empty h bounds =
+    none-least (is_ownership_broken first r.trace) 32 (length r.trace) (λ c j. unbroken first r c j empty h bounds)
+
+-- empty caches are possible where nothing else is, and where nothing is known
+pub from-empty : Contains (unheld ∷ []) unheld
+from-empty = (0, omega arith, refl)
+
+there-computed : list_any (is_same_joint unheld) every_joint ≡ true
+unfolding is_same_joint is_same_state every_joint sharing alone all_where unheld
+there-computed = refl
+
+pub from-any : Contains every_joint unheld
+from-any =
+    let f = any_found (is_same_joint unheld) every_joint there-computed in
+    subst (λ x. Contains every_joint x) (sym (same_joints unheld f.0 f.2)) f.1
+
+pub none-broken-empty : (r : Run) → Timely r → KeepsBounds r.plan → ownership_verdict (unheld ∷ []) r.trace ≡ None
+none-broken-empty r h bounds = none-broken (unheld ∷ []) r from-empty h bounds
+
+pub none-broken-unknown : (r : Run) → Timely r → KeepsBounds r.plan → ownership_verdict every_joint r.trace ≡ None
+none-broken-unknown r h bounds = none-broken every_joint r from-any h bounds

@@ -1,11 +1,12 @@
 //! Laws over the definitions: no code.
 
 ghost use Rattle.std.specs.Prelude.{◌≡◌, ◌∷◌, [], ℕ, List, None, false};
+ghost use Rattle.std.specs.List.{Contains};
 ghost use Rattle.fsb_signal.specs.Parity.{marks_in};
 ghost use Rattle.fsb_timely.specs.Runs.{Run};
 ghost use Rattle.fsb_timely.specs.Timely.{Timely};
 ghost use Rattle.fsb_lawful.specs.Beginning.{KeepsBounds};
-ghost use Rattle.fsb_owners.specs.Joint.{Joint, unheld};
+ghost use Rattle.fsb_owners.specs.Joint.{Joint, every_joint, unheld};
 ghost use Rattle.fsb_owner_verdict.specs.Coherence.{coherence_verdict};
 ghost use Rattle.fsb_owners.specs.Rules.{is_ownership_broken, ownership_verdict};
 ghost use Rattle.fsb_courses.specs.Coherent.{CouldBeMade};
@@ -17,13 +18,17 @@ pub fn runs_ask_once()
         is_ownership_broken first r.trace c 21 ≡ false }
 {}
 
-/// A timely run begins with empty caches and breaks no rule of ownership: none is broken at any of
-/// its clocks, and the verdict on its trace is none.
+/// A timely run begins with empty caches. So it breaks no rule of ownership, at any of its clocks,
+/// where empty caches are among what a line may have at first; and the verdict on its trace is none,
+/// be they known to be empty or not.
 pub fn runs_keep_ownership()
-    ensures clock { (r : Run) (c j : ℕ) → Timely r → KeepsBounds r.plan →
-        is_ownership_broken (unheld ∷ []) r.trace c j ≡ false }
-    ensures verdict { (r : Run) → Timely r → KeepsBounds r.plan →
+    ensures clock { (first : List Joint) (r : Run) (c j : ℕ) → Contains first unheld →
+        Timely r → KeepsBounds r.plan →
+        is_ownership_broken first r.trace c j ≡ false }
+    ensures empty { (r : Run) → Timely r → KeepsBounds r.plan →
         ownership_verdict (unheld ∷ []) r.trace ≡ None }
+    ensures unknown { (r : Run) → Timely r → KeepsBounds r.plan →
+        ownership_verdict every_joint r.trace ≡ None }
 {}
 
 /// So a timely run is coherent: of all rules, 1 to 31, its trace breaks none, in profile 2 with its
