@@ -1,14 +1,15 @@
 //! What is taken of a dump's variables.
 
 ghost use Rattle.std.specs.Prelude.{◌≡◌, ◌<◌, IfOk, IfSome, not, option_map};
-ghost use Rattle.std.specs.List.{filter};
+ghost use Rattle.std.specs.List.{filter, filter_map};
 ghost use Rattle.scope_pick.specs.Splits.{bits};
-ghost use Rattle.scope_wiring.specs.Wirings.{wire_if, whole_wire, bits_wire, wire_meant, option_wire, is_taken, line_wire, is_word_taken, is_first, bit_from, bit_wire, wire_in, wire_at, option_wires, found_wires, wires_with, is_wired, absent_lines};
+ghost use Rattle.scope_wiring.specs.Wirings.{wire_if, whole_wire, bits_wire, bit_wired, word_wire, word_wires, single, wires_meant, wires_named, is_taken, line_wire, is_word_taken, is_first, bit_from, bit_wire, wire_in, wire_at, option_wires, found_wires, wires_with, is_wired, absent_lines};
 
 use crate::home::Home;
-use crate::meaning::{Meaning, meaning_of};
+use crate::meaning::{Meaning, meaning_of, name_sought, path_sought};
+use crate::named_words::{BIT_NUMBERS, first_bit, index_at};
 use crate::taps::{bit_tap, tap_named, tap_of};
-use crate::text::LineOption;
+use crate::text::{LineOption, before_bits};
 use scope_pick::{
     Bit, Header, Named, Names, Range, Variable, Words, bit_at, bits, is_listed, line_named,
     line_width,
@@ -72,27 +73,134 @@ pub(crate) fn bits_wire(
     }
 }
 
-#[tactic(auto, unfolding(crate::specs::Wirings::wire_meant))]
-fn wire_meant(variables: &[Variable], option: &LineOption, meaning: Meaning) -> Option<Wire>
-    ensures { result ≡ wire_meant variables.now option.now meaning }
+#[tactic(auto, unfolding(crate::specs::Wirings::bit_wired))]
+fn bit_wired(option: &LineOption, number: u8, index: Option<usize>) -> Option<Wire>
+    ensures { result ≡ bit_wired option.now number index }
 {
-    match meaning {
-        Meaning::Nothing => None,
-        Meaning::Several => None,
-        Meaning::Whole(index) => whole_wire(option, index, variables.get(index)),
-        Meaning::Bits(index, range) => bits_wire(option, index, range, variables.get(index)),
+    match index {
+        None => None,
+        Some(index) => Some(Wire {
+            index,
+            tap: bit_tap(option.line, number, option.inverted),
+        }),
     }
 }
 
-#[tactic(auto, unfolding(crate::specs::Wirings::option_wire))]
-fn option_wire(variables: &[Variable], home: Home, option: &LineOption) -> Option<Wire>
-    ensures { result ≡ option_wire variables.now home option.now }
+#[tactic(auto, unfolding(crate::specs::Wirings::word_wire))]
+fn word_wire(
+    variables: &[Variable],
+    option: &LineOption,
+    scope: &[u8],
+    word: &[u8],
+    range: Range,
+    number: u8,
+) -> Option<Wire>
+    requires { option.now.line < 22 }
+    ensures { result ≡ word_wire variables.now option.now scope.now word.now range number }
 {
-    wire_meant(
-        variables,
-        option,
-        meaning_of(variables, home, &option.target),
-    )
+    if u32::from(number) < line_width(option.line) {
+        bit_wired(
+            option,
+            number,
+            first_bit(variables, scope, word, index_at(range, number)),
+        )
+    } else {
+        None
+    }
+}
+
+fn word_wires_among(
+    alloc: Global,
+    variables: &[Variable],
+    option: &LineOption,
+    scope: &[u8],
+    word: &[u8],
+    range: Range,
+    numbers: &[u8],
+) -> Result<Vec<Wire>, AllocError>
+    requires { option.now.line < 22 }
+    ensures { IfOk result (λ v. v.items ≡ filter_map
+        (word_wire variables.now option.now scope.now word.now range) numbers.now) }
+{
+    numbers
+        .iter()
+        .filter_map(|number| word_wire(variables, option, scope, word, range, *number))
+        .collect(alloc)
+}
+
+#[tactic(auto, unfolding(crate::specs::Wirings::word_wires))]
+fn word_wires(
+    alloc: Global,
+    variables: &[Variable],
+    option: &LineOption,
+    range: Range,
+    word: &[u8],
+    scope: Option<&[u8]>,
+) -> Result<Vec<Wire>, AllocError>
+    ensures { IfOk result (λ v. v.items ≡ word_wires variables.now option.now range word.now
+        (option_map (λ path. path.now) scope.entry)) }
+{
+    match scope {
+        None => Ok(Vec::new(alloc)),
+        Some(scope) => {
+            if option.line < 22 {
+                word_wires_among(alloc, variables, option, scope, word, range, &BIT_NUMBERS)
+            } else {
+                Ok(Vec::new(alloc))
+            }
+        }
+    }
+}
+
+#[tactic(auto, unfolding(crate::specs::Wirings::single))]
+fn single(alloc: Global, wire: Option<Wire>) -> Result<Vec<Wire>, AllocError>
+    ensures { IfOk result (λ v. v.items ≡ single wire) }
+{
+    match wire {
+        None => Ok(Vec::new(alloc)),
+        Some(wire) => Vec::from_slice(alloc, &[wire]),
+    }
+}
+
+#[tactic(auto, unfolding(crate::specs::Wirings::wires_meant))]
+fn wires_meant(
+    alloc: Global,
+    variables: &[Variable],
+    home: Home,
+    option: &LineOption,
+    meaning: Meaning,
+) -> Result<Vec<Wire>, AllocError>
+    ensures { IfOk result (λ v. v.items ≡ wires_meant variables.now home option.now meaning) }
+{
+    let name = name_sought(&option.target);
+    match meaning {
+        Meaning::Nothing | Meaning::Several | Meaning::Lacking => Ok(Vec::new(alloc)),
+        Meaning::Whole(index) => { single(alloc, whole_wire(option, index, variables.get(index))) }
+        Meaning::Bits(index, range) => {
+            single(alloc, bits_wire(option, index, range, variables.get(index)))
+        }
+        Meaning::Word(range) => {
+            let path = path_sought(variables, home, &option.target);
+            word_wires(alloc, variables, option, range, name, path)
+        }
+        Meaning::WordBits(range) => {
+            let path = path_sought(variables, home, &option.target);
+            word_wires(alloc, variables, option, range, before_bits(name), path)
+        }
+    }
+}
+
+#[tactic(auto, unfolding(crate::specs::Wirings::wires_named))]
+fn wires_named(
+    alloc: Global,
+    variables: &[Variable],
+    home: Home,
+    option: &LineOption,
+) -> Result<Vec<Wire>, AllocError>
+    ensures { IfOk result (λ v. v.items ≡ wires_named variables.now home option.now) }
+{
+    let meaning = meaning_of(variables, home, option.line, &option.target);
+    wires_meant(alloc, variables, home, option, meaning)
 }
 
 #[tactic(auto, unfolding(crate::specs::Wirings::option_wires))]
@@ -104,10 +212,12 @@ fn option_wires(
 ) -> Result<Vec<Wire>, AllocError>
     ensures { IfOk result (λ v. v.items ≡ option_wires variables.now home options.now) }
 {
-    options
-        .iter()
-        .filter_map(|option| option_wire(variables, home, option))
-        .collect(alloc)
+    let mut wires = Vec::new(alloc);
+    for option in options {
+        let named = wires_named(alloc, variables, home, option)?;
+        wires.extend_from_slice(&named)?;
+    }
+    Ok(wires)
 }
 
 #[tactic(auto, unfolding(crate::specs::Wirings::is_taken))]
@@ -178,7 +288,7 @@ fn bit_from(bit: Bit, base: Option<u32>) -> Option<Wire>
             if base <= bit.number && bit.number - base < line_width(bit.line) {
                 Some(Wire {
                     index: bit.index,
-                    tap: bit_tap(bit.line, (bit.number - base) as u8),
+                    tap: bit_tap(bit.line, (bit.number - base) as u8, false),
                 })
             } else {
                 None
