@@ -1,8 +1,9 @@
 //! What is taken of a dump's variables.
 
-ghost use Rattle.std.specs.Prelude.{◌≡◌, ◌<◌, IfOk, IfSome, not, option_map};
-ghost use Rattle.std.specs.List.{filter, filter_map};
-ghost use Rattle.scope_pick.specs.Splits.{bits};
+ghost use Rattle.std.specs.Prelude.{◌≡◌, ◌<◌, IfOk, IfSome, None, map, not, option_map, if◌then◌else◌};
+ghost use Rattle.std.specs.List.{filter, filter_map, enumerate_from};
+ghost use Rattle.scope_pick.specs.Scopes.{found_in, lines};
+ghost use Rattle.scope_pick.specs.Splits.{base_of, bit_in, bits};
 ghost use Rattle.scope_wiring.specs.Wirings.{wire_if, whole_wire, bits_wire, bit_wired, word_wire, word_wires, single, wires_meant, wires_named, is_taken, line_wire, is_word_taken, is_first, bit_from, bit_wire, wire_in, wire_at, option_wires, found_wires, wires_with, is_wired, absent_lines};
 
 use crate::home::Home;
@@ -233,18 +234,21 @@ fn is_taken(index: usize, name: Option<Named>) -> bool
 #[tactic(auto, unfolding(crate::specs::Wirings::line_wire))]
 fn line_wire(
     names: &Names<'_>,
+    found: &[Option<Named>],
     settled: &[u8],
     scope: usize,
     index: usize,
     variable: &Variable,
     line: Option<u8>,
 ) -> Option<Wire>
+    requires table { found.now ≡ map (found_in names.now scope) lines }
+    requires line { IfSome line (λ n. n < 22) }
     ensures { result ≡ line_wire names.now settled.now scope index variable.now line }
 {
     match line {
         None => None,
         Some(line) => {
-            if !is_listed(settled, line) && is_taken(index, names.found_in(scope, line)) {
+            if !is_listed(settled, line) && is_taken(index, found_line(names, found, scope, line)) {
                 wire_if(index, tap_of(line, variable, false))
             } else {
                 None
@@ -301,21 +305,40 @@ fn bit_from(bit: Bit, base: Option<u32>) -> Option<Wire>
 fn bit_wire(
     words: &Words<'_>,
     names: &Names<'_>,
+    found: &[Option<Named>],
     settled: &[u8],
     scope: usize,
     bit: Option<Bit>,
 ) -> Option<Wire>
-    requires { IfSome bit (λ b. b.line < 22) }
+    requires table { found.now ≡ map (found_in names.now scope) lines }
+    requires line { IfSome bit (λ b. b.line < 22) }
     ensures { result ≡ bit_wire words.now names.now settled.now scope bit }
 {
     match bit {
         None => None,
         Some(bit) => {
             if !is_listed(settled, bit.line)
-                && is_word_taken(bit, names.found_in(scope, bit.line))
-                && is_first(bit, words.bit_in(bit, bit.number))
+                && is_word_taken(bit, found_line(names, found, scope, bit.line))
             {
-                bit_from(bit, words.base_of(bit))
+                first_bit_from(words, bit)
+            } else {
+                None
+            }
+        }
+    }
+}
+
+// The bit as one of its word, if it is the first of its number. Most numbers of a long word are none of the line.
+fn first_bit_from(words: &Words<'_>, bit: Bit) -> Option<Wire>
+    requires { bit.line < 22 }
+    ensures { result ≡ (if is_first bit (bit_in words.now bit bit.number)
+        then bit_from bit (base_of words.now bit) else None) }
+{
+    match bit_from(bit, words.base_of(bit)) {
+        None => None,
+        Some(wire) => {
+            if is_first(bit, words.bit_in(bit, bit.number)) {
+                Some(wire)
             } else {
                 None
             }
@@ -328,16 +351,19 @@ fn wire_in(
     header: &Header<'_>,
     words: &Words<'_>,
     names: &Names<'_>,
+    found: &[Option<Named>],
     settled: &[u8],
     scope: usize,
     index: usize,
     variable: &Variable,
 ) -> Option<Wire>
+    requires { found.now ≡ map (found_in names.now scope) lines }
     ensures { result
         ≡ wire_in header.now words.now names.now settled.now scope index variable.now }
 {
     match line_wire(
         names,
+        found,
         settled,
         scope,
         index,
@@ -348,6 +374,7 @@ fn wire_in(
         None => bit_wire(
             words,
             names,
+            found,
             settled,
             scope,
             bit_at(header, index, variable),
@@ -355,26 +382,69 @@ fn wire_in(
     }
 }
 
-#[tactic(auto, unfolding(crate::specs::Wirings::wire_at))]
-fn wire_at(
-    header: &Header<'_>,
-    words: &Words<'_>,
+// The lines of the table as they are found in the scope.
+fn lines_found(
+    alloc: Global,
     names: &Names<'_>,
-    settled: &[u8],
-    home: Home,
-    index: usize,
-    variable: &Variable,
-) -> Option<Wire>
-    ensures { result ≡ wire_at header.now words.now names.now settled.now home index variable.now }
+    scope: usize,
+) -> Result<Vec<Option<Named>>, AllocError>
+    ensures { IfOk result (λ v. v.items ≡ map (found_in names.now scope) lines) }
 {
-    match home {
-        Home::Nowhere => None,
-        Home::At(scope) => wire_in(header, words, names, settled, scope, index, variable),
-        Home::Refused(_) => None,
+    each_found(alloc, names, scope, &LINES)
+}
+
+fn each_found(
+    alloc: Global,
+    names: &Names<'_>,
+    scope: usize,
+    lines: &[u8],
+) -> Result<Vec<Option<Named>>, AllocError>
+    ensures { IfOk result (λ v. v.items ≡ map (found_in names.now scope) lines.now) }
+{
+    lines
+        .iter()
+        .map(|line| names.found_in(scope, *line))
+        .collect(alloc)
+}
+
+// The line as it is found in the scope, of which all are at hand.
+#[tactic(auto, using(crate::proofs::FoundLines::found_is))]
+fn found_line(names: &Names<'_>, found: &[Option<Named>], scope: usize, line: u8) -> Option<Named>
+    requires table { found.now ≡ map (found_in names.now scope) lines }
+    requires line { line < 22 }
+    ensures { result ≡ found_in names.now scope line }
+{
+    match found.get(usize::from(line)) {
+        None => names.found_in(scope, line),
+        Some(name) => *name,
     }
 }
 
-#[tactic(auto, unfolding(crate::specs::Wirings::found_wires))]
+fn wires_in(
+    alloc: Global,
+    header: &Header<'_>,
+    words: &Words<'_>,
+    names: &Names<'_>,
+    found: &[Option<Named>],
+    settled: &[u8],
+    scope: usize,
+) -> Result<Vec<Wire>, AllocError>
+    requires { found.now ≡ map (found_in names.now scope) lines }
+    ensures { IfOk result (λ v. v.items ≡ filter_map
+        (λ p. wire_in header.now words.now names.now settled.now scope p.0 p.1)
+        (enumerate_from 0 header.now)) }
+{
+    header
+        .variables()
+        .iter()
+        .enumerate()
+        .filter_map(|(index, variable)| {
+            wire_in(header, words, names, found, settled, scope, index, variable)
+        })
+        .collect(alloc)
+}
+
+#[tactic(auto, using(crate::proofs::FoundLines::found_at_home, crate::proofs::FoundLines::found_nowhere, crate::proofs::FoundLines::found_refused))]
 fn found_wires(
     alloc: Global,
     header: &Header<'_>,
@@ -386,14 +456,13 @@ fn found_wires(
     ensures { IfOk result (λ v.
         v.items ≡ found_wires header.now words.now names.now settled.now home) }
 {
-    header
-        .variables()
-        .iter()
-        .enumerate()
-        .filter_map(|(index, variable)| {
-            wire_at(header, words, names, settled, home, index, variable)
-        })
-        .collect(alloc)
+    match home {
+        Home::Nowhere | Home::Refused(_) => Ok(Vec::new(alloc)),
+        Home::At(scope) => {
+            let found = lines_found(alloc, names, scope)?;
+            wires_in(alloc, header, words, names, &found, settled, scope)
+        }
+    }
 }
 
 /// The wires of the bus: those that the options take, and those that are found in the scope.
