@@ -1,4 +1,6 @@
 """Random headers of dumps for second_wires.py: scopes, spellings of names, ranges, words in single bits, shared codes, with random values and options."""
+import re
+
 from second_dump import NEEDED, WIDTHS
 
 NO_WIRES = ("real", "realtime", "string")
@@ -132,10 +134,11 @@ class MadeUp:
         if chance.random() < 0.4:
             one = chance.choice(variables)
             scope = one.scope if chance.random() < 0.95 else one.scope + "x"
+            scope = scope.replace("\\", "") if chance.random() < 0.3 else scope
             options["scope"] = scope or "."
             words += ["--scope", options["scope"]]
         for _ in range(chance.choice([0, 0, 1, 2, 14])):
-            self.line_option(options, words, [(one, line_named(one.name)) for one in variables])
+            self.line_option(options, words, [(one, line_named(one.name)) for one in variables + words_of(variables, line_named)])
         for _ in range(chance.choice([0, 0, 0, 1, 1])):
             line = chance.choice(["D_n", "D_n", "LOCK_n", "BNR_n", "AP_n", "ADS_n", "BCLK"])
             options["without"].append(line)
@@ -148,7 +151,8 @@ class MadeUp:
         line = chance.choice([it for it in unnamed if it in NEEDED] or unnamed) if chance.random() < 0.97 else "ADS_n"
         near = [one for one, named in variables if named == line] if chance.random() < 0.8 else []
         one = chance.choice(near or [one for one, _ in variables])
-        target = one.name if options["scope"] and chance.random() < 0.5 else one.scope + "." + one.name
+        scope = one.scope.replace("\\", "") if chance.random() < 0.3 else one.scope
+        target = one.name if options["scope"] and chance.random() < 0.5 else scope + "." + one.name
         if chance.random() < 0.25:
             low = chance.choice([lowest(line), 0, 1])
             ends = (low + WIDTHS[line] - 1, low) if chance.random() < 0.8 else (low, low + WIDTHS[line] - 1)
@@ -156,3 +160,9 @@ class MadeUp:
         is_high = chance.random() < 0.3 and line != "BCLK"
         options["line"].append((line, is_high, target))
         words += ["--line", "%s=%s%s" % (line, "!" * is_high, target)]
+
+
+def words_of(variables, line_named):
+    """The bits whose names have an index, each by the name of its word."""
+    named = [(one, re.sub(r"(\[\d+\]|\(\d+\)|_\d+)$", "", one.name)) for one in variables]
+    return [one._replace(name=word) for one, word in named if word != one.name and line_named(word)]

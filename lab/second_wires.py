@@ -222,14 +222,23 @@ class Header:
             raise Refused("several")
         return max(best, key=lambda it: (count[it], -list(self.scopes).index(it)))
 
-    def named(self, text, home):
-        """The variables and the bits that a target names."""
+    def place(self, path):
+        """The variables of the scope of this path, or of the one that is the same but for escapes."""
+        here = [one for one in self.variables if one.scope == path]
+        if here:
+            return here
+        alike = [one for one in self.variables if unescaped(one.scope) == unescaped(path)]
+        return alike if len({one.scope for one in alike}) == 1 else []
+
+    def named(self, line, text, home):
+        """The variables and the bits that a target names, or the bits of a word that is declared bit by bit."""
         *scope, name = text.split(".")
         scope = ".".join(scope) if "." in text else home
         if scope is None:
             raise Refused("names no variable")
-        scope, name = ".".join(plain(it) for it in scope.split(".")), plain(name)
-        here = [one for one in self.variables if ".".join(plain(it) for it in one.scope.split(".")) == scope]
+        here, name = self.place(scope), plain(name)
+        if line in SPLIT and is_word(here, name):
+            return None, word_bits(here, line, name, None)
         exact = [one for one in here if one.name == name]
         if exact:
             return exact, None
@@ -241,9 +250,55 @@ class Header:
         as_declared = [one for one in base if one.range == (high, low)]
         if as_declared:
             return as_declared, None
+        if is_word(here, bits[1]):
+            return None, word_bits(here, line, bits[1], (high, low))
         if not base:
             raise Refused("names no variable")
         return base, (high, low)
+
+
+def unescaped(path):
+    return path.replace("\\", "").replace(" ", "")
+
+
+def index_in(one, word):
+    """The index of a variable as a bit of the word of this name, or None."""
+    if one.width != 1 or one.kind in NO_WIRES:
+        return None
+    if one.name == word:
+        return one.range[0] if one.range and one.range[0] == one.range[1] else None
+    named = re.fullmatch(r"(.*)(?:\[(\d{1,8})\]|\((\d{1,8})\)|_(\d{1,8}))", one.name)
+    return int(named[2] or named[3] or named[4]) if named and plain(named[1]) == word else None
+
+
+def is_word(here, name):
+    """Whether the name is that of a word alone, declared bit by bit."""
+    indices = [index_in(one, name) for one in here]
+    return any(it is not None for it in indices) and not any(one.name == name and it is None for one, it in zip(here, indices))
+
+
+def word_bits(here, line, word, range_named):
+    """The bits of the word as the line, the highest first."""
+    wires = collections.defaultdict(set)
+    for one in here:
+        if (index := index_in(one, word)) is not None:
+            wires[index].add(one.code)
+    width = WIDTHS[line]
+    if range_named is None:
+        ranges = [(lowest(line) + width - 1, lowest(line))]
+        if max(wires) < width:
+            ranges.append((width - 1, 0))
+    else:
+        ranges = [range_named]
+    for high, low in ranges:
+        if abs(high - low) + 1 != width:
+            continue
+        indices = range(high, low - 1, -1) if high >= low else range(high, low + 1)
+        if any(len(wires.get(index, ())) > 1 for index in indices):
+            raise Refused("names several")
+        if all(index in wires for index in indices):
+            return [(next(iter(wires[index])), 0) for index in indices]
+    raise Refused("cannot be")
 
 
 def wires_of(variables, options):
@@ -256,9 +311,10 @@ def wires_of(variables, options):
         raise Refused("twice")
     scope = options["scope"]
     if scope is not None:
-        scope = "" if scope == "." else scope
-        if scope not in header.scopes:
+        here = header.place("" if scope == "." else scope)
+        if not here:
             raise Refused("no such scope")
+        scope = here[0].scope
     else:
         scope = header.picked(taken)
     if options["scope"] is not None and any(header.lacks(scope, taken)):
@@ -274,11 +330,9 @@ def wires_of(variables, options):
 
 
 def target_bits(header, line, target, scope):
-    found, part = header.named(target, scope)
-    if len({one.code for one in found}) > 1 and part is None and line_named(found[0].name) == line:
-        bits = joined(line, [(one.range[0], one.code) for one in found if one.range and one.width == 1 and one.range[0] == one.range[1]])
-        if bits is not None:
-            return bits
+    found, part = header.named(line, target, scope)
+    if found is None:
+        return part
     if len({one.code for one in found}) > 1:
         raise Refused("names several")
     one = found[0]

@@ -2,7 +2,8 @@
 //!
 //! `headers` makes the declarations from a few words, `options` the options. `scopes` says which scope of each header
 //! is judged, or why none is, `tools` the same of headers that tools wrote, `wires` what is taken as a line, `lines`
-//! which name stands for which line, `places` which bits of a variable are a line, `told` what is told of a scope.
+//! which name stands for which line, `places` which bits of a variable are a line, `told` what is told of a scope,
+//! `words` what is taken of words that the user names and the header declares bit by bit.
 //!
 //! Nothing is promised. Read scope_wiring next.
 #![tactic(auto)]
@@ -23,3 +24,5 @@ mod told;
 mod tools;
 #[cfg(test)]
 mod wires;
+#[cfg(test)]
+mod words;

@@ -15,7 +15,7 @@ enum Answer {
 }
 
 /// Headers, options, and what is found.
-static HEADERS: [(&'static str, &'static str, Answer); 63] = [
+static HEADERS: [(&'static str, &'static str, Answer); 67] = [
     // Names: the table's, other spellings, escaped ones
     ("tb.dut bus a", "", Answer::At(0)),
     (LOOSE, "", Answer::At(0)),
@@ -48,6 +48,23 @@ static HEADERS: [(&'static str, &'static str, Answer); 63] = [
     (
         "tb.left bus a\ntb.right bus b",
         "@tb.LEFT",
+        Answer::Refused(Cause::NoScope, &[0, 12]),
+    ),
+    // Escaped names of scopes, as they stand or without their backslashes
+    (
+        "tb bus a\ntb.\\my.bus bus b",
+        "@tb.\\my.bus",
+        Answer::At(12),
+    ),
+    ("tb bus a\ntb.\\my.bus bus b", "@tb.my.bus", Answer::At(12)),
+    (
+        "tb.my.bus bus a\ntb.\\my.bus bus b",
+        "@tb.my.bus",
+        Answer::At(0),
+    ),
+    (
+        "tb.my.\\bus bus a\ntb.\\my.bus bus b",
+        "@tb.my.bus",
         Answer::Refused(Cause::NoScope, &[0, 12]),
     ),
     (". bus a\ntb bus b", "@.", Answer::At(0)),

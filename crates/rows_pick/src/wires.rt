@@ -9,7 +9,7 @@ use vcd_way::{BitRun, Part, Tap};
 
 /// The wires of a line: how many there are, and of the first one the declaration, the width, the bits, and whether it
 /// is active high. Or why there are none.
-enum Taken {
+pub(crate) enum Taken {
     Wires(usize, usize, u32, Option<(u8, u32, u8, bool)>, bool),
     Absent,
     Refused(Cause, &'static [usize]),
@@ -225,7 +225,7 @@ fn take_lines(rt: HostRuntime) {
     }
 }
 
-fn is_so(
+pub(crate) fn is_so(
     alloc: Global,
     header: &str,
     options: &str,

@@ -285,9 +285,9 @@ named_tap_is_lawful line v inverted bits tap e =
     (λ k q. placed_fits line v inverted (place_if line v.width (known_range v.width v.range) bits) tap (ltb-true line 22 k)
     (λ p. named_fits line v.width (known_range v.width v.range) bits p) q) e
 
-pub bit_tap_is_lawful : (line number : ℕ) → line < 22 → number < line_width line
-    → is_lawful_tap (bit_tap line number) ≡ true
+pub bit_tap_is_lawful : (line number : ℕ) (inverted : Bool) → line < 22 → number < line_width line
+    → is_lawful_tap (bit_tap line number inverted) ≡ true
 unfolding bit_tap
-bit_tap_is_lawful line number k n =
+bit_tap_is_lawful line number inverted k n =
     let same = same_width line in
     and_from _ _ (lt-ltb line (length table) k) (le-leb (number + 1) (width_of line) (omega (arith, same, n)))

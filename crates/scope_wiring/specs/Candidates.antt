@@ -1,10 +1,8 @@
 -- What is listed where the wires are not picked, each by the index of a declaration.
 use Rattle.std.specs.Prelude.{ℕ, Bool, nat_eq, nat_le, nat_lt, not, ◌&&◌, ◌||◌, count_by, map, List, [], ◌∷◌, Option, Some, None, is_some, slice_get, if◌then◌else◌}
 use Rattle.std.specs.List.{filter, filter_map, list_all, enumerate_from}
-use Rattle.std.specs.Cmp.Lexicographic.{pointwise}
 use Rattle.scope_pick.specs.declared.variable.Variable.{Variable}
 use Rattle.scope_pick.specs.declared.wires.Named.{Named}
-use Rattle.scope_pick.specs.Names.{without_escape}
 use Rattle.scope_pick.specs.Places.{is_line_needed}
 use Rattle.scope_pick.specs.Splits.{after_last}
 use Rattle.scope_pick.specs.Scopes.{lines, found_in, is_listed, is_head, qualified, stands_alone}
@@ -12,9 +10,10 @@ use Rattle.scope_wiring.specs.declared.cause.Cause.{Cause}
 use Rattle.scope_wiring.specs.declared.cause.Cause.TheVariants as causes
 use Rattle.scope_wiring.specs.declared.home.Home.{Home}
 use Rattle.scope_wiring.specs.declared.meaning.Meaning.{Meaning}
-use Rattle.scope_wiring.specs.declared.meaning.Meaning.TheVariants.{Nothing, Several, Whole, Bits}
+use Rattle.scope_wiring.specs.declared.meaning.Meaning.TheVariants.{Nothing, Several, Lacking, Whole, Bits, Word, WordBits}
 use Rattle.scope_wiring.specs.declared.text.LineOption.{LineOption}
 use Rattle.scope_wiring.specs.Meanings.{meaning_of}
+use Rattle.scope_wiring.specs.NamedWords.{is_name_or_bit}
 use Rattle.scope_wiring.specs.Texts.{before_bits}
 
 -- the numbers of the scopes of these
@@ -51,11 +50,9 @@ best_among ns settled hs =
 unfoldable pub buses_among : List Named → List ℕ → List Named → List Named
 buses_among ns settled scopes = filter (stands_alone ns settled scopes) scopes
 
--- the variable has the name, or the name before its bits
+-- the variable has the name, or the name before its bits, perhaps with an index behind it
 unfoldable pub is_alike : List ℕ → Variable → Bool
-is_alike name v =
-    pointwise nat_eq (without_escape v.name.items) (without_escape name)
-    || pointwise nat_eq (without_escape v.name.items) (without_escape (before_bits name))
+is_alike name v = is_name_or_bit name v.name.items || is_name_or_bit (before_bits name) v.name.items
 
 -- the index, if the variable is one of them
 unfoldable pub alike_at : List ℕ → ℕ → Variable → Option ℕ
@@ -65,22 +62,26 @@ alike_at name i v = if is_alike name v then Some i else None
 unfoldable pub alike : List Variable → List ℕ → List ℕ
 alike vs text = filter_map (λ p. alike_at (after_last 46 text) p.0 p.1) (enumerate_from 0 vs)
 
--- the variable that is meant
-unfoldable pub index_meant : Meaning → List ℕ
-index_meant Nothing = []
-index_meant Several = []
-index_meant (Whole i) = i ∷ []
-index_meant (Bits i range) = i ∷ []
+-- the variable that is meant, or of a word that lacks bits all that the text may mean
+unfoldable pub indices_meant : List Variable → List ℕ → Meaning → List ℕ
+indices_meant vs text Nothing = []
+indices_meant vs text Several = []
+indices_meant vs text Lacking = alike vs text
+indices_meant vs text (Whole i) = i ∷ []
+indices_meant vs text (Bits i range) = i ∷ []
+indices_meant vs text (Word range) = []
+indices_meant vs text (WordBits range) = []
 
 -- the variables that the option may mean
 unfoldable pub alike_option : List Variable → Option LineOption → List ℕ
 alike_option vs None = []
 alike_option vs (Some o) = alike vs o.target.items
 
--- the variable that it means
+-- the variables that it means
 unfoldable pub meant_by : List Variable → Home → Option LineOption → List ℕ
 meant_by vs home None = []
-meant_by vs home (Some o) = index_meant (meaning_of vs home o.target.items)
+meant_by vs home (Some o) =
+    indices_meant vs o.target.items (meaning_of vs home o.line o.target.items)
 
 -- what is listed with a cause
 unfoldable pub candidates : List Variable → List LineOption → List Named → List ℕ → Home → Cause → List ℕ

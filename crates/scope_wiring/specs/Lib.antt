@@ -1,5 +1,6 @@
 pub mod Texts
 pub mod Meanings
+pub mod NamedWords
 pub mod Taps
 pub mod Settling
 pub mod Homes

@@ -30,12 +30,12 @@ tap_at line width inverted place = record {
 }
 
 -- one bit of a word, from its lowest on
-unfoldable pub bit_tap : ℕ → ℕ → Tap
-bit_tap line number = record {
+unfoldable pub bit_tap : ℕ → ℕ → Bool → Tap
+bit_tap line number inverted = record {
   line = line;
   width = 1;
   part = parts.Bits (record { count = 1; low = 0; lowest = number; is_turned = false });
-  inverted = false;
+  inverted = inverted;
 }
 
 -- the line, at a place if there is one

@@ -1,6 +1,6 @@
 -- The texts by which a user names lines, variables and bits.
-use Rattle.std.specs.Prelude.{ℕ, Bool, nat_eq, ◌+◌, ◌-◌, ◌&&◌, List, [], ◌∷◌, length, take, drop, Option, Some, None, if◌then◌else◌}
-use Rattle.std.specs.List.{position, list_any, starts_with, ends_with}
+use Rattle.std.specs.Prelude.{ℕ, Bool, nat_eq, not, ◌+◌, ◌-◌, ◌&&◌, ◌||◌, List, [], ◌∷◌, length, take, drop, Option, Some, None, if◌then◌else◌}
+use Rattle.std.specs.List.{filter, position, list_any, starts_with, ends_with}
 use Rattle.std.specs.Cmp.Lexicographic.{pointwise}
 use Rattle.scope_pick.specs.declared.variable.Range.{Range}
 use Rattle.scope_pick.specs.Names.{line_named}
@@ -37,6 +37,23 @@ said text = said_at text (position (λ b. nat_eq b 61) text)
 -- the scope that a text names: its path, or a dot for the root
 unfoldable pub scope_path : List ℕ → List ℕ
 scope_path text = if pointwise nat_eq text (46 ∷ []) then [] else text
+
+-- a byte that an escaped name has beside its letters: a backslash, or the space that ends it in Verilog
+unfoldable pub is_escape : ℕ → Bool
+is_escape byte = nat_eq byte 92 || nat_eq byte 32
+
+-- a path without those bytes
+unfoldable pub bare_path : List ℕ → List ℕ
+bare_path path = filter (λ b. not (is_escape b)) path
+
+-- a path from its first other byte on
+abbrev pub bare_from : List ℕ → List ℕ
+bare_from [] = []
+bare_from (byte ∷ path) = if is_escape byte then bare_from path else byte ∷ path
+
+-- the paths are the same, whichever of their names are escaped
+unfoldable pub is_same_path : List ℕ → List ℕ → Bool
+is_same_path a b = pointwise nat_eq (bare_path a) (bare_path b)
 
 -- two indices, where both are numbers
 unfoldable pub range_with : Option ℕ → Option ℕ → Option Range

@@ -1,13 +1,13 @@
 -- What is taken of a dump's variables as the lines of the bus.
-use Rattle.std.specs.Prelude.{ℕ, Bool, false, nat_eq, nat_le, nat_lt, not, ◌-◌, ◌&&◌, ◌||◌, List, ◌++◌, Option, Some, None, is_some, slice_get, if◌then◌else◌}
-use Rattle.std.specs.List.{filter, filter_map, list_any, enumerate_from}
+use Rattle.std.specs.Prelude.{ℕ, Bool, false, nat_eq, nat_le, nat_lt, not, ◌-◌, ◌&&◌, ◌||◌, List, [], ◌∷◌, ◌++◌, Option, Some, None, is_some, slice_get, if◌then◌else◌}
+use Rattle.std.specs.List.{filter, filter_map, flat_map, list_any, enumerate_from}
 use Rattle.scope_pick.specs.declared.variable.Variable.{Variable}
 use Rattle.scope_pick.specs.declared.variable.Range.{Range}
 use Rattle.scope_pick.specs.declared.wires.Named.{Named}
 use Rattle.scope_pick.specs.declared.split.Bit.{Bit}
 use Rattle.scope_pick.specs.Names.{line_named}
 use Rattle.scope_pick.specs.Places.{line_width}
-use Rattle.scope_pick.specs.Splits.{bits, bit_at, bit_in, base_of}
+use Rattle.scope_pick.specs.Splits.{bits, bit_at, bit_in, base_of, bit_numbers}
 use Rattle.scope_pick.specs.Scopes.{lines, found_in, is_listed}
 use Rattle.vcd_way.specs.declared.tap.Tap.{Tap}
 use Rattle.scope_wiring.specs.declared.cause.Cause.{Cause}
@@ -15,12 +15,14 @@ use Rattle.scope_wiring.specs.declared.cause.Cause.TheVariants.{NoVariable, Seve
 use Rattle.scope_wiring.specs.declared.home.Home.{Home}
 use Rattle.scope_wiring.specs.declared.home.Home.TheVariants.{Nowhere, At, Refused}
 use Rattle.scope_wiring.specs.declared.meaning.Meaning.{Meaning}
-use Rattle.scope_wiring.specs.declared.meaning.Meaning.TheVariants.{Nothing, Several, Whole, Bits}
+use Rattle.scope_wiring.specs.declared.meaning.Meaning.TheVariants.{Nothing, Several, Lacking, Whole, Bits, Word, WordBits}
 use Rattle.scope_wiring.specs.declared.text.LineOption.{LineOption}
 use Rattle.scope_wiring.specs.declared.wire.Wire.{Wire}
-use Rattle.scope_wiring.specs.Meanings.{meaning_of}
+use Rattle.scope_wiring.specs.Meanings.{meaning_of, name_sought, path_sought}
+use Rattle.scope_wiring.specs.NamedWords.{first_bit, index_at}
 use Rattle.scope_wiring.specs.Settling.{options_cause}
 use Rattle.scope_wiring.specs.Taps.{tap_of, tap_named, bit_tap}
+use Rattle.scope_wiring.specs.Texts.{before_bits}
 
 -- a tap of the variable of this index, if there is one
 unfoldable pub wire_if : ℕ → Option Tap → Option Wire
@@ -39,29 +41,58 @@ unfoldable pub bits_wire : LineOption → ℕ → Range → Option Variable → 
 bits_wire o i range None = None
 bits_wire o i range (Some v) = wire_if i (tap_named o.line v o.inverted range)
 
+-- the variable of this index as the bit of this number of the line that the option names
+unfoldable pub bit_wired : LineOption → ℕ → Option ℕ → Option Wire
+bit_wired o k None = None
+bit_wired o k (Some i) = Some (record { index = i; tap = bit_tap o.line k o.inverted })
+
+-- the bit of this number, in a word of these indices
+unfoldable pub word_wire : List Variable → LineOption → List ℕ → List ℕ → Range → ℕ → Option Wire
+word_wire vs o scope word range k =
+    if nat_lt k (line_width o.line) then bit_wired o k (first_bit vs scope word (index_at range k)) else None
+
+-- the line's bits, in a word of these indices
+unfoldable pub word_wires : List Variable → LineOption → Range → List ℕ → Option (List ℕ) → List Wire
+word_wires vs o range word None = []
+word_wires vs o range word (Some scope) =
+    if nat_lt o.line 22 then filter_map (word_wire vs o scope word range) bit_numbers else []
+
+-- the one wire, if there is one
+unfoldable pub single : Option Wire → List Wire
+single None = []
+single (Some w) = w ∷ []
+
 -- what the option takes, where its text means this
-unfoldable pub wire_meant : List Variable → LineOption → Meaning → Option Wire
-wire_meant vs o Nothing = None
-wire_meant vs o Several = None
-wire_meant vs o (Whole i) = whole_wire o i (slice_get vs i)
-wire_meant vs o (Bits i range) = bits_wire o i range (slice_get vs i)
+unfoldable pub wires_meant : List Variable → Home → LineOption → Meaning → List Wire
+wires_meant vs home o Nothing = []
+wires_meant vs home o Several = []
+wires_meant vs home o Lacking = []
+wires_meant vs home o (Whole i) = single (whole_wire o i (slice_get vs i))
+wires_meant vs home o (Bits i range) = single (bits_wire o i range (slice_get vs i))
+wires_meant vs home o (Word range) =
+    word_wires vs o range (name_sought o.target.items) (path_sought vs home o.target.items)
+wires_meant vs home o (WordBits range) =
+    word_wires vs o range (before_bits (name_sought o.target.items)) (path_sought vs home o.target.items)
 
 -- what the option takes
-unfoldable pub option_wire : List Variable → Home → LineOption → Option Wire
-option_wire vs home o = wire_meant vs o (meaning_of vs home o.target.items)
+unfoldable pub wires_named : List Variable → Home → LineOption → List Wire
+wires_named vs home o = wires_meant vs home o (meaning_of vs home o.line o.target.items)
 
 -- what is wrong with the option of this number, where its text means this
 unfoldable pub cause_meant : List Variable → ℕ → LineOption → Meaning → Option Cause
 cause_meant vs k o Nothing = Some (NoVariable k)
 cause_meant vs k o Several = Some (SeveralVariables k)
+cause_meant vs k o Lacking = Some (LacksBits k)
 cause_meant vs k o (Whole i) =
     if is_some (whole_wire o i (slice_get vs i)) then None else Some (CannotBe k)
 cause_meant vs k o (Bits i range) =
     if is_some (bits_wire o i range (slice_get vs i)) then None else Some (LacksBits k)
+cause_meant vs k o (Word range) = None
+cause_meant vs k o (WordBits range) = None
 
 -- what is wrong with it
 unfoldable pub option_cause : List Variable → Home → ℕ → LineOption → Option Cause
-option_cause vs home k o = cause_meant vs k o (meaning_of vs home o.target.items)
+option_cause vs home k o = cause_meant vs k o (meaning_of vs home o.line o.target.items)
 
 -- what is wrong with the first option that names nothing, or what cannot be its line
 unfoldable pub first_cause : List Variable → Home → List LineOption → Option Cause
@@ -112,7 +143,7 @@ unfoldable pub bit_from : Bit → Option ℕ → Option Wire
 bit_from b None = None
 bit_from b (Some base) =
     if nat_le base b.number && nat_lt (b.number - base) (line_width b.line)
-    then Some (record { index = b.index; tap = bit_tap b.line (b.number - base) }) else None
+    then Some (record { index = b.index; tap = bit_tap b.line (b.number - base) false }) else None
 
 -- the bit as one of its word, if the word is to be found in the scope and is found bit by bit
 unfoldable pub bit_wire : List Bit → List Named → List ℕ → ℕ → Option Bit → Option Wire
@@ -142,7 +173,7 @@ wire_at vs bs ns settled (Refused cause) i v = None
 
 -- what the options take
 unfoldable pub option_wires : List Variable → Home → List LineOption → List Wire
-option_wires vs home os = filter_map (option_wire vs home) os
+option_wires vs home os = flat_map (wires_named vs home) os
 
 -- what is found in the scope, in the order of the header
 unfoldable pub found_wires : List Variable → List Bit → List Named → List ℕ → Home → List Wire

@@ -4,15 +4,16 @@ ghost use Rattle.std.specs.Prelude.{◌≡◌, ℕ, map, count_by, nat_le, IfOk,
 ghost use Rattle.std.specs.List.{filter, filter_map, enumerate_from};
 ghost use Rattle.scope_pick.specs.Groups.{group_at};
 ghost use Rattle.scope_pick.specs.Scopes.{qualified, is_head};
-ghost use Rattle.scope_wiring.specs.Candidates.{scopes_of, heads, is_found, found_count, is_greatest, best_among, buses_among, is_alike, alike_at, alike, index_meant, alike_option, meant_by, candidates};
+ghost use Rattle.scope_wiring.specs.Candidates.{scopes_of, heads, is_found, found_count, is_greatest, best_among, buses_among, is_alike, alike_at, alike, indices_meant, alike_option, meant_by, candidates};
 
 use crate::cause::Cause;
 use crate::home::Home;
 use crate::meaning::{Meaning, meaning_of};
+use crate::named_words::is_name_or_bit;
 use crate::text::{LineOption, before_bits};
 use scope_pick::{
     Named, Variable, after_last, buses, found_in, group_at, groups_of, is_head, is_line_needed,
-    is_listed, qualified, without_escape,
+    is_listed, qualified,
 };
 use std::alloc::{AllocError, Global};
 use std::collections::BTreeMap;
@@ -141,8 +142,7 @@ fn best_among(
 fn is_alike(name: &[u8], variable: &Variable) -> bool
     ensures { result ≡ is_alike name.now variable.now }
 {
-    without_escape(&variable.name) == without_escape(name)
-        || without_escape(&variable.name) == without_escape(before_bits(name))
+    is_name_or_bit(name, &variable.name) || is_name_or_bit(before_bits(name), &variable.name)
 }
 
 #[tactic(auto, unfolding(crate::specs::Candidates::alike_at))]
@@ -174,15 +174,21 @@ fn alike(alloc: Global, variables: &[Variable], text: &[u8]) -> Result<Vec<usize
     alike_named(alloc, variables, after_last(46, text))
 }
 
-#[tactic(auto, unfolding(crate::specs::Candidates::index_meant))]
-fn index_meant(alloc: Global, meaning: Meaning) -> Result<Vec<usize>, AllocError>
-    ensures { IfOk result (λ v. v.items ≡ index_meant meaning) }
+#[tactic(auto, unfolding(crate::specs::Candidates::indices_meant))]
+fn indices_meant(
+    alloc: Global,
+    variables: &[Variable],
+    text: &[u8],
+    meaning: Meaning,
+) -> Result<Vec<usize>, AllocError>
+    ensures { IfOk result (λ v. v.items ≡ indices_meant variables.now text.now meaning) }
 {
     match meaning {
-        Meaning::Nothing => Ok(Vec::new(alloc)),
-        Meaning::Several => Ok(Vec::new(alloc)),
+        Meaning::Nothing | Meaning::Several => Ok(Vec::new(alloc)),
+        Meaning::Lacking => alike(alloc, variables, text),
         Meaning::Whole(index) => Vec::from_slice(alloc, &[index]),
         Meaning::Bits(index, _) => Vec::from_slice(alloc, &[index]),
+        Meaning::Word(_) | Meaning::WordBits(_) => Ok(Vec::new(alloc)),
     }
 }
 
@@ -213,7 +219,10 @@ fn meant_by(
 {
     match option {
         None => Ok(Vec::new(alloc)),
-        Some(option) => index_meant(alloc, meaning_of(variables, home, &option.target)),
+        Some(option) => {
+            let meaning = meaning_of(variables, home, option.line, &option.target);
+            indices_meant(alloc, variables, &option.target, meaning)
+        }
     }
 }
 

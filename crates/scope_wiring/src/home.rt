@@ -1,12 +1,12 @@
 //! The scope that is judged.
 
-ghost use Rattle.std.specs.Prelude.{◌≡◌, IfOk};
-ghost use Rattle.std.specs.List.{position};
-ghost use Rattle.scope_wiring.specs.Homes.{is_in_scope, scope_at, home_among, home_by_default, home_named, home_of};
+ghost use Rattle.std.specs.Prelude.{◌≡◌, IfOk, option_map};
+ghost use Rattle.std.specs.List.{position, list_any};
+ghost use Rattle.scope_wiring.specs.Homes.{is_in_scope, scope_at, is_in_like, is_in_other, has_other_scope, scope_like, scope_named, home_among, home_by_default, home_named, home_of};
 ghost use Rattle.scope_wiring.specs.Texts.{scope_path};
 
 use crate::cause::Cause;
-use crate::text::scope_path;
+use crate::text::{is_same_path, scope_path};
 use scope_pick::{Named, Variable, fullest, is_scope_needed, is_whole, qualified};
 use std::alloc::{AllocError, Global};
 
@@ -41,7 +41,7 @@ pub(crate) fn home_of(
 fn home_named(variables: &[Variable], names: &[Named], settled: &[u8], text: &[u8]) -> Home
     ensures { result ≡ home_named variables.now names.now settled.now text.now }
 {
-    match scope_at(variables, scope_path(text)) {
+    match scope_named(variables, scope_path(text)) {
         None => Home::Refused(Cause::NoScope),
         Some(scope) => {
             if is_whole(names, settled, scope) {
@@ -53,7 +53,19 @@ fn home_named(variables: &[Variable], names: &[Named], settled: &[u8], text: &[u
     }
 }
 
-/// The number of the scope of this path: its first declaration.
+/// The number of the scope that a path names: its first declaration. It is the scope of this very path, or else the one
+/// scope of this path whichever of its names are escaped.
+#[tactic(auto, unfolding(crate::specs::Homes::scope_named))]
+pub fn scope_named(variables: &[Variable], path: &[u8]) -> Option<usize>
+    ensures { result ≡ scope_named variables.now path.now }
+{
+    match scope_at(variables, path) {
+        Some(index) => Some(index),
+        None => scope_like(variables, path),
+    }
+}
+
+/// The number of the scope of this very path: its first declaration.
 #[tactic(auto, unfolding(crate::specs::Homes::scope_at))]
 pub fn scope_at(variables: &[Variable], path: &[u8]) -> Option<usize>
     ensures { result ≡ scope_at variables.now path.now }
@@ -68,6 +80,63 @@ fn is_in_scope(path: &[u8], variable: &Variable) -> bool
     ensures { result ≡ is_in_scope path.now variable.now }
 {
     variable.scope.as_slice() == path
+}
+
+#[tactic(auto, unfolding(crate::specs::Homes::scope_like))]
+fn scope_like(variables: &[Variable], path: &[u8]) -> Option<usize>
+    ensures { result ≡ scope_like variables.now path.now }
+{
+    match first_like(variables, path) {
+        None => None,
+        Some(index) => {
+            if has_other_scope(variables, path, variables.get(index)) {
+                None
+            } else {
+                Some(index)
+            }
+        }
+    }
+}
+
+fn first_like(variables: &[Variable], path: &[u8]) -> Option<usize>
+    ensures { result ≡ position (is_in_like path.now) variables.now }
+{
+    variables
+        .iter()
+        .position(|variable| is_in_like(path, variable))
+}
+
+#[tactic(auto, unfolding(crate::specs::Homes::is_in_like))]
+fn is_in_like(path: &[u8], variable: &Variable) -> bool
+    ensures { result ≡ is_in_like path.now variable.now }
+{
+    is_same_path(&variable.scope, path)
+}
+
+#[tactic(auto, unfolding(crate::specs::Homes::has_other_scope))]
+fn has_other_scope(variables: &[Variable], path: &[u8], first: Option<&Variable>) -> bool
+    ensures { result
+        ≡ has_other_scope variables.now path.now (option_map (λ v. v.now) first.entry) }
+{
+    match first {
+        None => false,
+        Some(first) => is_any_in_other(variables, path, first),
+    }
+}
+
+fn is_any_in_other(variables: &[Variable], path: &[u8], first: &Variable) -> bool
+    ensures { result ≡ list_any (is_in_other path.now first.now) variables.now }
+{
+    variables
+        .iter()
+        .any(|variable| is_in_other(path, first, variable))
+}
+
+#[tactic(auto, unfolding(crate::specs::Homes::is_in_other))]
+fn is_in_other(path: &[u8], first: &Variable, other: &Variable) -> bool
+    ensures { result ≡ is_in_other path.now first.now other.now }
+{
+    is_in_like(path, other) && !is_in_scope(&first.scope, other)
 }
 
 #[tactic(auto, unfolding(crate::specs::Homes::home_by_default))]

@@ -9,7 +9,7 @@
 
 pub use candidates::{found_count, heads};
 pub use cause::Cause;
-pub use home::{Home, scope_at};
+pub use home::{Home, scope_at, scope_named};
 pub use meaning::Meaning;
 pub use options::settled_lines;
 pub use taps::{tap_named, tap_of};
@@ -21,6 +21,7 @@ mod candidates;
 mod cause;
 mod home;
 mod meaning;
+mod named_words;
 mod options;
 mod taps;
 mod text;

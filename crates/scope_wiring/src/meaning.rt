@@ -2,11 +2,13 @@
 
 ghost use Rattle.std.specs.Prelude.{◌≡◌, option_map};
 ghost use Rattle.std.specs.List.{list_any};
-ghost use Rattle.scope_wiring.specs.Meanings.{is_called, first_called, is_other_called, has_other_called, whole_meant, with_bits, has_range, is_ranged, first_ranged, is_other_ranged, has_other_ranged, ranged_meant, bits_meant, meant_in, meant_at_home, meaning_of};
+ghost use Rattle.scope_wiring.specs.NamedWords.{is_called};
+ghost use Rattle.scope_wiring.specs.Meanings.{first_called, is_other_called, has_other_called, whole_meant, with_bits, has_range, is_ranged, first_ranged, is_other_ranged, has_other_ranged, picked_bits, ranged_meant, bits_meant, or_bits, meant_in, path_at, judged_in, scope_sought, path_sought, name_sought, meaning_of};
 
-use crate::home::Home;
+use crate::home::{Home, scope_named};
+use crate::named_words::{as_named, is_called, is_word, word_at, word_meant};
 use crate::text::{before_bits, bits_named, has_byte};
-use scope_pick::{Range, Variable, Written, after_last, before_last, is_same_wire, without_escape};
+use scope_pick::{Range, Variable, Written, after_last, before_last, is_multi_bit, is_same_wire};
 
 /// What a text means.
 #[derive(Clone, Copy, Debug)]
@@ -15,65 +17,134 @@ pub enum Meaning {
     Nothing,
     /// Several variables of different codes.
     Several,
+    /// A word that is declared bit by bit, and does not have the bits.
+    Lacking,
     /// The variable of this index.
     Whole(usize),
     /// Bits of it.
     Bits(usize, Range),
+    /// The bits of these indices of a word that is declared bit by bit. The text is its name.
+    Word(Range),
+    /// The same. The text is the word's name with the bits behind it.
+    WordBits(Range),
 }
 
-/// What a text means: one with a dot by its own scope, another one in the scope that is judged.
+/// What a text means for a line.
 #[tactic(auto, unfolding(crate::specs::Meanings::meaning_of))]
-pub(crate) fn meaning_of(variables: &[Variable], home: Home, text: &[u8]) -> Meaning
-    ensures { result ≡ meaning_of variables.now home text.now }
+pub(crate) fn meaning_of(variables: &[Variable], home: Home, line: u8, text: &[u8]) -> Meaning
+    ensures { result ≡ meaning_of variables.now home line text.now }
+{
+    match path_sought(variables, home, text) {
+        None => Meaning::Nothing,
+        Some(scope) => meant_in(variables, line, scope, name_sought(text)),
+    }
+}
+
+/// The path of the scope in which a text is looked for.
+#[tactic(auto, unfolding(crate::specs::Meanings::path_sought))]
+pub(crate) fn path_sought<'a>(
+    variables: &'a [Variable],
+    home: Home,
+    text: &[u8],
+) -> Option<&'a [u8]>
+    ensures { option_map (λ path. path.now) result ≡ path_sought variables.now home text.now }
+{
+    path_at(variables, scope_sought(variables, home, text))
+}
+
+#[tactic(auto, unfolding(crate::specs::Meanings::path_at))]
+fn path_at(variables: &[Variable], scope: Option<usize>) -> Option<&[u8]>
+    ensures { option_map (λ path. path.now) result ≡ path_at variables.now scope }
+{
+    match scope {
+        None => None,
+        Some(scope) => match variables.get(scope) {
+            None => None,
+            Some(first) => Some(&first.scope),
+        },
+    }
+}
+
+// One with a dot is looked for in its own scope, another one in the scope that is judged.
+#[tactic(auto, unfolding(crate::specs::Meanings::scope_sought))]
+fn scope_sought(variables: &[Variable], home: Home, text: &[u8]) -> Option<usize>
+    ensures { result ≡ scope_sought variables.now home text.now }
 {
     if has_byte(46, text) {
-        return meant_in(variables, before_last(46, text), after_last(46, text));
+        scope_named(variables, before_last(46, text))
+    } else {
+        judged_in(home)
     }
+}
+
+#[tactic(auto, unfolding(crate::specs::Meanings::judged_in))]
+fn judged_in(home: Home) -> Option<usize>
+    ensures { result ≡ judged_in home }
+{
     match home {
-        Home::Nowhere => Meaning::Nothing,
-        Home::At(scope) => meant_at_home(variables, variables.get(scope), text),
-        Home::Refused(_) => Meaning::Nothing,
+        Home::Nowhere => None,
+        Home::At(scope) => Some(scope),
+        Home::Refused(_) => None,
     }
 }
 
-#[tactic(auto, unfolding(crate::specs::Meanings::meant_at_home))]
-fn meant_at_home(variables: &[Variable], first: Option<&Variable>, text: &[u8]) -> Meaning
-    ensures { result ≡ meant_at_home variables.now (option_map (λ v. v.now) first.entry) text.now }
+/// The name that a text has for a variable.
+#[tactic(auto, unfolding(crate::specs::Meanings::name_sought))]
+pub(crate) fn name_sought(text: &[u8]) -> &[u8]
+    ensures { result.now ≡ name_sought text.now }
 {
-    match first {
-        None => Meaning::Nothing,
-        Some(first) => meant_in(variables, &first.scope, text),
+    after_last(46, text)
+}
+
+#[tactic(auto, unfolding(crate::specs::Meanings::meant_in, scope_pick::specs::Places::is_multi_bit))]
+fn meant_in(variables: &[Variable], line: u8, scope: &[u8], text: &[u8]) -> Meaning
+    ensures { result ≡ meant_in variables.now line scope.now text.now }
+{
+    if is_multi_bit(line) && is_word(variables, scope, text) {
+        word_meant(variables, line, scope, text)
+    } else {
+        or_bits(
+            variables,
+            line,
+            scope,
+            text,
+            whole_meant(variables, scope, text),
+        )
     }
 }
 
-#[tactic(auto, unfolding(crate::specs::Meanings::meant_in))]
-fn meant_in(variables: &[Variable], scope: &[u8], text: &[u8]) -> Meaning
-    ensures { result ≡ meant_in variables.now scope.now text.now }
+#[tactic(auto, unfolding(crate::specs::Meanings::or_bits))]
+fn or_bits(variables: &[Variable], line: u8, scope: &[u8], text: &[u8], meaning: Meaning) -> Meaning
+    ensures { result ≡ or_bits variables.now line scope.now text.now meaning }
 {
-    match whole_meant(variables, scope, text) {
-        Meaning::Nothing => bits_meant(variables, scope, text),
-        Meaning::Several => Meaning::Several,
-        Meaning::Whole(index) => Meaning::Whole(index),
-        Meaning::Bits(index, range) => Meaning::Bits(index, range),
+    match meaning {
+        Meaning::Nothing => bits_meant(variables, line, scope, text),
+        other => other,
     }
 }
 
 #[tactic(auto, unfolding(crate::specs::Meanings::bits_meant))]
-fn bits_meant(variables: &[Variable], scope: &[u8], text: &[u8]) -> Meaning
-    ensures { result ≡ bits_meant variables.now scope.now text.now }
+fn bits_meant(variables: &[Variable], line: u8, scope: &[u8], text: &[u8]) -> Meaning
+    ensures { result ≡ bits_meant variables.now line scope.now text.now }
 {
     match bits_named(text) {
         None => Meaning::Nothing,
-        Some(range) => ranged_meant(variables, scope, before_bits(text), range),
+        Some(range) => ranged_meant(variables, line, scope, before_bits(text), range),
     }
 }
 
 #[tactic(auto, unfolding(crate::specs::Meanings::ranged_meant))]
-fn ranged_meant(variables: &[Variable], scope: &[u8], name: &[u8], range: Range) -> Meaning
-    ensures { result ≡ ranged_meant variables.now scope.now name.now range }
+fn ranged_meant(
+    variables: &[Variable],
+    line: u8,
+    scope: &[u8],
+    name: &[u8],
+    range: Range,
+) -> Meaning
+    ensures { result ≡ ranged_meant variables.now line scope.now name.now range }
 {
     match first_ranged(variables, scope, name, range) {
-        None => with_bits(range, whole_meant(variables, scope, name)),
+        None => picked_bits(variables, line, scope, name, range),
         Some(index) => {
             if has_other_ranged(variables, scope, name, range, variables.get(index)) {
                 Meaning::Several
@@ -81,6 +152,17 @@ fn ranged_meant(variables: &[Variable], scope: &[u8], name: &[u8], range: Range)
                 Meaning::Whole(index)
             }
         }
+    }
+}
+
+#[tactic(auto, unfolding(crate::specs::Meanings::picked_bits))]
+fn picked_bits(variables: &[Variable], line: u8, scope: &[u8], name: &[u8], range: Range) -> Meaning
+    ensures { result ≡ picked_bits variables.now line scope.now name.now range }
+{
+    if line < 22 && is_word(variables, scope, name) {
+        as_named(word_at(variables, line, scope, name, range))
+    } else {
+        with_bits(range, whole_meant(variables, scope, name))
     }
 }
 
@@ -168,8 +250,11 @@ fn with_bits(range: Range, meaning: Meaning) -> Meaning
     match meaning {
         Meaning::Nothing => Meaning::Nothing,
         Meaning::Several => Meaning::Several,
+        Meaning::Lacking => Meaning::Lacking,
         Meaning::Whole(index) => Meaning::Bits(index, range),
         Meaning::Bits(index, _) => Meaning::Bits(index, range),
+        Meaning::Word(_) => Meaning::Nothing,
+        Meaning::WordBits(_) => Meaning::Nothing,
     }
 }
 
@@ -235,12 +320,4 @@ fn first_called(variables: &[Variable], scope: &[u8], name: &[u8]) -> Option<usi
     variables
         .iter()
         .position(|variable| is_called(scope, name, variable))
-}
-
-/// Whether the variable stands in the scope and has the name, escaped or not.
-#[tactic(auto, unfolding(crate::specs::Meanings::is_called))]
-pub(crate) fn is_called(scope: &[u8], name: &[u8], variable: &Variable) -> bool
-    ensures { result ≡ is_called scope.now name.now variable.now }
-{
-    variable.scope.as_slice() == scope && without_escape(&variable.name) == without_escape(name)
 }

@@ -100,6 +100,8 @@ fn cause_meant(
     match meaning {
         Meaning::Nothing => Some(Cause::NoVariable(number)),
         Meaning::Several => Some(Cause::SeveralVariables(number)),
+        Meaning::Lacking => Some(Cause::LacksBits(number)),
+        Meaning::Word(_) | Meaning::WordBits(_) => None,
         Meaning::Whole(index) => {
             if whole_wire(option, index, variables.get(index)).is_some() {
                 None
@@ -126,7 +128,7 @@ fn option_cause(
 ) -> Option<Cause>
     ensures { result ≡ option_cause variables.now home number option.now }
 {
-    let meaning = meaning_of(variables, home, &option.target);
+    let meaning = meaning_of(variables, home, option.line, &option.target);
     cause_meant(variables, number, option, meaning)
 }
 

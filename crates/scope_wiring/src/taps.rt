@@ -40,8 +40,8 @@ fn tap_at(line: u8, width: u32, inverted: bool, place: Place) -> Tap
 
 /// One bit of a word, from its lowest on.
 #[tactic(auto, unfolding(crate::specs::Taps::bit_tap))]
-pub(crate) fn bit_tap(line: u8, number: u8) -> Tap
-    ensures { result ≡ bit_tap line number }
+pub(crate) fn bit_tap(line: u8, number: u8, inverted: bool) -> Tap
+    ensures { result ≡ bit_tap line number inverted }
 {
     Tap {
         line,
@@ -52,7 +52,7 @@ pub(crate) fn bit_tap(line: u8, number: u8) -> Tap
             lowest: number,
             is_turned: false,
         }),
-        inverted: false,
+        inverted,
     }
 }
 

@@ -2,7 +2,7 @@
 
 ghost use Rattle.std.specs.Prelude.{◌≡◌, ◌<◌, ◌-◌, length, take, nat_eq, IfOk, IfSome, position, option_map};
 ghost use Rattle.std.specs.List.{list_any};
-ghost use Rattle.scope_wiring.specs.Texts.{has_byte, said, said_at, said_of, scope_path, range_with, range_inside, bits_named, before_bits, Said};
+ghost use Rattle.scope_wiring.specs.Texts.{has_byte, is_escape, bare_from, is_same_path, said, said_at, said_of, scope_path, range_with, range_inside, bits_named, before_bits, Said};
 ghost use Rattle.scope_wiring.specs.Settling.{said_by};
 
 use scope_pick::{Range, after_last, before_last, index_in, line_named};
@@ -92,6 +92,48 @@ pub(crate) fn scope_path(text: &[u8]) -> &[u8]
     } else {
         text
     }
+}
+
+#[tactic(auto, unfolding(crate::specs::Texts::is_escape))]
+fn is_escape(byte: u8) -> bool
+    ensures { result ≡ is_escape byte }
+{
+    byte == 92 || byte == 32
+}
+
+// The path from its first byte on that no escaped name adds.
+fn bare_from(path: &[u8]) -> &[u8]
+    ensures { result.now ≡ bare_from path.now }
+{
+    let mut rest = path;
+    while let Some((byte, more)) = rest.split_first() {
+        if !is_escape(*byte) {
+            return rest;
+        }
+        rest = more;
+    }
+    rest
+}
+
+/// Whether the paths are the same, whichever of their names are escaped.
+pub(crate) fn is_same_path(one: &[u8], other: &[u8]) -> bool
+    ensures { result ≡ is_same_path one.now other.now }
+{
+    let mut left = bare_from(one);
+    let mut right = bare_from(other);
+    while let Some((byte, more)) = left.split_first() {
+        match right.split_first() {
+            None => return false,
+            Some((same, rest)) => {
+                if *byte != *same {
+                    return false;
+                }
+                left = bare_from(more);
+                right = bare_from(rest);
+            }
+        }
+    }
+    right.is_empty()
 }
 
 #[tactic(auto, unfolding(crate::specs::Texts::range_with))]

@@ -1,14 +1,16 @@
 //! What is taken of a dump's variables.
 
-ghost use Rattle.std.specs.Prelude.{◌≡◌, ◌<◌, IfOk, IfSome, not, option_map};
-ghost use Rattle.std.specs.List.{filter};
-ghost use Rattle.scope_pick.specs.Splits.{bits};
-ghost use Rattle.scope_wiring.specs.Wirings.{wire_if, whole_wire, bits_wire, wire_meant, option_wire, is_taken, line_wire, is_word_taken, is_first, bit_from, bit_wire, wire_in, wire_at, option_wires, found_wires, wires_with, is_wired, absent_lines};
+ghost use Rattle.std.specs.Prelude.{◌≡◌, ◌<◌, IfOk, IfSome, None, map, not, option_map, if◌then◌else◌};
+ghost use Rattle.std.specs.List.{filter, filter_map, enumerate_from};
+ghost use Rattle.scope_pick.specs.Scopes.{found_in, lines};
+ghost use Rattle.scope_pick.specs.Splits.{base_of, bit_in, bits};
+ghost use Rattle.scope_wiring.specs.Wirings.{wire_if, whole_wire, bits_wire, bit_wired, word_wire, word_wires, single, wires_meant, wires_named, is_taken, line_wire, is_word_taken, is_first, bit_from, bit_wire, wire_in, wire_at, option_wires, found_wires, wires_with, is_wired, absent_lines};
 
 use crate::home::Home;
-use crate::meaning::{Meaning, meaning_of};
+use crate::meaning::{Meaning, meaning_of, name_sought, path_sought};
+use crate::named_words::{BIT_NUMBERS, first_bit, index_at};
 use crate::taps::{bit_tap, tap_named, tap_of};
-use crate::text::LineOption;
+use crate::text::{LineOption, before_bits};
 use scope_pick::{
     Bit, Header, Named, Names, Range, Variable, Words, bit_at, bits, is_listed, line_named,
     line_width,
@@ -72,27 +74,134 @@ pub(crate) fn bits_wire(
     }
 }
 
-#[tactic(auto, unfolding(crate::specs::Wirings::wire_meant))]
-fn wire_meant(variables: &[Variable], option: &LineOption, meaning: Meaning) -> Option<Wire>
-    ensures { result ≡ wire_meant variables.now option.now meaning }
+#[tactic(auto, unfolding(crate::specs::Wirings::bit_wired))]
+fn bit_wired(option: &LineOption, number: u8, index: Option<usize>) -> Option<Wire>
+    ensures { result ≡ bit_wired option.now number index }
 {
-    match meaning {
-        Meaning::Nothing => None,
-        Meaning::Several => None,
-        Meaning::Whole(index) => whole_wire(option, index, variables.get(index)),
-        Meaning::Bits(index, range) => bits_wire(option, index, range, variables.get(index)),
+    match index {
+        None => None,
+        Some(index) => Some(Wire {
+            index,
+            tap: bit_tap(option.line, number, option.inverted),
+        }),
     }
 }
 
-#[tactic(auto, unfolding(crate::specs::Wirings::option_wire))]
-fn option_wire(variables: &[Variable], home: Home, option: &LineOption) -> Option<Wire>
-    ensures { result ≡ option_wire variables.now home option.now }
+#[tactic(auto, unfolding(crate::specs::Wirings::word_wire))]
+fn word_wire(
+    variables: &[Variable],
+    option: &LineOption,
+    scope: &[u8],
+    word: &[u8],
+    range: Range,
+    number: u8,
+) -> Option<Wire>
+    requires { option.now.line < 22 }
+    ensures { result ≡ word_wire variables.now option.now scope.now word.now range number }
 {
-    wire_meant(
-        variables,
-        option,
-        meaning_of(variables, home, &option.target),
-    )
+    if u32::from(number) < line_width(option.line) {
+        bit_wired(
+            option,
+            number,
+            first_bit(variables, scope, word, index_at(range, number)),
+        )
+    } else {
+        None
+    }
+}
+
+fn word_wires_among(
+    alloc: Global,
+    variables: &[Variable],
+    option: &LineOption,
+    scope: &[u8],
+    word: &[u8],
+    range: Range,
+    numbers: &[u8],
+) -> Result<Vec<Wire>, AllocError>
+    requires { option.now.line < 22 }
+    ensures { IfOk result (λ v. v.items ≡ filter_map
+        (word_wire variables.now option.now scope.now word.now range) numbers.now) }
+{
+    numbers
+        .iter()
+        .filter_map(|number| word_wire(variables, option, scope, word, range, *number))
+        .collect(alloc)
+}
+
+#[tactic(auto, unfolding(crate::specs::Wirings::word_wires))]
+fn word_wires(
+    alloc: Global,
+    variables: &[Variable],
+    option: &LineOption,
+    range: Range,
+    word: &[u8],
+    scope: Option<&[u8]>,
+) -> Result<Vec<Wire>, AllocError>
+    ensures { IfOk result (λ v. v.items ≡ word_wires variables.now option.now range word.now
+        (option_map (λ path. path.now) scope.entry)) }
+{
+    match scope {
+        None => Ok(Vec::new(alloc)),
+        Some(scope) => {
+            if option.line < 22 {
+                word_wires_among(alloc, variables, option, scope, word, range, &BIT_NUMBERS)
+            } else {
+                Ok(Vec::new(alloc))
+            }
+        }
+    }
+}
+
+#[tactic(auto, unfolding(crate::specs::Wirings::single))]
+fn single(alloc: Global, wire: Option<Wire>) -> Result<Vec<Wire>, AllocError>
+    ensures { IfOk result (λ v. v.items ≡ single wire) }
+{
+    match wire {
+        None => Ok(Vec::new(alloc)),
+        Some(wire) => Vec::from_slice(alloc, &[wire]),
+    }
+}
+
+#[tactic(auto, unfolding(crate::specs::Wirings::wires_meant))]
+fn wires_meant(
+    alloc: Global,
+    variables: &[Variable],
+    home: Home,
+    option: &LineOption,
+    meaning: Meaning,
+) -> Result<Vec<Wire>, AllocError>
+    ensures { IfOk result (λ v. v.items ≡ wires_meant variables.now home option.now meaning) }
+{
+    let name = name_sought(&option.target);
+    match meaning {
+        Meaning::Nothing | Meaning::Several | Meaning::Lacking => Ok(Vec::new(alloc)),
+        Meaning::Whole(index) => { single(alloc, whole_wire(option, index, variables.get(index))) }
+        Meaning::Bits(index, range) => {
+            single(alloc, bits_wire(option, index, range, variables.get(index)))
+        }
+        Meaning::Word(range) => {
+            let path = path_sought(variables, home, &option.target);
+            word_wires(alloc, variables, option, range, name, path)
+        }
+        Meaning::WordBits(range) => {
+            let path = path_sought(variables, home, &option.target);
+            word_wires(alloc, variables, option, range, before_bits(name), path)
+        }
+    }
+}
+
+#[tactic(auto, unfolding(crate::specs::Wirings::wires_named))]
+fn wires_named(
+    alloc: Global,
+    variables: &[Variable],
+    home: Home,
+    option: &LineOption,
+) -> Result<Vec<Wire>, AllocError>
+    ensures { IfOk result (λ v. v.items ≡ wires_named variables.now home option.now) }
+{
+    let meaning = meaning_of(variables, home, option.line, &option.target);
+    wires_meant(alloc, variables, home, option, meaning)
 }
 
 #[tactic(auto, unfolding(crate::specs::Wirings::option_wires))]
@@ -104,10 +213,12 @@ fn option_wires(
 ) -> Result<Vec<Wire>, AllocError>
     ensures { IfOk result (λ v. v.items ≡ option_wires variables.now home options.now) }
 {
-    options
-        .iter()
-        .filter_map(|option| option_wire(variables, home, option))
-        .collect(alloc)
+    let mut wires = Vec::new(alloc);
+    for option in options {
+        let named = wires_named(alloc, variables, home, option)?;
+        wires.extend_from_slice(&named)?;
+    }
+    Ok(wires)
 }
 
 #[tactic(auto, unfolding(crate::specs::Wirings::is_taken))]
@@ -123,18 +234,21 @@ fn is_taken(index: usize, name: Option<Named>) -> bool
 #[tactic(auto, unfolding(crate::specs::Wirings::line_wire))]
 fn line_wire(
     names: &Names<'_>,
+    found: &[Option<Named>],
     settled: &[u8],
     scope: usize,
     index: usize,
     variable: &Variable,
     line: Option<u8>,
 ) -> Option<Wire>
+    requires table { found.now ≡ map (found_in names.now scope) lines }
+    requires line { IfSome line (λ n. n < 22) }
     ensures { result ≡ line_wire names.now settled.now scope index variable.now line }
 {
     match line {
         None => None,
         Some(line) => {
-            if !is_listed(settled, line) && is_taken(index, names.found_in(scope, line)) {
+            if !is_listed(settled, line) && is_taken(index, found_line(names, found, scope, line)) {
                 wire_if(index, tap_of(line, variable, false))
             } else {
                 None
@@ -178,7 +292,7 @@ fn bit_from(bit: Bit, base: Option<u32>) -> Option<Wire>
             if base <= bit.number && bit.number - base < line_width(bit.line) {
                 Some(Wire {
                     index: bit.index,
-                    tap: bit_tap(bit.line, (bit.number - base) as u8),
+                    tap: bit_tap(bit.line, (bit.number - base) as u8, false),
                 })
             } else {
                 None
@@ -191,21 +305,40 @@ fn bit_from(bit: Bit, base: Option<u32>) -> Option<Wire>
 fn bit_wire(
     words: &Words<'_>,
     names: &Names<'_>,
+    found: &[Option<Named>],
     settled: &[u8],
     scope: usize,
     bit: Option<Bit>,
 ) -> Option<Wire>
-    requires { IfSome bit (λ b. b.line < 22) }
+    requires table { found.now ≡ map (found_in names.now scope) lines }
+    requires line { IfSome bit (λ b. b.line < 22) }
     ensures { result ≡ bit_wire words.now names.now settled.now scope bit }
 {
     match bit {
         None => None,
         Some(bit) => {
             if !is_listed(settled, bit.line)
-                && is_word_taken(bit, names.found_in(scope, bit.line))
-                && is_first(bit, words.bit_in(bit, bit.number))
+                && is_word_taken(bit, found_line(names, found, scope, bit.line))
             {
-                bit_from(bit, words.base_of(bit))
+                first_bit_from(words, bit)
+            } else {
+                None
+            }
+        }
+    }
+}
+
+// The bit as one of its word, if it is the first of its number. Most numbers of a long word are none of the line.
+fn first_bit_from(words: &Words<'_>, bit: Bit) -> Option<Wire>
+    requires { bit.line < 22 }
+    ensures { result ≡ (if is_first bit (bit_in words.now bit bit.number)
+        then bit_from bit (base_of words.now bit) else None) }
+{
+    match bit_from(bit, words.base_of(bit)) {
+        None => None,
+        Some(wire) => {
+            if is_first(bit, words.bit_in(bit, bit.number)) {
+                Some(wire)
             } else {
                 None
             }
@@ -218,16 +351,19 @@ fn wire_in(
     header: &Header<'_>,
     words: &Words<'_>,
     names: &Names<'_>,
+    found: &[Option<Named>],
     settled: &[u8],
     scope: usize,
     index: usize,
     variable: &Variable,
 ) -> Option<Wire>
+    requires { found.now ≡ map (found_in names.now scope) lines }
     ensures { result
         ≡ wire_in header.now words.now names.now settled.now scope index variable.now }
 {
     match line_wire(
         names,
+        found,
         settled,
         scope,
         index,
@@ -238,6 +374,7 @@ fn wire_in(
         None => bit_wire(
             words,
             names,
+            found,
             settled,
             scope,
             bit_at(header, index, variable),
@@ -245,26 +382,69 @@ fn wire_in(
     }
 }
 
-#[tactic(auto, unfolding(crate::specs::Wirings::wire_at))]
-fn wire_at(
-    header: &Header<'_>,
-    words: &Words<'_>,
+// The lines of the table as they are found in the scope.
+fn lines_found(
+    alloc: Global,
     names: &Names<'_>,
-    settled: &[u8],
-    home: Home,
-    index: usize,
-    variable: &Variable,
-) -> Option<Wire>
-    ensures { result ≡ wire_at header.now words.now names.now settled.now home index variable.now }
+    scope: usize,
+) -> Result<Vec<Option<Named>>, AllocError>
+    ensures { IfOk result (λ v. v.items ≡ map (found_in names.now scope) lines) }
 {
-    match home {
-        Home::Nowhere => None,
-        Home::At(scope) => wire_in(header, words, names, settled, scope, index, variable),
-        Home::Refused(_) => None,
+    each_found(alloc, names, scope, &LINES)
+}
+
+fn each_found(
+    alloc: Global,
+    names: &Names<'_>,
+    scope: usize,
+    lines: &[u8],
+) -> Result<Vec<Option<Named>>, AllocError>
+    ensures { IfOk result (λ v. v.items ≡ map (found_in names.now scope) lines.now) }
+{
+    lines
+        .iter()
+        .map(|line| names.found_in(scope, *line))
+        .collect(alloc)
+}
+
+// The line as it is found in the scope, of which all are at hand.
+#[tactic(auto, using(crate::proofs::FoundLines::found_is))]
+fn found_line(names: &Names<'_>, found: &[Option<Named>], scope: usize, line: u8) -> Option<Named>
+    requires table { found.now ≡ map (found_in names.now scope) lines }
+    requires line { line < 22 }
+    ensures { result ≡ found_in names.now scope line }
+{
+    match found.get(usize::from(line)) {
+        None => names.found_in(scope, line),
+        Some(name) => *name,
     }
 }
 
-#[tactic(auto, unfolding(crate::specs::Wirings::found_wires))]
+fn wires_in(
+    alloc: Global,
+    header: &Header<'_>,
+    words: &Words<'_>,
+    names: &Names<'_>,
+    found: &[Option<Named>],
+    settled: &[u8],
+    scope: usize,
+) -> Result<Vec<Wire>, AllocError>
+    requires { found.now ≡ map (found_in names.now scope) lines }
+    ensures { IfOk result (λ v. v.items ≡ filter_map
+        (λ p. wire_in header.now words.now names.now settled.now scope p.0 p.1)
+        (enumerate_from 0 header.now)) }
+{
+    header
+        .variables()
+        .iter()
+        .enumerate()
+        .filter_map(|(index, variable)| {
+            wire_in(header, words, names, found, settled, scope, index, variable)
+        })
+        .collect(alloc)
+}
+
+#[tactic(auto, using(crate::proofs::FoundLines::found_at_home, crate::proofs::FoundLines::found_nowhere, crate::proofs::FoundLines::found_refused))]
 fn found_wires(
     alloc: Global,
     header: &Header<'_>,
@@ -276,14 +456,13 @@ fn found_wires(
     ensures { IfOk result (λ v.
         v.items ≡ found_wires header.now words.now names.now settled.now home) }
 {
-    header
-        .variables()
-        .iter()
-        .enumerate()
-        .filter_map(|(index, variable)| {
-            wire_at(header, words, names, settled, home, index, variable)
-        })
-        .collect(alloc)
+    match home {
+        Home::Nowhere | Home::Refused(_) => Ok(Vec::new(alloc)),
+        Home::At(scope) => {
+            let found = lines_found(alloc, names, scope)?;
+            wires_in(alloc, header, words, names, &found, settled, scope)
+        }
+    }
 }
 
 /// The wires of the bus: those that the options take, and those that are found in the scope.
