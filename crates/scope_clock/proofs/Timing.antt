@@ -1,6 +1,6 @@
 -- One more event of those that were shown.
-use Rattle.std.proofs.Common.{◌≡◌, ◌∙◌, ℕ, zero, suc, ◌+◌, Bool, true, false, List, [], ◌∷◌, ◌++◌, length, append-nil, length-append, arith, ap, sym, refl}
-use Rattle.std.specs.Prelude.{◌==◌, if◌then◌else◌, slice_get, Option, Some, None, Result, Ok, Err, IfOk, IfSome}
+use Rattle.std.proofs.Common.{◌≡◌, ◌∙◌, ◌≤◌, inl, inr, ℕ, zero, suc, ◌+◌, Bool, true, false, List, [], ◌∷◌, ◌++◌, length, append-nil, length-append, arith, ap, sym, refl, subst}
+use Rattle.std.specs.Prelude.{◌==◌, if◌then◌else◌, slice_get, Option, Some, None, Result, Ok, Err, IfOk, IfErr, IfSome}
 use Rattle.std.proofs.lemmas.Bool.{eqb-true, eqb-false}
 use Rattle.vcd_way.specs.Events.{DumpEvent, Sampled, Hole, Resumed}
 use Rattle.vcd_way.specs.Pieces.{Stamp, time_at}
@@ -9,7 +9,6 @@ use Rattle.vcd_course.specs.declared.event.Told.TheVariants as told
 use Rattle.vcd_course.specs.Told.{told_with}
 use Rattle.fsb_signal.specs.declared.sample.Sample.{Sample}
 use Rattle.scope_clock.specs.declared.timer.Timer.{Timer}
-use Rattle.vcd_way.specs.Answers.{events_by}
 use Rattle.vcd_way.specs.Declarations.{Declaration}
 use Rattle.vcd_way.specs.Ways.{Way}
 use Rattle.scope_way.specs.Wired.{wired_way}
@@ -17,10 +16,13 @@ use Rattle.scope_wiring.specs.declared.wiring.Choice.{Choice}
 use Rattle.scope_wiring.specs.declared.wiring.Wiring.{Wiring}
 use Rattle.scope_watch.specs.declared.header.Header.{Header}
 use Rattle.scope_watch.specs.declared.stop.ScopeStop.{ScopeStop}
+use Rattle.scope_watch.specs.declared.stop.ScopeStop.TheVariants as stops
+use Rattle.scope_watch.specs.declared.values.Ended.{Ended}
 use Rattle.scope_watch.specs.declared.values.Sampling.{Sampling}
 use Rattle.scope_watch.specs.Checking.{IsWiredBy}
-use Rattle.scope_watch.specs.Watching.{rules_for}
-use Rattle.scope_clock.specs.Times.{HasTimed, IsClockTime, edge_times}
+use Rattle.scope_watch.specs.Heading.{IsHeaded}
+use Rattle.scope_watch.specs.Watching.{IsWatched, rules_for}
+use Rattle.scope_clock.specs.Times.{HasNoTime, HasTimed, IsClockTime, IsTimedBy, IsUntimed, edge_times, most_timed}
 
 -- the times of events, and of one more
 pub edge_times-append : (es : List DumpEvent) (e : DumpEvent) → edge_times (es ++ e ∷ []) ≡ edge_times es ++ edge_times (e ∷ [])
@@ -85,17 +87,72 @@ told-hole a t e = ap (λ x. edge_times (told_with x t ∷ [])) e
 pub told-resumed : (a : Told) (t : Option Stamp) → a ≡ told.Resumed → edge_times (told_with a t ∷ []) ≡ []
 told-resumed a t e = ap (λ x. edge_times (told_with x t ∷ [])) e
 
--- the time that is answered of a text in a way, in the way of its wires
+-- no more clocks than events
+pub times-few : (es : List DumpEvent) → length (edge_times es) ≤ length es
+times-few [] = omega arith
+times-few (Sampled sample stamp ∷ es) = let h = times-few es in omega (arith, h)
+times-few (Hole stamp ∷ es) = let h = times-few es in omega (arith, h)
+times-few (Resumed stamp ∷ es) = let h = times-few es in omega (arith, h)
+
+-- ---- the text
+
+-- a watcher that stops
+abbrev pub watched : ScopeStop → Result Ended ScopeStop
+watched stop = Err stop
+
+pub timed-stop : (stop : ScopeStop) (seen : List DumpEvent → Type 0) (way : Way (List Declaration)) (clock : ℕ)
+    (text : List ℕ) → (watched stop ≡ watched stops.WriteFault → ⊥) → IsWatched (Err stop) seen most_timed way text
+    → IsTimedBy (Err stop) way clock text
+timed-stop (stops.Bad fault) seen way clock text never h = h
+timed-stop stops.ReadFault seen way clock text never h = tt
+timed-stop stops.NoHeader seen way clock text never h = h
+timed-stop stops.TooLong seen way clock text never h = h
+timed-stop stops.TooMany seen way clock text never h = h
+timed-stop stops.WriteFault seen way clock text never h = never refl
+timed-stop stops.Memory seen way clock text never h = tt
+
+pub timed-header : (stop : ScopeStop) (choice : Choice) (s : Sampling) (text left : List ℕ) → IsHeaded (Err stop) text left
+    → IsUntimed stop choice s text
+timed-header (stops.Bad fault) choice s text left h = inl h
+timed-header stops.ReadFault choice s text left h = tt
+timed-header stops.NoHeader choice s text left h = h
+timed-header stops.TooLong choice s text left h = h
+timed-header stops.TooMany choice s text left h = absurd h
+timed-header stops.WriteFault choice s text left h = h
+timed-header stops.Memory choice s text left h = tt
+
+-- the same by the way of the wires
+pub timed-way : (r : Result (Option ℕ) ScopeStop) (way wired : Way (List Declaration)) (clock : ℕ) (text : List ℕ)
+    → way ≡ wired → IsTimedBy r wired clock text → IsTimedBy r way clock text
+timed-way r way wired clock text same h = subst (λ x. IsTimedBy r x clock text) (sym same) h
+
 pub timed-by : (r : Result (Option ℕ) ScopeStop) (choice : Choice) (s : Sampling) (h : Header) (w : Wiring)
-    (way : Way (List Declaration)) (text : List ℕ) (clock : ℕ) → IsWiredBy choice s h w text
-    → way ≡ wired_way w.wires.items (rules_for s)
-    → IfOk r (λ time. time ≡ slice_get (edge_times (events_by way text)) clock)
+    (text : List ℕ) (clock : ℕ) → IsWiredBy choice s h w text
+    → IsTimedBy r (wired_way w.wires.items (rules_for s)) clock text
     → IfOk r (λ time. IfSome time (IsClockTime choice s text clock))
-timed-by (Err stop) choice s h w way text clock wired same e = tt
-timed-by (Ok None) choice s h w way text clock wired same e = tt
-timed-by (Ok (Some time)) choice s h w way text clock wired same e = record {
-  header = h;
-  wiring = w;
-  wired = wired;
-  time_is = ap (λ x. slice_get (edge_times (events_by x text)) clock) (sym same) ∙ sym e;
-}
+timed-by (Err stop) choice s h w text clock wired e = tt
+timed-by (Ok None) choice s h w text clock wired e = tt
+timed-by (Ok (Some time)) choice s h w text clock wired e =
+    record { header = h; wiring = w; wired = wired; time_is = sym e }
+
+pub lacks-by : (r : Result (Option ℕ) ScopeStop) (choice : Choice) (s : Sampling) (h : Header) (w : Wiring)
+    (text : List ℕ) (clock : ℕ) → IsWiredBy choice s h w text
+    → IsTimedBy r (wired_way w.wires.items (rules_for s)) clock text → r ≡ Ok None → HasNoTime choice s text clock
+lacks-by (Err stop) choice s h w text clock wired e is = absurd (let no : ⊥ = cc in no)
+lacks-by (Ok None) choice s h w text clock wired e is =
+    inr (record { header = h; wiring = w; wired = wired; none = sym e })
+lacks-by (Ok (Some time)) choice s h w text clock wired e is = absurd (let no : ⊥ = cc in no)
+
+pub untimed-by : (r : Result (Option ℕ) ScopeStop) (choice : Choice) (s : Sampling) (h : Header) (w : Wiring)
+    (text : List ℕ) (clock : ℕ) → IsWiredBy choice s h w text
+    → IsTimedBy r (wired_way w.wires.items (rules_for s)) clock text → IfErr r (λ stop. IsUntimed stop choice s text)
+untimed-by (Ok time) choice s h w text clock wired e = tt
+untimed-by (Err (stops.Bad fault)) choice s h w text clock wired e =
+    inr (record { header = h; wiring = w; wired = wired; fault_is = e })
+untimed-by (Err stops.ReadFault) choice s h w text clock wired e = tt
+untimed-by (Err stops.NoHeader) choice s h w text clock wired e = absurd e
+untimed-by (Err stops.TooLong) choice s h w text clock wired e = (e, wired.declares.is_dump)
+untimed-by (Err stops.TooMany) choice s h w text clock wired e =
+    record { header = h; wiring = w; wired = wired; many = e }
+untimed-by (Err stops.WriteFault) choice s h w text clock wired e = e
+untimed-by (Err stops.Memory) choice s h w text clock wired e = tt

@@ -1,14 +1,14 @@
 //! The time of a clock, read in a dump.
 
-ghost use Rattle.std.specs.Prelude.{◌≡◌, ◌≤◌, ◌<◌, ℕ, List, IsTrue, IfOk, IfSome, Some, length, slice_get};
+ghost use Rattle.std.specs.Prelude.{◌≡◌, ◌≤◌, ◌<◌, ℕ, List, IsTrue, IfOk, IfErr, IfSome, Ok, Err, None, length};
+ghost use Rattle.fsb_io.specs.Faults.{Rose};
 ghost use Rattle.vcd_grammar.specs.Tokens.{Token};
-ghost use Rattle.vcd_way.specs.Answers.{events_by};
 ghost use Rattle.vcd_scan.specs.Wired.{wires_told};
 ghost use Rattle.vcd_joined.specs.Behind.{gathered_in};
 ghost use Rattle.vcd_joined.specs.Choosing.{Choice as Taking, choosing, IsTaken};
 ghost use Rattle.scope_watch.specs.Heading.{IsReady, StandsBehind};
 ghost use Rattle.scope_watch.specs.Watching.{rules_for};
-ghost use Rattle.scope_clock.specs.Times.{IsClockTime, edge_times};
+ghost use Rattle.scope_clock.specs.Times.{HasNoTime, IsClockTime, IsTimedBy, IsUntimed};
 
 use crate::timer::Timer;
 use fsb_io::Source;
@@ -33,8 +33,9 @@ fn time_behind<S: Source>(
     ensures timed { IsTrue S.tells → (c : Taking) (ts : List Token) (text : List ℕ) →
         StandsBehind (rules_for sampling) behind ts text (S.left source.old) →
         IsTaken c (gathered_in (rules_for sampling) ts).header (wires_told wires) →
-        IfOk result (λ time.
-        time ≡ slice_get (edge_times (events_by (choosing c (rules_for sampling)) text)) clock) }
+        IsTimedBy result (choosing c (rules_for sampling)) clock text }
+    ensures read_fault { result ≡ Err ScopeStop.ReadFault →
+        Rose (S.faults source.old) (S.faults source.new) }
     ensures later { S.faults source.old ≤ S.faults source.new }
     ensures name_stays { IsTrue S.tells → S.begun_as source.new ≡ S.begun_as source.old }
     ensures holds_stays { IsTrue S.tells → S.holds source.new ≡ S.holds source.old }
@@ -44,8 +45,8 @@ fn time_behind<S: Source>(
     Ok(timer.time)
 }
 
-/// The time of the edge of the clock of this number, in steps of the dump, whose wires are chosen so. `None` where the wires
-/// are not picked or the dump has no such clock.
+/// The time of the edge of the clock of this number, in steps of the dump, whose wires are chosen so. `None` exactly where the
+/// wires are not picked or the dump has no such clock.
 pub fn clock_time<S: Source>(
     alloc: Global,
     name: &str,
@@ -59,6 +60,12 @@ pub fn clock_time<S: Source>(
     requires some { 0 < length room.old }
     ensures timed { IsTrue S.tells → IfOk result (λ time.
         IfSome time (IsClockTime choice.now sampling (S.holds source.old) clock)) }
+    ensures none { IsTrue S.tells → result ≡ Ok None →
+        HasNoTime choice.now sampling (S.holds source.old) clock }
+    ensures stop { IsTrue S.tells → IfErr result (λ stop.
+        IsUntimed stop choice.now sampling (S.holds source.old)) }
+    ensures read_fault { result ≡ Err ScopeStop.ReadFault →
+        Rose (S.faults source.old) (S.faults source.new) }
     ensures later { S.faults source.old ≤ S.faults source.new }
     ensures holds_stays { IsTrue S.tells → S.holds source.new ≡ S.holds source.old }
 {

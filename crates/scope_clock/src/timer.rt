@@ -1,11 +1,11 @@
 //! The watcher that waits for a clock.
 
-ghost use Rattle.std.specs.Prelude.{◌≡◌, ◌++◌, ◌∷◌, [], ℕ, List, Err, OnOk, Some, if◌then◌else◌};
+ghost use Rattle.std.specs.Prelude.{◌≡◌, ◌≤◌, ◌++◌, ◌∷◌, [], ℕ, List, Err, OnOk, Some, if◌then◌else◌, length};
 ghost use Rattle.vcd_course.specs.Told.{last_told};
 ghost use Rattle.vcd_way.specs.Events.{DumpEvent};
 ghost use Rattle.vcd_way.specs.Pieces.{time_at};
 ghost use Rattle.vcd_course.specs.Told.{event_told};
-ghost use Rattle.scope_clock.specs.Times.{HasTimed, edge_times};
+ghost use Rattle.scope_clock.specs.Times.{HasTimed, edge_times, most_timed};
 
 use scope_watch::{EventWatcher, WatchStop};
 use vcd_course::{CourseEvent, Stamp, Told};
@@ -37,6 +37,8 @@ impl Timer {
         ensures timed { OnOk result ((events : List DumpEvent) (more : DumpEvent) (clock : ℕ) →
             HasTimed self.old clock events → edge_times (more ∷ []) ≡ time ∷ [] →
             HasTimed self.new clock (events ++ more ∷ [])) }
+        ensures many { result ≡ Err WatchStop.TooMany → (events : List DumpEvent) (clock : ℕ) →
+            HasTimed self.old clock events → most_timed ≤ length events }
         ensures stop { result ≡ Err WatchStop.WriteFault → ⊥ }
     {
         if self.count == u64::MAX {
@@ -66,13 +68,13 @@ fn time_at(stamp: Option<Stamp>) -> u64
 }
 
 impl EventWatcher for Timer {
-    ghost use Rattle.scope_clock.specs.Times.{HasTimed};
+    ghost use Rattle.scope_clock.specs.Times.{HasTimed, most_timed};
 
     ghost has_seen = { λ first now events. HasTimed now first.clock events };
 
     ghost has_failed = { λ _ _. ⊥ };
 
-    ghost most = { 0 };
+    ghost most = { most_timed };
 
     fn see(&mut self, event: &CourseEvent) -> Result<(), WatchStop> {
         match event.told {

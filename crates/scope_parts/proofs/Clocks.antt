@@ -18,7 +18,7 @@ use Rattle.scope_parts.specs.declared.finding.PartFound.{PartFound}
 use Rattle.scope_parts.specs.declared.plan.Plan.{Plan}
 use Rattle.scope_parts.specs.Segments.{Segment, all_of, clocks_in, events_in, is_fault, judged_in, next_part, part_told, parts_behind, parts_in, told_if_judged}
 use Rattle.scope_parts.specs.Holes.{holes_in}
-use Rattle.scope_parts.specs.Findings.{EachBehind, IsOver}
+use Rattle.scope_parts.specs.Findings.{EachBehind, IsOver, broken_clock}
 use Rattle.scope_parts.specs.Standing.{IsWithin, but_last, clock_in, kept_at}
 use Rattle.scope_check.specs.Parts.{clocks_of}
 
@@ -64,6 +64,27 @@ broken-within start part (verdicts.Broken clock rule stamp) h =
     let size = stamps-size part in
     let is = h.1 in
     omega (arith, low, size, is)
+
+-- a broken clock is one of them
+below : (start : ℕ) (part : List DumpEvent) (v : Verdict) → HasStamp start part v → (c : ℕ) → broken_clock v ≡ Some c
+    → c < start + clocks_of part
+below start part verdicts.Nothing h c e = absurd (let no : ⊥ = cc in no)
+below start part verdicts.Accepted h c e = absurd (let no : ⊥ = cc in no)
+below start part (verdicts.Broken clock rule stamp) h c e =
+    let low = got-below (stamps_among part) h.0 (last_told stamp) h.2 in
+    let size = stamps-size part in
+    let is = h.1 in
+    let same : clock ≡ c = cc e in
+    omega (arith, low, size, is, same)
+
+pub broken-below : (f : Judged) (p : Part) (m : Marks) (es : List DumpEvent) → IsFoundIn f p m es → (c : ℕ)
+    → broken_clock f.verdict ≡ Some c → c < clocks_of es
+broken-below f p m es h c e =
+    let all = clocks-counted f p m es h in
+    let clocks = h.clocks in
+    let judged = h.judged in
+    let low = below f.start h.part f.verdict h.stamp c e in
+    omega (arith, all, clocks, judged, low)
 
 pub found-within : (f : Judged) (p : Part) (m : Marks) (es : List DumpEvent) → IsFoundIn f p m es
     → IsWithin f (clocks_of es)

@@ -1,6 +1,9 @@
 mod Endings
 mod Faults
+mod FaultSteps
 mod Found
+mod Going
+mod Partings
 mod Holes
 mod Lists
 mod Remembering

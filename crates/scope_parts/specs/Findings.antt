@@ -1,5 +1,5 @@
 -- What is found of a dump, part by part.
-use Rattle.std.specs.Prelude.{◌≡◌, ℕ, if◌then◌else◌, List, [], ◌∷◌, ◌++◌, length, take, Option, Some, None}
+use Rattle.std.specs.Prelude.{◌≡◌, ℕ, ◌+◌, if◌then◌else◌, List, [], ◌∷◌, ◌++◌, length, take, Option, Some, None}
 use Rattle.fsb_signal.specs.declared.marks.Marks.{Marks}
 use Rattle.vcd_way.specs.Events.{DumpEvent}
 use Rattle.vcd_course.specs.Told.{last_told}
@@ -13,7 +13,7 @@ use Rattle.scope_parts.specs.declared.finding.End.TheVariants as ends
 use Rattle.scope_parts.specs.declared.finding.PartFound.{PartFound}
 use Rattle.scope_parts.specs.declared.finding.PartsFound.{PartsFound}
 use Rattle.scope_parts.specs.declared.plan.Plan.{Plan}
-use Rattle.scope_parts.specs.Segments.{Segment, all_of, events_in, next_part, parts_in, faults_in, judged_in}
+use Rattle.scope_parts.specs.Segments.{Segment, all_of, events_in, next_part, parts_in, faults_in, judged_in, shifted}
 use Rattle.scope_parts.specs.Endings.{ending, breaks_one}
 use Rattle.scope_parts.specs.Holes.{holes_in, first_hole_in}
 
@@ -96,3 +96,14 @@ pub record IsFirstFault (fault : Option ℕ) (plan : Plan) (marks : Marks) (even
   pub over : EachBehind (IsOver plan marks) segments
   pub is_last : IsLast plan marks segments last
   pub fault_is : fault ≡ first_clock (faults_in (segments ++ last ∷ []))
+
+-- the first broken clock of these broken parts, and, where there are none, of a verdict on clocks behind so many others
+abbrev pub fault_among : List PartFound → ℕ → Verdict → Option ℕ
+fault_among [] base v = broken_clock (shifted base v)
+fault_among (p ∷ ps) base v = broken_clock p.verdict
+
+-- what becomes of the first broken clock where so many clocks have been seen: it stays, and a new one is the last of them
+abbrev pub FaultGoes : ℕ → Option ℕ → Option ℕ → Type 0
+FaultGoes clocks (Some clock) after = after ≡ Some clock
+FaultGoes clocks None None = Unit {0}
+FaultGoes clocks None (Some clock) = clock + 1 ≡ clocks

@@ -1,5 +1,5 @@
 -- What a judge of parts has judged.
-use Rattle.std.specs.Prelude.{◌≡◌, ◌≤◌, ℕ, ◌-◌, List, ◌++◌, length, take, filter}
+use Rattle.std.specs.Prelude.{◌≡◌, ◌≤◌, ℕ, ◌-◌, Option, List, ◌++◌, length, take, filter}
 use Rattle.fsb_signal.specs.declared.marks.Marks.{Marks}
 use Rattle.vcd_way.specs.Events.{DumpEvent}
 use Rattle.vcd_course.specs.Told.{last_told}
@@ -21,7 +21,7 @@ use Rattle.scope_parts.specs.declared.judge.PartsJudge.{PartsJudge}
 use Rattle.scope_parts.specs.declared.plan.Plan.{Plan}
 use Rattle.scope_parts.specs.Segments.{Segment, clocks_in, events_in, next_part, parts_in, judged_in, is_fault}
 use Rattle.scope_parts.specs.Holes.{holes_in, first_hole_in}
-use Rattle.scope_parts.specs.Findings.{EachBehind, GoesOn, IsOver}
+use Rattle.scope_parts.specs.Findings.{EachBehind, GoesOn, IsOver, fault_among}
 
 -- the clocks and the holes of these events
 pub record Counted (c : Counts) (events : List DumpEvent) : Type 0 where
@@ -83,3 +83,7 @@ pub record Stands (j : PartsJudge) (plan : Plan) (marks : Marks) (events : List 
   pub latest : Remembers j.latest (next_part plan segments) marks open_events
   pub tallied : Tallies j.tally segments
   pub counted : Counted j.counts events
+
+-- the first broken clock that the judge has found, if there is one
+abbrev pub fault_of : PartsJudge → Option ℕ
+fault_of j = fault_among j.tally.kept.faults.items j.tally.clocks j.latest.found.verdict

@@ -10,8 +10,8 @@ ghost use Rattle.scope_check.specs.Standing.{Stands as JudgingStands};
 ghost use Rattle.scope_parts.specs.declared.plan.Plan.{Plan};
 ghost use Rattle.scope_parts.specs.Plans.{later_part};
 ghost use Rattle.scope_parts.specs.Segments.{Segment, all_of, clocks_in, judged_in};
-ghost use Rattle.scope_parts.specs.Findings.{IsFirstFault, IsJudgedInParts};
-ghost use Rattle.scope_parts.specs.Standing.{IsWithin, Remembers, Stands, Tallies, kept_at};
+ghost use Rattle.scope_parts.specs.Findings.{FaultGoes, IsFirstFault, IsJudgedInParts, first_clock};
+ghost use Rattle.scope_parts.specs.Standing.{IsWithin, Remembers, Stands, Tallies, fault_of, kept_at};
 
 use crate::counts::Counts;
 use crate::ending::{broken_behind, broken_clock, ending, kept_at, last_end};
@@ -59,6 +59,9 @@ impl PartsJudge {
         requires { (p : Plan) × (m : Marks) × (es : List DumpEvent) × Stands self.old p m es }
         ensures stands { (p : Plan) (m : Marks) (es : List DumpEvent) → Stands self.old p m es →
             OnOk result (Stands self.new p m (es ++ event_told event.now ∷ [])) }
+        ensures goes { (p : Plan) (m : Marks) (es : List DumpEvent) → Stands self.old p m es →
+            OnOk result (FaultGoes (clocks_of (es ++ event_told event.now ∷ []))
+            (fault_of self.old) (fault_of self.new)) }
         ensures many { (p : Plan) (m : Marks) (es : List DumpEvent) → Stands self.old p m es →
             IfErr result (λ _. most_counted ≤ length es) }
     {
@@ -111,8 +114,10 @@ impl PartsJudge {
 
     /// The first clock with a broken rule, if one was found: what is drawn of a dump lies around it.
     pub fn first_fault(&self) -> Option<u64>
-        ensures { (p : Plan) (m : Marks) (es : List DumpEvent) → Stands self.now p m es →
+        ensures first { (p : Plan) (m : Marks) (es : List DumpEvent) → Stands self.now p m es →
             IsFirstFault result p m es }
+        ensures same { (p : Plan) (m : Marks) (es : List DumpEvent) → Stands self.now p m es →
+            result ≡ fault_of self.now }
     {
         match self.tally.kept.faults.as_slice().first() {
             Some(part) => broken_clock(&part.verdict),
@@ -127,6 +132,8 @@ impl PartsJudge {
     pub fn found(self) -> Result<PartsFound, TooMany>
         ensures judged { (p : Plan) (m : Marks) (es : List DumpEvent) → Stands self p m es →
             IfOk result (λ found. IsJudgedInParts found p m es) }
+        ensures fault { (p : Plan) (m : Marks) (es : List DumpEvent) → Stands self p m es →
+            IfOk result (λ found. first_clock found.faults.items ≡ fault_of self) }
         ensures many { (p : Plan) (m : Marks) (es : List DumpEvent) → Stands self p m es →
             IfErr result (λ _. most_counted < length es) }
     {

@@ -1,5 +1,5 @@
 -- The samples that a ring was fed.
-use Rattle.std.specs.Prelude.{◌≡◌, ◌≤◌, ℕ, ◌-◌, nat_le, if◌then◌else◌, List, length, Option, None, slice_get, take}
+use Rattle.std.specs.Prelude.{◌≡◌, ℕ, ◌-◌, nat_le, if◌then◌else◌, List, length, Option, None, slice_get}
 use Rattle.circular_buffer.specs.Buffer.{keep_last}
 use Rattle.fsb_signal.specs.declared.sample.Sample.{Sample}
 use Rattle.scope_ring.specs.declared.ring.Ring.{Ring}
@@ -13,9 +13,3 @@ pub record Stands (ring : Ring) (h : List Sample) : Type 0 where
 -- the sample of a clock, where it is one of the last sixteen
 abbrev pub kept_at : List Sample → ℕ → Option Sample
 kept_at h c = if nat_le (length h - 16) c then slice_get h c else None
-
--- the ring was fed the first of these samples, so many
-pub record FedFirst (ring : Ring) (samples : List Sample) : Type 0 where
-  pub count : ℕ
-  pub few : count ≤ length samples
-  pub stands : Stands ring (take count samples)

@@ -1,6 +1,6 @@
-ghost use Rattle.std.specs.Prelude.{◌≡◌, ◌<◌, ◌≤◌, ◌^◌, ◌+◌, ◌-◌, ◌++◌, ◌∷◌, [], List, length, IfOk, option_copied};
+ghost use Rattle.std.specs.Prelude.{◌≡◌, ◌<◌, ◌^◌, ◌+◌, ◌-◌, ◌++◌, ◌∷◌, [], List, length, IfOk, option_copied};
 ghost use Rattle.fsb_signal.specs.declared.sample.Sample.{Sample};
-ghost use Rattle.scope_ring.specs.Ring.{Stands, FedFirst, kept_at};
+ghost use Rattle.scope_ring.specs.Ring.{Stands, kept_at};
 
 use circular_buffer::HeapCircularBuffer;
 use fsb_signal::Sample;
@@ -34,20 +34,6 @@ impl Ring {
     {
         self.kept.push_back(*sample);
         self.count += 1;
-    }
-
-    /// Takes the sample of the next clock of a dump, which has so many up to it, as long as they are no more than `end`. A ring
-    /// that has left one out takes none behind it.
-    pub fn follow(&mut self, sample: &Sample, count: u64, end: u64)
-        requires { (h : List Sample) × FedFirst self.old h × (count ≡ length h + 1) }
-        ensures first { (h : List Sample) → FedFirst self.old h → count ≡ length h + 1 →
-            FedFirst self.new (h ++ sample.now ∷ []) }
-        ensures all { (h : List Sample) → Stands self.old h → count ≡ length h + 1 → count ≤ end →
-            Stands self.new (h ++ sample.now ∷ []) }
-    {
-        if count <= end && self.count == count.saturating_sub(1) {
-            self.feed(sample);
-        }
     }
 
     /// How many samples were fed: the number of the clock that comes next.

@@ -9,11 +9,11 @@ use Rattle.vcd_way.specs.Events.{DumpEvent, samples_among}
 use Rattle.scope_watch.specs.declared.values.Ended.{Ended}
 use Rattle.scope_watch.specs.Limit.{IsLimit}
 use Rattle.vcd_scan.specs.Ending.{early_told}
-use Rattle.scope_ring.specs.Ring.{FedFirst}
+use Rattle.scope_ring.specs.Ring.{Stands as RingStands}
 use Rattle.vcd_way.proofs.Interface.{tokens_longer}
 use Rattle.scope_check.specs.Bounds.{most_counted}
 use Rattle.scope_parts.specs.declared.plan.Plan.{Plan}
-use Rattle.scope_parts.specs.Findings.{IsJudgedInParts}
+use Rattle.scope_parts.specs.Findings.{IsJudgedInParts, first_clock}
 use Rattle.scope_wiring.specs.declared.wiring.Choice.{Choice}
 use Rattle.scope_wiring.specs.declared.wiring.Wiring.{Wiring}
 use Rattle.scope_way.specs.Wired.{wired_way}
@@ -32,7 +32,7 @@ use Rattle.scope_watch.specs.Buses.{IsBus}
 use Rattle.scope_watch.proofs.Picks.{taken}
 use Rattle.scope_watch.specs.Heading.{IsInside, IsWhole, BeginsBy, IsHeaded}
 use Rattle.scope_watch.specs.Watching.{rules_for, IsWatched}
-use Rattle.scope_watch.specs.Checking.{IsJudgedAs, Declares, IsWiredBy, IsChecked}
+use Rattle.scope_watch.specs.Checking.{IsJudgedAs, Declares, IsWiredBy, IsChecked, kept_to}
 
 -- ---- the header of a text
 
@@ -86,7 +86,8 @@ pub judged-told : (answer : Result JudgedText ScopeStop) (plan : Plan) (marks : 
     (text : List ℕ) (ended : Ended) → first_fault_by way text ≡ None
     → option_map early_told ended.early_end ≡ early_end_by way text → IsLimit way text ended.limit
     → IfOk answer (λ told. IsJudgedInParts told.judged plan marks (events_by way text)
-    × (told.early_end ≡ ended.early_end) × (told.limit ≡ ended.limit) × FedFirst told.last (samples_among (events_by way text)))
+    × (told.early_end ≡ ended.early_end) × (told.limit ≡ ended.limit)
+    × RingStands told.last (kept_to (first_clock told.judged.faults.items) (samples_among (events_by way text))))
     → IfErr answer (λ stop. stop ≡ stops.TooMany) → IfErr answer (λ _. most_counted ≤ length (events_by way text))
     → IsJudgedAs answer plan marks way text
 judged-told (Ok told) plan marks way text ended none end limit h e many = record {

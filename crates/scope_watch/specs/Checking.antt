@@ -1,6 +1,7 @@
 -- What is found of a dump.
-use Rattle.std.specs.Prelude.{true, false, ◌≡◌, ◌<◌, ◌≤◌, ◌^◌, ◌⊎◌, ℕ, List, ◌++◌, length, Some, None, option_map, Result, Ok, Err}
+use Rattle.std.specs.Prelude.{Bool, true, false, ◌≡◌, ◌<◌, ◌≤◌, ◌+◌, ◌-◌, ◌^◌, ◌⊎◌, nat_le, ℕ, List, ◌++◌, length, take, Option, Some, None, option_map, Result, Ok, Err}
 use Rattle.fsb_signal.specs.declared.marks.Marks.{Marks}
+use Rattle.fsb_signal.specs.declared.sample.Sample.{Sample}
 use Rattle.vcd_grammar.specs.declared.fault.VcdFault.{VcdFault}
 use Rattle.vcd_grammar.specs.Judging.{marks_of_lines}
 use Rattle.vcd_grammar.specs.Tokens.{Token, tokens_of}
@@ -11,14 +12,15 @@ use Rattle.vcd_scan.specs.Ending.{early_told}
 use Rattle.vcd_way.specs.Events.{samples_among}
 use Rattle.vcd_joined.specs.Behind.{IsHeader, gathered_in}
 use Rattle.scope_wiring.specs.declared.wiring.Choice.{Choice}
+use Rattle.scope_wiring.specs.declared.wiring.Refusal.{Refusal}
 use Rattle.scope_wiring.specs.declared.wiring.Wiring.{Wiring}
 use Rattle.scope_wiring.specs.declared.wiring.Picking.TheVariants as pickings
 use Rattle.scope_wiring.specs.Pickings.{IsPicking}
 use Rattle.scope_way.specs.Wired.{wired_way, wired_lines}
 use Rattle.scope_check.specs.Bounds.{most_counted}
 use Rattle.scope_parts.specs.declared.plan.Plan.{Plan}
-use Rattle.scope_parts.specs.Findings.{IsJudgedInParts}
-use Rattle.scope_ring.specs.Ring.{FedFirst}
+use Rattle.scope_parts.specs.Findings.{IsJudgedInParts, first_clock}
+use Rattle.scope_ring.specs.Ring.{Stands as RingStands}
 use Rattle.scope_watch.specs.declared.stop.ScopeStop.{ScopeStop}
 use Rattle.scope_watch.specs.declared.stop.ScopeStop.TheVariants as stops
 use Rattle.scope_watch.specs.declared.header.Header.{Header}
@@ -32,14 +34,25 @@ use Rattle.scope_watch.specs.Prefaces.{is_no_dump}
 use Rattle.scope_watch.specs.Limit.{IsLimit}
 use Rattle.scope_watch.specs.Watching.{rules_for}
 
+-- the samples up to two clocks behind a broken one; without one, all
+abbrev pub kept_to : Option ℕ → List Sample → List Sample
+kept_to None samples = samples
+kept_to (Some clock) samples = take (clock + 3) samples
+
+-- the last of so many clocks is one of these
+abbrev pub is_kept : Option ℕ → ℕ → Bool
+is_kept None clocks = true
+is_kept (Some clock) clocks = nat_le (clocks - 3) clock
+
 -- a whole text, read in a way, has no fault; this is found of its events, parted so, with these marks, and this is its
--- early end and the limit that it tells, if it has one; these samples were fed to the ring one after another from clock 0 on
+-- early end and the limit that it tells, if it has one; the ring was fed its samples up to two clocks behind the first
+-- broken one
 pub record IsJudgedText (told : JudgedText) (plan : Plan) (marks : Marks) (way : Way (List Declaration)) (text : List ℕ) : Type 0 where
   pub none : first_fault_by way text ≡ None
   pub found : IsJudgedInParts told.judged plan marks (events_by way text)
   pub early_end : option_map early_told told.early_end ≡ early_end_by way text
   pub limit : IsLimit way text told.limit
-  pub last : FedFirst told.last (samples_among (events_by way text))
+  pub last : RingStands told.last (kept_to (first_clock told.judged.faults.items) (samples_among (events_by way text)))
 
 -- what is judged of a whole text, read in a way and parted so, with these marks; nothing is written
 abbrev pub IsJudgedAs : Result JudgedText ScopeStop → Plan → Marks → Way (List Declaration) → List ℕ → Type 0
@@ -65,6 +78,13 @@ pub record Declares (m : ValueRules) (h : Header) (text : List ℕ) : Type 0 whe
 pub record IsWiredBy (choice : Choice) (s : Sampling) (h : Header) (w : Wiring) (text : List ℕ) : Type 0 where
   pub declares : Declares (rules_for s) h text
   pub picked : IsPicking h.variables.items choice (pickings.Wired w)
+
+-- the wires of the bus are not picked of the text's header
+pub record IsUnpicked (choice : Choice) (s : Sampling) (text : List ℕ) : Type 0 where
+  pub header : Header
+  pub refusal : Refusal
+  pub declares : Declares (rules_for s) header text
+  pub picked : IsPicking header.variables.items choice (pickings.Refused refusal)
 
 -- what is found of a text with this header: why its wires are not picked, or the verdicts on the parts of
 -- the samples of the wires

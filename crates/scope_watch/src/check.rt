@@ -1,5 +1,5 @@
 //! The check of a dump: its events are judged as they come.
-ghost use Rattle.std.specs.Prelude.{◌≡◌, ◌≤◌, ◌<◌, ◌++◌, ◌∷◌, ℕ, List, [], Err, Some, IsTrue, IfOk, IfErr, OnOk, length};
+ghost use Rattle.std.specs.Prelude.{◌≡◌, ◌≤◌, ◌<◌, ◌++◌, ◌∷◌, ℕ, List, [], Option, Err, Some, IsTrue, IfOk, IfErr, OnOk, length};
 ghost use Rattle.fsb_io.specs.Faults.{Rose};
 ghost use Rattle.vcd_grammar.specs.Tokens.{Token};
 ghost use Rattle.vcd_way.specs.Events.{DumpEvent, samples_among};
@@ -9,13 +9,14 @@ ghost use Rattle.vcd_joined.specs.Behind.{gathered_in};
 ghost use Rattle.vcd_joined.specs.Choosing.{Choice as Taking, choosing, IsTaken};
 ghost use Rattle.scope_check.specs.Bounds.{most_counted};
 ghost use Rattle.scope_parts.specs.declared.plan.Plan.{Plan};
-ghost use Rattle.scope_parts.specs.Findings.{IsJudgedInParts};
-ghost use Rattle.scope_parts.specs.Standing.{Stands};
-ghost use Rattle.scope_ring.specs.Ring.{FedFirst};
+ghost use Rattle.scope_check.specs.Parts.{clocks_of};
+ghost use Rattle.scope_parts.specs.Findings.{FaultGoes, IsJudgedInParts, first_clock};
+ghost use Rattle.scope_parts.specs.Standing.{Stands, fault_of};
+ghost use Rattle.scope_ring.specs.Ring.{Stands as RingStands};
 ghost use Rattle.fsb_signal.specs.declared.marks.Marks.{Marks};
 ghost use Rattle.scope_watch.specs.Heading.{IsReady, StandsBehind};
 ghost use Rattle.scope_watch.specs.Watching.{rules_for};
-ghost use Rattle.scope_watch.specs.Checking.{IsJudgedAs, IsChecked};
+ghost use Rattle.scope_watch.specs.Checking.{IsJudgedAs, IsChecked, is_kept, kept_to};
 
 use crate::begin::read_header;
 use crate::bus::{Picked, marks_of, pick_bus};
@@ -70,24 +71,32 @@ struct Judge {
     last: Ring,
 }
 
-/// How many clocks are kept up to two behind a broken one.
-fn end_of(fault: Option<u64>) -> u64 {
+/// Whether the last of so many clocks is kept: it lies no more than two behind a broken one.
+fn is_kept(fault: Option<u64>, clocks: u64) -> bool
+    ensures { result ≡ is_kept fault clocks }
+{
     match fault {
-        Some(clock) => clock.saturating_add(3),
-        None => u64::MAX,
+        Some(clock) => clocks.saturating_sub(3) <= clock,
+        None => true,
     }
 }
 
 /// Shows the ring the next event of a dump, which has so many clocks up to it, and maybe a broken one.
 fn keep(last: &mut Ring, event: &CourseEvent, clocks: u64, fault: Option<u64>)
-    requires { (es : List DumpEvent) × FedFirst last.old (samples_among es)
-        × (clocks ≡ length (samples_among (es ++ event_told event.now ∷ []))) }
-    ensures { (es : List DumpEvent) → FedFirst last.old (samples_among es) →
-        clocks ≡ length (samples_among (es ++ event_told event.now ∷ [])) →
-        FedFirst last.new (samples_among (es ++ event_told event.now ∷ [])) }
+    requires { (before : Option ℕ) × (es : List DumpEvent)
+        × RingStands last.old (kept_to before (samples_among es)) × FaultGoes clocks before fault
+        × (clocks ≡ clocks_of (es ++ event_told event.now ∷ [])) }
+    ensures { (before : Option ℕ) (es : List DumpEvent) →
+        RingStands last.old (kept_to before (samples_among es)) → FaultGoes clocks before fault →
+        clocks ≡ clocks_of (es ++ event_told event.now ∷ []) →
+        RingStands last.new (kept_to fault (samples_among (es ++ event_told event.now ∷ []))) }
 {
     match event.told {
-        Told::Sampled(sample) => last.follow(&sample, clocks, end_of(fault)),
+        Told::Sampled(sample) => {
+            if is_kept(fault, clocks) {
+                last.feed(&sample);
+            }
+        }
         Told::Hole => {}
         Told::Resumed => {}
     }
@@ -96,11 +105,12 @@ fn keep(last: &mut Ring, event: &CourseEvent, clocks: u64, fault: Option<u64>)
 impl EventWatcher for Judge {
     ghost use Rattle.vcd_way.specs.Events.{samples_among};
     ghost use Rattle.scope_check.specs.Bounds.{most_counted};
-    ghost use Rattle.scope_parts.specs.Standing.{Stands};
-    ghost use Rattle.scope_ring.specs.Ring.{FedFirst};
+    ghost use Rattle.scope_parts.specs.Standing.{Stands, fault_of};
+    ghost use Rattle.scope_ring.specs.Ring.{Stands as RingStands};
+    ghost use Rattle.scope_watch.specs.Checking.{kept_to};
 
     ghost has_seen = { λ first now events. Stands now.judging first.plan first.marks events
-        × FedFirst now.last (samples_among events) };
+        × RingStands now.last (kept_to (fault_of now.judging) (samples_among events)) };
 
     ghost has_failed = { λ _ _. ⊥ };
 
@@ -122,9 +132,10 @@ impl EventWatcher for Judge {
 /// What was judged of a dump with this end.
 fn told_of(judge: Judge, ended: Ended) -> Result<JudgedText, ScopeStop>
     ensures told { (p : Plan) (m : Marks) (es : List DumpEvent) → Stands judge.judging p m es →
-        FedFirst judge.last (samples_among es) →
+        RingStands judge.last (kept_to (fault_of judge.judging) (samples_among es)) →
         IfOk result (λ told. IsJudgedInParts told.judged p m es
-        × (told.early_end ≡ ended.early_end) × (told.limit ≡ ended.limit) × FedFirst told.last (samples_among es)) }
+        × (told.early_end ≡ ended.early_end) × (told.limit ≡ ended.limit)
+        × RingStands told.last (kept_to (first_clock told.judged.faults.items) (samples_among es))) }
     ensures stop { IfErr result (λ stop. stop ≡ ScopeStop.TooMany) }
     ensures many { (p : Plan) (m : Marks) (es : List DumpEvent) → Stands judge.judging p m es →
         IfErr result (λ _. most_counted ≤ length es) }

@@ -1,4 +1,4 @@
-use Rattle.std.proofs.Common.{◌≡◌, ◌∙◌, ◌∷◌, [], ap, sym}
+use Rattle.std.proofs.Common.{◌∙◌, ◌∷◌, [], ap, arith, length-append, sym}
 use Rattle.std.proofs.lemmas.Result.{on_ok_weaker}
 use Rattle.vcd_course.specs.Told.{event_told, last_told}
 use Rattle.scope_clock.proofs.Timing.{timed-none, told-one, told-hole, told-resumed}
@@ -26,3 +26,9 @@ returns-in-Resumed-clause-seen c = λ first h seen.
     let event = c.args.event.now in
     timed-none c.args.self.now first.clock h (event_told event) seen
     (told-resumed event.told (last_told event.stamp) c.in-Resumed.is)
+
+pub returns-in-Sampled-clause-many : goal.returns-in-Sampled-clause-many
+returns-in-Sampled-clause-many c = λ e first h seen.
+    let many = c.pass.ensures.many e h first.clock seen in
+    let more = length-append h (event_told c.args.event.now ∷ []) in
+    omega (arith, many, more)

@@ -6,6 +6,7 @@ use Rattle.scope_check.specs.Bounds.{most_counted}
 use Rattle.scope_check.specs.Parts.{clocks_of}
 use Rattle.scope_parts.specs.Segments.{events_in}
 use Rattle.scope_parts.proofs.Clocks.{clocks-counted, clocks_of-append, found-within, segments-few, within-more}
+use Rattle.scope_parts.proofs.Faults.{fault-told}
 use Rattle.scope_parts.proofs.judge.PartsJudge.found.Goals as goal
 
 pub returns-clause-judged : goal.returns-clause-judged
@@ -14,6 +15,15 @@ returns-clause-judged c p m es s =
     let f = j.latest.found in
     let end = c.last_end.result in
     judged_in_parts j c.add.new.self p m es s end c.last_end.ensures
+    (c.in_ok-add.ensures.tallies s.segments (last_at s.open_events f end) s.tallied refl refl
+    (last_clocks f (next_part p s.segments) m s.open_events end s.latest.found))
+
+pub returns-clause-fault : goal.returns-clause-fault
+returns-clause-fault c p m es s =
+    let j = c.args.self in
+    let f = j.latest.found in
+    let end = c.last_end.result in
+    fault-told j c.add.new.self p m es s end c.last_end.ensures
     (c.in_ok-add.ensures.tallies s.segments (last_at s.open_events f end) s.tallied refl refl
     (last_clocks f (next_part p s.segments) m s.open_events end s.latest.found))
 

@@ -14,6 +14,8 @@ use Rattle.scope_check.proofs.Interface.{clocks-few, if-err}
 use Rattle.scope_parts.specs.Segments.{events_in}
 use Rattle.scope_parts.specs.Standing.{but_last}
 use Rattle.scope_parts.proofs.Clocks.{clocks-before, err-so, found-within, kept-within, segments-few, within-more}
+use Rattle.scope_parts.specs.Plans.{later_part}
+use Rattle.scope_parts.proofs.FaultSteps.{ends-with, goes-on}
 use Rattle.scope_parts.proofs.judge.PartsJudge.take.Goals as goal
 
 pub returns-in-None-clause-stands : goal.returns-in-None-clause-stands
@@ -28,6 +30,35 @@ returns-in-None-clause-stands c p m es s =
     p m es e s refl refl refl (c.in_ok-count.ensures.counted es s.counted) judging
     (c.follow.ensures part m s.open_events e s.latest found) f found
     (sym (ending_is j p m es s f e) ∙ sym c.in-None.ensures)
+
+pub returns-in-None-clause-goes : goal.returns-in-None-clause-goes
+returns-in-None-clause-goes c p m es s =
+    let j = c.args.self.now in
+    let e = event_told c.args.event.now in
+    let part = next_part p s.segments in
+    let xs = s.open_events in
+    let found = c.judged-found.ensures part m (xs ++ e ∷ []) (c.in_ok-take.ensures.stands part m xs s.judging) in
+    goes-on j (record j { counts = c.count.new.self; judging = c.take.new.self; latest = c.follow.new.self })
+    p m es e s refl (c.follow.ensures part m xs e s.latest found).found
+
+pub returns-in-Some-clause-goes : goal.returns-in-Some-clause-goes
+returns-in-Some-clause-goes c p m es s =
+    let j = c.args.self.now in
+    let k = c.close.new.self in
+    let e = event_told c.args.event.now in
+    let part = next_part p s.segments in
+    let xs = s.open_events in
+    let f = c.judged-found.result in
+    let b = j.latest.before in
+    let end = c.in-Some.end in
+    let found = c.judged-found.ensures part m (xs ++ e ∷ []) (c.in_ok-take.ensures.stands part m xs s.judging) in
+    let x = segment_at end xs e f b in
+    let size : f.clocks ≡ clocks_of (all_of x) =
+    clocks-counted f part m (xs ++ e ∷ []) found ∙ ap clocks_of (sym (all_at end xs e f b)) in
+    on_ok c.close.result (λ tallied judging latest. ends-with j k p m es e s end f x
+    (later_part j.plan k.tally.clocks) j.marks found (sym (ending_is j p m es s f e) ∙ sym c.in-Some.ensures)
+    refl refl tallied latest)
+    (c.close.ensures.tallied s.segments x s.tallied refl refl size) c.close.ensures.judging c.close.ensures.latest
 
 pub returns-in-Some-clause-stands : goal.returns-in-Some-clause-stands
 returns-in-Some-clause-stands c p m es s =
