@@ -1,14 +1,14 @@
 -- What is asked of a word in single bits is answered by its own bits.
-use Rattle.std.proofs.Common.{◌≡◌, ◌∙◌, ℕ, ◌+◌, Bool, true, false, nat_eq, nat_le, not, cond, ◌&&◌, ◌||◌, List, [], ◌∷◌, ◌++◌, Option, Some, None, refl, ap, sym, append-nil, BTreeMap, Vec, Global}
+use Rattle.std.proofs.Common.{◌≡◌, ◌∙◌, ℕ, ◌+◌, Bool, true, false, nat_eq, nat_le, not, cond, ◌&&◌, ◌||◌, List, [], ◌∷◌, ◌++◌, Option, Some, None, refl, ap, sym, append-nil, BTreeMap, Vec, Global, IfSome}
 use Rattle.std.specs.Cmp.{both_tied, unsigned_ties}
-use Rattle.std.specs.List.{filter, list_any}
+use Rattle.std.specs.List.{filter, find, list_any}
 use Rattle.std.specs.Ordering.{bool_cmp, is_eq}
 use Rattle.std.proofs.lemmas.Bool.{and_parts, eqb-true}
 use Rattle.scope_pick.specs.declared.split.Bit.{Bit}
 use Rattle.scope_pick.specs.Places.{line_width, lowest_index}
 use Rattle.scope_pick.specs.Splits.{is_of_word, is_bit_of, bit_in, is_other_bit, has_bit, bit_numbers, has_bits_from, base_of, is_first_bit}
 use Rattle.std.specs.BTreeMap.{get}
-use Rattle.scope_pick.specs.Words.{WordKey, word_key, key_cmp, items_kept, word_at}
+use Rattle.scope_pick.specs.Words.{WordKey, word_key, key_cmp, items_kept, word_at, base_at}
 use Rattle.scope_pick.proofs.Within.{find-filtered, any-filtered, find-passes, all-agree}
 
 -- both or neither
@@ -95,6 +95,53 @@ bits-within bs b base =
 pub base-within : (bs : List Bit) (b : Bit) → base_of (filter (is_of_word b) bs) b ≡ base_of bs b
 unfolding base_of
 base-within bs b = rw (bits-within bs b (lowest_index b.line), bits-within bs b 0) refl
+
+-- searches by tests that agree
+find-agree : (p q : Bit → Bool) → ((c : Bit) → p c ≡ q c) → (bs : List Bit) → find p bs ≡ find q bs
+find-agree p q h [] = refl
+find-agree p q h (c ∷ bs) = rw (h c) rw (find-agree p q h bs) refl
+
+-- bits of one word have its bits and its lowest number alike
+bit-same : (bs : List Bit) (b c : Bit) (n : ℕ) → is_of_word b c ≡ true → bit_in bs c n ≡ bit_in bs b n
+unfolding bit_in is_bit_of
+bit-same bs b c n h =
+    find-agree (is_bit_of c n) (is_bit_of b n) (λ e. ap (λ t. t && nat_eq e.number n) (word-same b c e h)) bs
+
+has-same : (bs : List Bit) (b c : Bit) (n : ℕ) → is_of_word b c ≡ true → has_bit bs c n ≡ has_bit bs b n
+unfolding has_bit
+has-same bs b c n h = ap (is_alone bs) (bit-same bs b c n h)
+
+bits-same : (bs : List Bit) (b c : Bit) (base : ℕ) → is_of_word b c ≡ true
+    → has_bits_from bs c base ≡ has_bits_from bs b base
+unfolding has_bits_from
+bits-same bs b c base h =
+    all-agree (λ k. nat_le (line_width c.line) k || has_bit bs c (base + k))
+    (λ k. nat_le (line_width b.line) k || has_bit bs b (base + k))
+    (λ k. ap (λ l. nat_le (line_width l) k || has_bit bs c (base + k)) (same-fields b c h).1
+    ∙ ap (λ o. nat_le (line_width b.line) k || o) (has-same bs b c (base + k) h)) bit_numbers
+
+pub base-same : (bs : List Bit) (b c : Bit) → is_of_word b c ≡ true → base_of bs c ≡ base_of bs b
+unfolding base_of
+base-same bs b c h =
+    ap (λ l. cond (has_bits_from bs c (lowest_index l)) (Some (lowest_index l))
+    (cond (has_bits_from bs c 0) (Some 0) None)) (same-fields b c h).1
+    ∙ rw (bits-same bs b c (lowest_index b.line) h) rw (bits-same bs b c 0 h) refl
+
+-- what is kept of the numbers, once that of a bit's word is kept too
+pub base-kept : (old new : BTreeMap WordKey (Option ℕ)) (bs : List Bit) (b other : Bit) (base : Option ℕ)
+    → IfSome (base_at old other) (λ kept. kept ≡ base_of bs other)
+    → base ≡ base_of bs b
+    → get key_cmp new (word_key other)
+    ≡ cond (is_eq (key_cmp (word_key b) (word_key other))) (Some base) (get key_cmp old (word_key other))
+    → IfSome (base_at new other) (λ kept. kept ≡ base_of bs other)
+base-kept old new bs b other base before own is =
+    rw (is ∙ ap (λ t. cond t (Some base) (get key_cmp old (word_key other))) (keys_tie b other))
+    (at (is_of_word other b) refl)
+  where
+    at : (t : Bool) → is_of_word other b ≡ t
+        → IfSome (cond t (Some base) (get key_cmp old (word_key other))) (λ kept. kept ≡ base_of bs other)
+    at true same = own ∙ base-same bs other b same
+    at false apart = before
 
 -- what is kept of a word, where another value is kept for one word alone
 pub kept-but : (old new : BTreeMap WordKey (Vec Bit Global)) (b other : Bit) (w : Option (Vec Bit Global))

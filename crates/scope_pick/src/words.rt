@@ -3,7 +3,7 @@
 ghost use Rattle.std.specs.Prelude.{◌≡◌, ◌++◌, [], ◌∷◌, ◌<◌, IfOk, IfSome, OnOk, if◌then◌else◌};
 ghost use Rattle.scope_pick.specs.declared.split.Bit.{Bit as Declared};
 ghost use Rattle.scope_pick.specs.Splits.{is_of_word, base_of, bit_in, is_joined, is_first_bit};
-ghost use Rattle.scope_pick.specs.Words.{word_at, AreWords};
+ghost use Rattle.scope_pick.specs.Words.{word_at, base_at, AreWords, AreBases};
 
 use crate::split::{Bit, base_of, bit_in, is_first_bit};
 use std::alloc::{AllocError, Global};
@@ -16,18 +16,21 @@ pub struct Words<'a> {
     bits: &'a [Bit],
     /// By the scope, the line, and whether the name is the line's own.
     words: BTreeMap<(usize, u8, bool), Vec<Bit>>,
+    /// The number of each word's lowest bit, by the same.
+    bases: BTreeMap<(usize, u8, bool), Option<u32>>,
 }
 
 impl<'a> Model for Words<'a> {
     ghost use Rattle.std.specs.Prelude.{List};
     ghost use Rattle.scope_pick.specs.declared.split.Bit.{Bit as Declared};
-    ghost use Rattle.scope_pick.specs.Words.{AreWords};
+    ghost use Rattle.scope_pick.specs.Words.{AreBases, AreWords};
 
     ghost Value = { List Declared };
 
     ghost view = { λ words. words.bits.now };
 
-    ghost invariant = { λ words. AreWords words.words words.bits.now };
+    ghost invariant = { λ words.
+        AreWords words.words words.bits.now × AreBases words.bases words.bits.now };
 }
 
 impl<'a> Words<'a> {
@@ -35,10 +38,9 @@ impl<'a> Words<'a> {
     pub fn new(alloc: Global, bits: &'a [Bit]) -> Result<Self, AllocError>
         ensures { IfOk result (λ words. words ≡ bits.now) }
     {
-        Ok(Words {
-            bits,
-            words: words_of(alloc, bits)?,
-        })
+        let words = words_of(alloc, bits)?;
+        let bases = bases_of(alloc, bits, &words)?;
+        Ok(Words { bits, words, bases })
     }
 
     /// Whether the bit is the first of its word in the header.
@@ -60,7 +62,10 @@ impl<'a> Words<'a> {
         requires { bit.line < 22 }
         ensures { result ≡ base_of self.now bit }
     {
-        base_of(word_at(&self.words, bit), bit)
+        match base_at(&self.bases, bit) {
+            Some(base) => base,
+            None => base_in(&self.words, self.bits, bit),
+        }
     }
 
     /// Whether the bit belongs to a word that has all its bits.
@@ -122,4 +127,55 @@ fn word_at(words: &BTreeMap<(usize, u8, bool), Vec<Bit>>, bit: Bit) -> &[Bit]
         Some(word) => word,
         None => &[],
     }
+}
+
+// The number of the lowest bit of each word.
+fn bases_of(
+    alloc: Global,
+    bits: &[Bit],
+    words: &BTreeMap<(usize, u8, bool), Vec<Bit>>,
+) -> Result<BTreeMap<(usize, u8, bool), Option<u32>>, AllocError>
+    requires { AreWords words.now bits.now }
+    ensures { IfOk result (λ bases. AreBases bases bits.now) }
+{
+    let mut bases = BTreeMap::new(alloc);
+    for bit in bits {
+        keep_base(&mut bases, words, bits, *bit)?;
+    }
+    Ok(bases)
+}
+
+// Keeps the number for the bit's word, unless it is kept already.
+fn keep_base(
+    bases: &mut BTreeMap<(usize, u8, bool), Option<u32>>,
+    words: &BTreeMap<(usize, u8, bool), Vec<Bit>>,
+    bits: &[Bit],
+    bit: Bit,
+) -> Result<(), AllocError>
+    requires words { AreWords words.now bits.now }
+    requires bases { AreBases bases.old bits.now }
+    ensures { OnOk result (AreBases bases.new bits.now) }
+{
+    if bit.line < 22 && base_at(bases, bit).is_none() {
+        let base = base_in(words, bits, bit);
+        bases.insert((bit.scope, bit.line, bit.exact), base)?;
+    }
+    Ok(())
+}
+
+// The number of the lowest bit of the bit's word, asked of its own bits.
+fn base_in(words: &BTreeMap<(usize, u8, bool), Vec<Bit>>, bits: &[Bit], bit: Bit) -> Option<u32>
+    requires words { AreWords words.now bits.now }
+    requires line { bit.line < 22 }
+    ensures { result ≡ base_of bits.now bit }
+{
+    let _bits = bits;
+    base_of(word_at(words, bit), bit)
+}
+
+// What is kept of the number of the lowest bit of the bit's word.
+fn base_at(bases: &BTreeMap<(usize, u8, bool), Option<u32>>, bit: Bit) -> Option<Option<u32>>
+    ensures { result ≡ base_at bases.now bit }
+{
+    bases.get(&(bit.scope, bit.line, bit.exact)).copied()
 }

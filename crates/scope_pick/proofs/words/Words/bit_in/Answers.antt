@@ -8,5 +8,5 @@ pub returns : goal.returns
 returns c =
     c.bit_in.ensures
     ∙ ap (λ bs. bit_in bs c.args.bit c.args.number)
-    (c.word_at.ensures ∙ c.self.invariant c.args.bit ∙ ap (filter (is_of_word c.args.bit)) c.self.view_is)
+    (c.word_at.ensures ∙ c.self.invariant.0 c.args.bit ∙ ap (filter (is_of_word c.args.bit)) c.self.view_is)
     ∙ bit-within c.args.self.now c.args.bit c.args.number

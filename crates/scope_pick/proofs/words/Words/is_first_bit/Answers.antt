@@ -8,5 +8,5 @@ pub returns : goal.returns
 returns c =
     c.is_first_bit.ensures
     ∙ ap (λ bs. is_first_bit bs c.args.bit)
-    (c.word_at.ensures ∙ c.self.invariant c.args.bit ∙ ap (filter (is_of_word c.args.bit)) c.self.view_is)
+    (c.word_at.ensures ∙ c.self.invariant.0 c.args.bit ∙ ap (filter (is_of_word c.args.bit)) c.self.view_is)
     ∙ first-bit-within c.args.self.now c.args.bit
