@@ -19,8 +19,8 @@ named-next lines n row e =
 
 -- the same of a list to which the name of the next row is added, if that is among the lines
 pub named_on : (lines : Lines) (n : ℕ) (old new : List Data) → n < 21 → old ≡ names_in lines (take n line_names)
-  → ((row : List ℕ × ℕ) → slice_get line_names n ≡ Some row → new ≡ old ++ names_in lines (row ∷ []))
-  → new ≡ names_in lines (take (n + 1) line_names)
+    → ((row : List ℕ × ℕ) → slice_get line_names n ≡ Some row → new ≡ old ++ names_in lines (row ∷ []))
+    → new ≡ names_in lines (take (n + 1) line_names)
 named_on lines n old new below so_far added =
     let row = get_or line_names n ([], 0) in
     let e = slice_get-get_or line_names n ([], 0) below in
