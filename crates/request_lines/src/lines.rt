@@ -24,6 +24,9 @@ use std::alloc::{AllocError, Global};
 /// How many samples are fed, at most.
 const MOST: u64 = 4_294_967_280;
 
+/// How many are counted, at most.
+const MOST_COUNTED: u64 = 4_294_967_295;
+
 /// Hands out the lines of the requests of a trace, up to its first broken phase rule.
 #[derive(Drop)]
 pub struct RequestLines {
@@ -137,13 +140,16 @@ impl RequestLines {
         Ok(lines_of(self.alloc, self.form, &rows, before)?)
     }
 
-    /// The lines of the requests in flight behind the samples that break no phase rule.
+    /// The lines of the requests in flight behind the samples that break no phase rule. Where more samples were fed than are
+    /// counted, there are none.
     pub fn rest(&self, before: u32) -> Result<Vec<u8>, Memory>
-        requires { (form : FormIs) × (m : MarksAre) × (w : Trace) × Stands self.now form m w }
         ensures { IfOk result (λ text. (form : FormIs) (m : MarksAre) (w : Trace) →
             Stands self.now form m w →
             text.items ≡ lines_text form before (flight_of (sound_part m w))) }
     {
+        if MOST_COUNTED < self.table.clock() {
+            return Ok(Vec::new(self.alloc));
+        }
         let rows = rows_in_flight(self.alloc, &self.table)?;
         Ok(lines_of(self.alloc, self.form, &rows, before)?)
     }

@@ -1,10 +1,7 @@
-use Rattle.std.proofs.Common.{◌∙◌, ap, sym}
+use Rattle.std.proofs.Common.{◌∙◌, ap, arith}
 use Rattle.row_texts.specs.Lines.{lines_text}
 use Rattle.request_lines.specs.Tables.{sound_part}
 use Rattle.request_lines.proofs.lines.RequestLines.rest.Goals as goal
-
-pub rows_in_flight-requires : goal.rows_in_flight-requires
-rows_in_flight-requires c = let (form, m, w, s) = c.requires in s.few
 
 pub returns : goal.returns
 returns c = λ form m w s.
