@@ -3,7 +3,7 @@
 //! [`put_around`] appends the table of the requests around a clock: those that were over last, and those in flight.
 //! docs/scope.md has one, and says what each column is; rows_program tests whole tables. Nothing is promised.
 //!
-//! Next: fsb_recent, which says which requests these are.
+//! Next: fsb_recent, which says which requests these are, and row_texts, which has what stands in each column.
 #![tactic(auto)]
 
 pub use table::put_around;

@@ -28,7 +28,7 @@ pub fn put_around(
 }
 
 // The names of the columns, and the cells of each row; nothing where there is none.
-fn lines_of(alloc: Global, rows: &[Row], before: u32) -> Result<Vec<Vec<String>>, AllocError> {
+fn lines_of(alloc: Global, rows: &[Row], before: u32) -> Result<Vec<Vec<Vec<u8>>>, AllocError> {
     let mut lines = Vec::new(alloc);
     if rows.is_empty() {
         return Ok(lines);
@@ -40,22 +40,22 @@ fn lines_of(alloc: Global, rows: &[Row], before: u32) -> Result<Vec<Vec<String>>
     Ok(lines)
 }
 
-fn head(alloc: Global) -> Result<Vec<String>, AllocError> {
+fn head(alloc: Global) -> Result<Vec<Vec<u8>>, AllocError> {
     let mut names = Vec::new(alloc);
     for name in COLUMNS.iter() {
-        names.push(String::from_str(alloc, *name)?)?;
+        names.push(Vec::from_slice(alloc, name.as_bytes())?)?;
     }
     Ok(names)
 }
 
 // Makes each column as wide as its widest cell.
-fn widen(widths: &mut [usize; 9], lines: &[Vec<String>]) {
+fn widen(widths: &mut [usize; 9], lines: &[Vec<Vec<u8>>]) {
     for line in lines {
         widen_by(widths, line);
     }
 }
 
-fn widen_by(widths: &mut [usize; 9], line: &[String]) {
+fn widen_by(widths: &mut [usize; 9], line: &[Vec<u8>]) {
     for (width, cell) in widths.iter_mut().zip(line) {
         *width = (*width).max(cell.len());
     }
@@ -65,7 +65,7 @@ fn put_lines(
     text: &mut Vec<u8>,
     title: &str,
     widths: &[usize; 9],
-    lines: &[Vec<String>],
+    lines: &[Vec<Vec<u8>>],
 ) -> Result<(), AllocError> {
     if lines.is_empty() {
         return Ok(());
@@ -78,11 +78,11 @@ fn put_lines(
 }
 
 // Appends cells with two spaces between their columns, and none behind the last one.
-fn put_line(text: &mut Vec<u8>, widths: &[usize; 9], line: &[String]) -> Result<(), AllocError> {
+fn put_line(text: &mut Vec<u8>, widths: &[usize; 9], line: &[Vec<u8>]) -> Result<(), AllocError> {
     let mut gap = 4;
     for (width, cell) in widths.iter().zip(line) {
         put_spaces(text, gap)?;
-        text.extend_from_slice(cell.as_bytes())?;
+        text.extend_from_slice(cell)?;
         gap = width.saturating_sub(cell.len()).saturating_add(2);
     }
     text.push(b'\n')?;

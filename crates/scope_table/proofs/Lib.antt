@@ -1,0 +1,4 @@
+mod Places
+mod Starting
+mod Writing
+mod Tables
