@@ -18,7 +18,7 @@ use Rattle.fsb_owners.specs.Joint.{Joint, agents, state_at}
 use Rattle.fsb_owners.specs.Possible.{fits_answer, may_ask, settled_at_end}
 use Rattle.fsb_owners.specs.Shown.{agent_at, asks, is_coming, is_for_line, is_turned, may_drop_at, origin_clock_of, purpose_at, snooped_at}
 
--- four agents, of whom one that may write has the line alone
+-- four agents. Who has the line Exclusive or Modified has it alone
 pub record HasOneWriter (joint : Joint) : Type 0 where
   pub four : length joint ≡ 4
   pub alone : (a b : ℕ) → a < 4 → b < 4 → a ≢ b → is_sole (state_at joint a) ≡ true →
@@ -57,8 +57,7 @@ answers_rightly v c None joint = true
 answers_rightly v c (Some s) joint =
     is_reply (live_request_of v s.number) || fits_snoop (line_at HIT v c) (line_at HITM v c) s.asker s.kind joint
 
--- how the machine of a line settles the request at this snoop end; one that is to be answered later leaves its agent as one
--- that is to be made again
+-- how the machine of a line settles the request at this snoop end. A deferral counts as a retry: both leave their agent's state
 unfoldable pub settled_at_snoop : Trace → ℕ → LineSnoop → Settled
 settled_at_snoop v c s =
     if is_reply (live_request_of v s.number) then Replied
@@ -90,7 +89,7 @@ abbrev pub MayMove : Trace → ℕ → ℕ → ℕ → Mesi → Mesi → Type 0
 MayMove v line c b from to = (from ≡ to) ⊎ (HasStored v line c b from to ⊎ HasDropped v line c b from to)
 
 -- clock c takes the line from one joint state to the next. Who begins a request for it may ask so. What stands at a snoop end is
--- what the agents answer, and the line has one writer behind it. Then each agent moves on unseen
+-- what the agents answer, and who may write has the line alone behind it. Then each agent moves on unseen
 pub record IsStep (v : Trace) (line c : ℕ) (before after : Joint) : Type 0 where
   pub asked : (a : ℕ) (kind : Purpose) → asks v line a c ≡ true → purpose_at v c ≡ Some kind →
       may_ask kind (state_at before a) ≡ true
@@ -99,8 +98,8 @@ pub record IsStep (v : Trace) (line c : ℕ) (before after : Joint) : Type 0 whe
   pub moves : (b : ℕ) → b < 4 →
       MayMove v line c b (state_at (joint_after_snoop v c (line_snoop_at v line c) before) b) (state_at after b)
 
--- a course of the line through n clocks: a joint state before each of them and one behind the last. It begins with one of these,
--- it has one writer throughout, and each clock takes it on
+-- a course of the line through n clocks: a joint state before each of them and one behind the last. It begins with one of the
+-- first joint states, who may write has the line alone throughout, and each clock takes it on
 pub record IsCourse (first : List Joint) (v : Trace) (line n : ℕ) (course : ℕ → Joint) : Type 0 where
   pub begins : Contains first (course 0)
   pub one_writer : (c : ℕ) → c ≤ n → HasOneWriter (course c)

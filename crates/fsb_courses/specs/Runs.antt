@@ -27,7 +27,7 @@ abbrev pub AllStill : List Event → Type 0
 AllStill [] = Unit {0}
 AllStill (e ∷ es) = (changes_no_state e ≡ true) × AllStill es
 
--- at c an agent stores only where its bytes have come, and drops only where it waits for nothing
+-- at c an agent stores only where its bytes have come, drops only where it waits for nothing, and no other event changes a state
 abbrev pub KeepsGuards : Trace → ℕ → ℕ → Event → Type 0
 KeepsGuards v line c (Stores a change) = is_coming v line a (c + 1) ≡ false
 KeepsGuards v line c (Drops a) = may_drop_at v line c a ≡ true
@@ -54,8 +54,9 @@ SnoopsAs v c None x y = x ≡ y
 SnoopsAs v c (Some s) x y =
     (e : Event) × May x e × (machine_snoop x e (line_at HIT v c) ≡ Some (shown_as v c s)) × (after x e ≡ y)
 
--- events that may happen take the line through clock c, as the wires show it: first some that leave the states, among them the
--- begin of a request by an agent that may ask so; then the snoop end; then stores, drops and others that nobody sees
+-- events that may happen take the line through clock c, as the wires show it: first some that leave the states; then the snoop
+-- end; then stores and drops that keep the guards, among events that leave the states. Who begins a request may ask so. The
+-- events that leave the states need not be those of the wires
 pub record FitsClock (v : Trace) (line c : ℕ) (before after : MemoryLine) : Type 0 where
   pub early : List Event
   pub early_may : MayRun before early

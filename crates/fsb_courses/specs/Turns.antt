@@ -12,8 +12,8 @@ use Rattle.fsb_trace.specs.Outcome.{is_deferred}
 use Rattle.fsb_owners.specs.Rules.{is_answered_below, is_served_or_deferred}
 use Rattle.fsb_owners.specs.Shown.{asks, is_held_back, is_still_asking, names, origin_of, purpose_at, snooped_at}
 
--- live request i is Deferred, and live request j asks for its line: the snoop of j ends behind that of i, and the reply to i
--- does not have its own before that
+-- live request i is Deferred. Live request j asks for its line, and the snoop of j ends behind that of i, but not behind that
+-- of the reply to i
 pub record IsAskedWhilePending (v : Trace) (line i j : ℕ) : Type 0 where
   pub deferred : is_deferred v i ≡ true
   pub clock : ℕ
@@ -33,9 +33,10 @@ pub record IsAskedWhilePending (v : Trace) (line i j : ℕ) : Type 0 where
   pub behind : snoop < later_snoop
   pub unanswered : is_answered_below v i later_snoop ≡ false
 
--- the requests for the line wait for their turn at c, the last clock of v: by rules 21, 22, 30 and 31
+-- the requests for the line wait for their turn at c, the last clock of v, and a reply repeats HIT#: rules 21, 30 and 31, and
+-- of rule 22 that others go first
 pub record WaitTheirTurn (v : Trace) (line c : ℕ) : Type 0 where
-  -- who begins a request has no other one outstanding
+  -- who begins a request for the line has no earlier one for it outstanding
   pub asks_once : (q a : ℕ) → q + 1 ≡ c → asks v line a q ≡ true → is_still_asking v line a q ≡ false
   -- who begins a write-back has let the open requests of others go first
   pub lets_others_go : (q a : ℕ) → q + 1 ≡ c → asks v line a q ≡ true → purpose_at v q ≡ Some WriteBack →
@@ -43,5 +44,5 @@ pub record WaitTheirTurn (v : Trace) (line c : ℕ) : Type 0 where
   -- a reply repeats HIT# of the request that it answers
   pub repeats_hit : (j i q a : ℕ) → snooped_at v c ≡ Some j → is_reply (live_request_of v j) ≡ true → origin_of v j ≡ Some i →
       live_clock_of v i ≡ Some q → asks v line a q ≡ true → line_at HIT v c ≡ line_at_snoop_end HIT v i
-  -- a pending line is given to nobody else
+  -- a pending line is neither given to a later request, nor deferred for one
   pub keeps_pending : (i j : ℕ) → IsAskedWhilePending v line i j → is_served_or_deferred v j ≡ false

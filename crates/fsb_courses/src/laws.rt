@@ -36,8 +36,8 @@ pub fn first_states_are_coherent()
     ensures unknown { AreCoherent every_joint }
 {}
 
-/// HIT# and HITM# fit a joint state exactly so: HITM# stands where another agent than the asker has the line Modified, and HIT#
-/// where none has it Modified and another one holds it.
+/// Where HIT# and HITM# fit a joint state, HITM# stands exactly where another agent than the asker has the line Modified, and
+/// HIT# exactly where none has it Modified and another one holds it.
 pub fn snoops_are_answered_by_the_others()
     ensures hitm { (hit hitm : Bool) (asker : ℕ) (joint : Joint) →
         fits_answer hit hitm asker joint ≡ true →
@@ -69,7 +69,7 @@ pub fn coherence_is_a_course_of_each_line()
         (coherence_verdict m first w ≡ None) ↔ ((verdict m w ≡ None) × CouldBeMade first w) }
 {}
 
-/// In such a trace one course goes through all clocks of a line, if none of its requests failed hard.
+/// In a trace that a coherent system could have made, one course goes through all clocks of a line, if none of its requests failed hard.
 pub fn coherent_lines_have_one_course()
     ensures { (first : List Joint) (w : Trace) (line : ℕ) → CouldBeMade first w → 0 < length w →
         is_spoiled w line ≡ false → HasCourse first w line (length w) }
@@ -100,8 +100,8 @@ pub fn the_machine_moves_as_courses()
     ensures one_writer { (x : MemoryLine) → IsCoherent x → HasOneWriter (map x.state agents) }
 {}
 
-/// Where a run of that machine fits the wires, clock by clock and always coherent, its states are a course. So where each line
-/// has such a run and its requests wait for their turn, no rule of ownership is broken.
+/// Where a run of that machine fits the wires, clock by clock, always coherent, and keeps the guards of a course, its states are
+/// a course. So where each line has such a run and its requests wait for their turn, no rule of ownership is broken.
 pub fn runs_of_the_machine_are_courses()
     ensures course { (first : List Joint) (v : Trace) (line n : ℕ) (lines : ℕ → MemoryLine) →
         FitsWires first v line n lines →

@@ -11,16 +11,16 @@ ghost use Rattle.fsb_owner_verdict.specs.Coherence.{coherence_verdict};
 ghost use Rattle.fsb_owners.specs.Rules.{is_ownership_broken, ownership_verdict};
 ghost use Rattle.fsb_courses.specs.Coherent.{CouldBeMade};
 
-/// An agent of a timely run asks for a line once, until its request is answered: rule 21 is broken
-/// at no clock, whatever the caches may hold at first.
+/// An agent of a timely run, of a plan within these bounds, asks for a line once, until its request is
+/// answered: rule 21 is broken at no clock, whatever the caches may hold at first.
 pub fn runs_ask_once()
     ensures { (first : List Joint) (r : Run) (c : ℕ) → Timely r → KeepsBounds r.plan →
         is_ownership_broken first r.trace c 21 ≡ false }
 {}
 
-/// A timely run begins with empty caches. So it breaks no rule of ownership, at any of its clocks,
-/// where empty caches are among what a line may have at first; and the verdict on its trace is none,
-/// be they known to be empty or not.
+/// A timely run, of a plan within the bounds of a bench file, begins with empty caches. It breaks no
+/// rule of ownership at any clock, where empty caches are among what a line may have at first. So the
+/// verdict on its trace is none, whether the judge knows that they are empty or not.
 pub fn runs_keep_ownership()
     ensures clock { (first : List Joint) (r : Run) (c j : ℕ) → Contains first unheld →
         Timely r → KeepsBounds r.plan →
@@ -31,7 +31,7 @@ pub fn runs_keep_ownership()
         ownership_verdict every_joint r.trace ≡ None }
 {}
 
-/// So a timely run is coherent: of all rules, 1 to 31, its trace breaks none, in profile 2 with its
+/// So such a run is coherent: of all rules, 1 to 31, its trace breaks none, in profile 2 with its
 /// parity and in profile 1 without.
 pub fn runs_are_coherent()
     ensures { (r : Run) → Timely r → KeepsBounds r.plan →

@@ -1,7 +1,8 @@
 //! A simulated run breaks no rule of ownership: laws over the definitions, and no code.
 //!
 //! `proofs/` shows that the joint state of a line in a run is one of those that the wires leave,
-//! clock by clock. Its agents ask what suits it, and HIT# and HITM# say it. What happens unseen is
+//! clock by clock. Each agent asks what suits its state, and HIT# and HITM# say what the others have.
+//! What happens unseen is
 //! what an agent may do unseen.
 #![tactic(auto)]
 
