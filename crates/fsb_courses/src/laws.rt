@@ -69,7 +69,8 @@ pub fn coherence_is_a_course_of_each_line()
         (coherence_verdict m first w ≡ None) ↔ ((verdict m w ≡ None) × CouldBeMade first w) }
 {}
 
-/// In a trace that a coherent system could have made, one course goes through all clocks of a line, if none of its requests failed hard.
+/// In a trace that a coherent system could have made, one course goes through all clocks of a line, if none of its requests
+/// failed hard.
 pub fn coherent_lines_have_one_course()
     ensures { (first : List Joint) (w : Trace) (line : ℕ) → CouldBeMade first w → 0 < length w →
         is_spoiled w line ≡ false → HasCourse first w line (length w) }

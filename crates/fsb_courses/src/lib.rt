@@ -9,7 +9,9 @@
 //! [`possible_states_end_courses`] says that the sets of fsb_owners are the ends of courses, and
 //! [`ownership_is_a_course_of_each_line`] that no rule is broken exactly where each line has one and its requests wait for their
 //! turn. A line is judged until one of its requests fails hard. [`runs_of_the_machine_are_courses`] says that a run of the
-//! machine is one, with its links and bytes left out, if it fits the wires, and stores, drops and upgrades as a course may. Read `Courses`, `Turns` and `Coherent` of `specs/`, then `Machine` and `Runs`.
+//! machine is one, with its links and bytes left out, if it fits the wires, and stores, drops and upgrades as a course may.
+//!
+//! Read `Courses`, `Turns` and `Coherent` of `specs/`, then `Machine` and `Runs`.
 #![tactic(auto)]
 
 pub use laws::{
