@@ -183,6 +183,7 @@ fn dump_of<'a>(order: &Order<'a>) -> &'a str {
         Order::Lines { dump } => *dump,
         Order::Check { dump, .. } => *dump,
         Order::Coherence { dump, .. } => *dump,
+        Order::Table { dump, .. } => *dump,
         Order::Pick { dump, .. } => *dump,
         Order::Rule { .. } => "",
     }
@@ -193,6 +194,7 @@ fn lines_of<'a>(order: &Order<'a>) -> &'a str {
     match order {
         Order::Check { wires, .. } => wires.file.unwrap_or(""),
         Order::Coherence { wires, .. } => wires.file.unwrap_or(""),
+        Order::Table { wires, .. } => wires.file.unwrap_or(""),
         Order::Pick { wires, .. } => wires.file.unwrap_or(""),
         Order::Lines { .. } | Order::Rule { .. } => "",
     }
@@ -203,7 +205,7 @@ fn views_of<'a>(order: &Order<'a>) -> Views<'a> {
     match order {
         Order::Check { views, .. } => *views,
         Order::Lines { .. } | Order::Coherence { .. } => NO_VIEWS,
-        Order::Pick { .. } | Order::Rule { .. } => NO_VIEWS,
+        Order::Table { .. } | Order::Pick { .. } | Order::Rule { .. } => NO_VIEWS,
     }
 }
 

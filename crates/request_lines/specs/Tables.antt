@@ -16,8 +16,8 @@ before_verdict (Some p) w = take p.0 w
 abbrev pub sound_part : Marks → Trace → Trace
 sound_part m w = before_verdict (verdict m w) w
 
--- the line of the names, and the lines of the requests that were over in them, in the order in which they were; their clocks
--- come behind so many
+-- the line of the names, and a line for each request that is over in the sound part, in the order in which they were over. So
+-- many clocks of the dump come before
 abbrev pub over_text : Form → ℕ → Marks → Trace → List ℕ
 over_text form before m w = head_text form ++ lines_text form before (over_of (sound_part m w))
 

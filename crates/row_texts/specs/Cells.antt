@@ -19,7 +19,7 @@ unfoldable pub clock_text : ℕ → Option ℕ → List ℕ
 clock_text before None = []
 clock_text before (Some clock) = decimal (before + clock)
 
--- how many clocks lie between one and another, where both are there
+-- how many clocks the second comes behind the first, where both are there
 unfoldable pub between_text : Option ℕ → Option ℕ → List ℕ
 between_text None end = []
 between_text (Some begin) None = []

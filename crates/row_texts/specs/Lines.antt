@@ -26,9 +26,9 @@ name_of columns.Response = codes "response"
 name_of columns.Outcome = codes "outcome"
 name_of columns.End = codes "end"
 name_of columns.Reply = codes "reply"
-name_of columns.ToSnoop = codes "to_snoop"
-name_of columns.ToResponse = codes "to_response"
-name_of columns.ToEnd = codes "to_end"
+name_of columns.ToSnoop = codes "first_to_snoop"
+name_of columns.ToResponse = codes "snoop_to_response"
+name_of columns.ToEnd = codes "first_to_end"
 
 -- how wide a column is at least in aligned lines; the last one ends with its cell
 unfoldable pub width_of : Column → ℕ
@@ -37,13 +37,13 @@ width_of columns.Agent = 5
 width_of columns.Kind = 10
 width_of columns.Address = 9
 width_of columns.Snoop = 8
-width_of columns.Signs = 9
+width_of columns.Signs = 10
 width_of columns.Response = 8
 width_of columns.Outcome = 8
 width_of columns.End = 8
 width_of columns.Reply = 8
-width_of columns.ToSnoop = 8
-width_of columns.ToResponse = 11
+width_of columns.ToSnoop = 14
+width_of columns.ToResponse = 17
 width_of columns.ToEnd = 0
 
 -- the first column

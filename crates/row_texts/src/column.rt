@@ -77,9 +77,9 @@ pub(crate) fn name_of(column: Column) -> &'static str
         Column::Outcome => "outcome",
         Column::End => "end",
         Column::Reply => "reply",
-        Column::ToSnoop => "to_snoop",
-        Column::ToResponse => "to_response",
-        Column::ToEnd => "to_end",
+        Column::ToSnoop => "first_to_snoop",
+        Column::ToResponse => "snoop_to_response",
+        Column::ToEnd => "first_to_end",
     }
 }
 
@@ -94,12 +94,12 @@ pub(crate) fn width_of(column: Column) -> usize
         | Column::Response
         | Column::Outcome
         | Column::End
-        | Column::Reply
-        | Column::ToSnoop => 8,
+        | Column::Reply => 8,
         Column::Agent => 5,
-        Column::Kind => 10,
-        Column::Address | Column::Signs => 9,
-        Column::ToResponse => 11,
+        Column::Kind | Column::Signs => 10,
+        Column::Address => 9,
+        Column::ToSnoop => 14,
+        Column::ToResponse => 17,
         Column::ToEnd => 0,
     }
 }

@@ -7,8 +7,9 @@
 //! judged in several parts, `times` parts that times name, `picked` what `pick` writes, `told` the texts of `lines` and
 //! `rule`, `options` files of `--lines`, `tools` a dump that a tool wrote, `unread` the faults of a dump and the calls that fail.
 //! `reasons` has a trace for each reason that a check finds, and asks that its report says the sentence; `coherent` what is
-//! said of the coherence of runs. `objects` has reports as JSON, `requests` the requests in them, `tables` reports as CSV.
-//! `saved` has save files whole, `cuts` the clocks around a fault, `unwritten` the dumps and the sinks of which no file comes.
+//! said of the coherence of runs, `tabled` what `table` writes. `objects` has reports as JSON, `requests` the requests in
+//! them, `tables` reports as CSV. `saved` has save files whole, `cuts` the clocks around a fault, `unwritten` the dumps and the
+//! sinks of which no file comes.
 //!
 //! Nothing is promised. Read scope_top next.
 #![tactic(auto)]
@@ -43,6 +44,8 @@ mod refused;
 mod requests;
 #[cfg(test)]
 mod saved;
+#[cfg(test)]
+mod tabled;
 #[cfg(test)]
 mod tables;
 #[cfg(test)]

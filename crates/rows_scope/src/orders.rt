@@ -1,6 +1,6 @@
 //! Command lines of p6scope, and what each asks for.
 
-use scope_words::{Edge, Moment, Order, Part, Reading, Views, Wires, read_order};
+use scope_words::{Edge, Moment, Order, Part, Reading, TableForm, Views, Wires, read_order};
 use std::alloc::{AllocError, Global};
 use std::test::Fail;
 
@@ -93,6 +93,17 @@ fn told_order(alloc: Global, order: &Order<'_>) -> Result<String, AllocError> {
             let part = told_part(alloc, part)?;
             format!(in alloc; "coherence {dump}; {wires}; {part}")
         }
+        Order::Table {
+            wires,
+            part,
+            form,
+            dump,
+        } => {
+            let wires = told_wires(alloc, wires)?;
+            let part = told_part(alloc, part)?;
+            let form = if *form == TableForm::Csv { " csv" } else { "" };
+            format!(in alloc; "table {dump}; {wires}; {part}{form}")
+        }
         Order::Pick { wires, part, dump } => {
             let wires = told_wires(alloc, wires)?;
             let part = told_part(alloc, part)?;
@@ -117,7 +128,7 @@ pub(crate) fn told(alloc: Global, row: &str) -> Result<String, AllocError> {
 }
 
 /// Command lines, and what each asks for.
-const ORDERS: [(&str, &str); 47] = [
+const ORDERS: [(&str, &str); 49] = [
     (
         "check|--save|a.gtkw|a.vcd",
         "check a.vcd; NOTHING; at - from - to - quiet 32 save a.gtkw",
@@ -139,6 +150,14 @@ const ORDERS: [(&str, &str); 47] = [
     (
         "coherence|--from|3|a.vcd",
         "coherence a.vcd; NOTHING; at - from 3 to - quiet 32",
+    ),
+    (
+        "table|--format|text|--to|9|a.vcd",
+        "table a.vcd; NOTHING; at - from - to 9 quiet 32",
+    ),
+    (
+        "table|a.vcd|--format=csv",
+        "table a.vcd; NOTHING; at - from - to - quiet 32 csv",
     ),
     (
         "pick|a.vcd",
@@ -295,6 +314,7 @@ pub(crate) fn in_full(alloc: Global, row: &str) -> Result<String, AllocError> {
     let row = row.replace(alloc, "SAMPLED", crate::texts::SAMPLED)?;
     let row = row.replace(alloc, "CLOCK", crate::texts::CLOCK)?;
     let row = row.replace(alloc, "JUDGED", crate::texts::JUDGED)?;
+    let row = row.replace(alloc, "TABLED", crate::texts::TABLED)?;
     row.replace(alloc, "PICKED", crate::texts::PICKED)
 }
 

@@ -20,47 +20,59 @@ pub(crate) const JUDGED: &str =
 pub(crate) const PICKED: &str =
     "wanted: one DUMP, and of --scope --line --lines --without --edge --first --after --at --from --to --quiet";
 
+/// What may stand behind `table`.
+pub(crate) const TABLED: &str =
+    "wanted: one DUMP, and of --scope --line --lines --without --edge --first --after --at --from --to --quiet --format";
+
 /// What may stand behind `--at`, `--from` and `--to`.
 pub(crate) const CLOCK: &str =
     "a clock number, as 1200, or a time with its unit, as 285ns (s, ms, us, ns, ps, fs), may stand there";
 
 /// Command lines that are refused, each with its status and its text.
-const REFUSED: [(&str, &str); 82] = [
+const REFUSED: [(&str, &str); 84] = [
     (
         "foo|a.vcd",
-        "2 error: unrecognized subcommand 'foo'\nthe commands: lines, check, coherence, pick, rule; each has --help\n",
+        "2 error: unrecognized subcommand 'foo'\nthe commands: lines, check, coherence, table, pick, rule; each has --help\n",
     ),
     (
-        "table|a.vcd",
-        "2 error: unrecognized subcommand 'table'\nthe commands: lines, check, coherence, pick, rule; each has --help\n",
+        "tables|a.vcd",
+        "2 error: unrecognized subcommand 'tables'\nthe commands: lines, check, coherence, table, pick, rule; each has --help\n",
+    ),
+    (
+        "table|--format|json|a.vcd",
+        "2 error: '--format json': there is no such form of a table\ntext or csv may stand there\n",
+    ),
+    (
+        "table|--resume|a.vcd",
+        "2 error: unexpected argument '--resume' found\nTABLED\n",
     ),
     (
         "stats|a.vcd",
-        "2 error: unrecognized subcommand 'stats'\nthe commands: lines, check, coherence, pick, rule; each has --help\n",
+        "2 error: unrecognized subcommand 'stats'\nthe commands: lines, check, coherence, table, pick, rule; each has --help\n",
     ),
     (
         "draw|a.vcd",
-        "2 error: unrecognized subcommand 'draw'\nthe commands: lines, check, coherence, pick, rule; each has --help\n",
+        "2 error: unrecognized subcommand 'draw'\nthe commands: lines, check, coherence, table, pick, rule; each has --help\n",
     ),
     (
         "vectors|a.vcd",
-        "2 error: unrecognized subcommand 'vectors'\nthe commands: lines, check, coherence, pick, rule; each has --help\n",
+        "2 error: unrecognized subcommand 'vectors'\nthe commands: lines, check, coherence, table, pick, rule; each has --help\n",
     ),
     (
         "plan|a.vcd",
-        "2 error: unrecognized subcommand 'plan'\nthe commands: lines, check, coherence, pick, rule; each has --help\n",
+        "2 error: unrecognized subcommand 'plan'\nthe commands: lines, check, coherence, table, pick, rule; each has --help\n",
     ),
     (
         "help",
-        "2 error: unrecognized subcommand 'help'\nthe commands: lines, check, coherence, pick, rule; each has --help\n",
+        "2 error: unrecognized subcommand 'help'\nthe commands: lines, check, coherence, table, pick, rule; each has --help\n",
     ),
     (
         "Check|a.vcd",
-        "2 error: unrecognized subcommand 'Check'\nthe commands: lines, check, coherence, pick, rule; each has --help\n",
+        "2 error: unrecognized subcommand 'Check'\nthe commands: lines, check, coherence, table, pick, rule; each has --help\n",
     ),
     (
         "chekc|a.vcd",
-        "2 error: unrecognized subcommand 'chekc'\nthe commands: lines, check, coherence, pick, rule; each has --help\n",
+        "2 error: unrecognized subcommand 'chekc'\nthe commands: lines, check, coherence, table, pick, rule; each has --help\n",
     ),
     (
         "lines",
@@ -381,7 +393,7 @@ fn no_words_have_no_command(rt: HostRuntime) {
 
 const NO_COMMAND: &str = "\
 error: 'p6scope' requires a subcommand but one was not provided
-  [subcommands: lines, check, coherence, pick, rule]
+  [subcommands: lines, check, coherence, table, pick, rule]
 ";
 
 /// Ways to ask for the version.
@@ -403,7 +415,7 @@ fn the_version_is_told_at_each_verb(rt: HostRuntime) {
 }
 
 /// Ways to ask for help, and how the text goes on behind what the verb does.
-const HELPS: [(&str, &str); 11] = [
+const HELPS: [(&str, &str); 12] = [
     ("--help", "Usage: p6scope <COMMAND>"),
     ("-h", "Usage: p6scope <COMMAND>"),
     ("lines|--help", "Usage: p6scope lines <DUMP>"),
@@ -411,6 +423,7 @@ const HELPS: [(&str, &str); 11] = [
     ("check|--help", "Usage: p6scope check [OPTIONS] <DUMP>"),
     ("check|-h", "Usage: p6scope check [OPTIONS] <DUMP>"),
     ("coherence|-h", "Usage: p6scope coherence [OPTIONS] <DUMP>"),
+    ("table|-h", "Usage: p6scope table [OPTIONS] <DUMP>"),
     ("pick|--help", "Usage: p6scope pick [OPTIONS] <DUMP>"),
     ("pick|-h", "Usage: p6scope pick [OPTIONS] <DUMP>"),
     ("rule|--help", "Usage: p6scope rule [N]"),
@@ -426,7 +439,7 @@ fn help_is_told_at_each_verb(rt: HostRuntime) {
     }
 }
 
-/// The options of `check`, `coherence` and `pick`.
+/// The options of `check`, `coherence`, `table` and `pick`.
 const OPTIONS: [&str; 11] = [
     "--scope <PATH>",
     "--line <LINE=[!]PATH>",
@@ -444,7 +457,7 @@ const OPTIONS: [&str; 11] = [
 #[test]
 fn help_lists_each_option(rt: HostRuntime) {
     for option in OPTIONS.iter() {
-        for row in ["check|--help", "coherence|-h", "pick|-h"].iter() {
+        for row in ["check|--help", "coherence|-h", "table|-h", "pick|-h"].iter() {
             let told = told(rt.alloc(), row).expect(&rt, "memory");
             assert!(rt; told.as_str().contains(option), "{row} {option}");
         }
@@ -464,7 +477,7 @@ fn help_lists_what_check_alone_offers(rt: HostRuntime) {
 #[test]
 fn help_offers_each_command(rt: HostRuntime) {
     let told = told(rt.alloc(), "--help").expect(&rt, "memory");
-    for verb in ["lines", "check", "coherence", "pick", "rule"].iter() {
+    for verb in ["lines", "check", "coherence", "table", "pick", "rule"].iter() {
         assert!(rt; told.as_str().contains(verb), "{told}");
     }
 }

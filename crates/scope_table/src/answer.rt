@@ -35,7 +35,8 @@ pub struct TabledPart {
     pub start: u64,
     /// How many clocks the part has.
     pub clocks: u64,
-    /// The first broken phase rule, if one is: the table has the requests of the clocks before it.
+    /// The first broken phase rule, if one is, its clock counted from the first one of the part: the table has the requests of
+    /// the clocks before it.
     pub found: Option<Broken>,
     /// The stamp of the edge of its clock.
     pub stamp: Option<Stamp>,

@@ -2,7 +2,9 @@
 //!
 //! `table_of` reads a dump once, picks the wires of the bus in its header, and writes to a sink a line for each request of one
 //! part of it, as soon as the request is over, and at the end those that are in flight. What is written is the `table_text` of
-//! the samples of the part, as `IsTabled` in `specs/Tabled.antt` says. It works in constant memory.
+//! the samples of the part, as `IsTabled` in `specs/Tabled.antt` says.
+//!
+//! Memory does not grow with the clocks: the requests that are not over are kept, and no samples. That is not proved.
 //!
 //! Next: request_lines, whose lines these are, scope_watch, which reads, and scope_check, which says what a part is.
 #![tactic(auto)]

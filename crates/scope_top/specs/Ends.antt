@@ -9,9 +9,13 @@ use Rattle.scope_watch.specs.declared.check.Finding.{Finding}
 use Rattle.scope_watch.specs.declared.check.Finding.TheVariants as findings
 use Rattle.scope_copy.specs.declared.copy.CopyFinding.{CopyFinding}
 use Rattle.scope_copy.specs.declared.copy.CopyFinding.TheVariants as copies
+use Rattle.scope_table.specs.declared.answer.TableFinding.{TableFinding}
+use Rattle.scope_table.specs.declared.answer.TableFinding.TheVariants as tables
+use Rattle.scope_table.specs.declared.answer.TabledPart.{TabledPart}
 use Rattle.scope_coherence.specs.declared.answer.CoherenceFinding.{CoherenceFinding}
 use Rattle.scope_coherence.specs.declared.answer.CoherenceFinding.TheVariants as coherences
 use Rattle.scope_coherence.specs.declared.cohering.Incoherent.{Incoherent}
+use Rattle.fsb_rules.specs.declared.broken.Broken.{Broken}
 use Rattle.scope_top.specs.declared.stop.Ended.{Ended}
 use Rattle.scope_top.specs.declared.stop.Stop.{Stop}
 use Rattle.scope_top.specs.declared.stop.Stop.TheVariants as stops
@@ -27,6 +31,17 @@ ending_found (findings.Judged wiring told) = ending_after (verdict_over told.jud
 abbrev pub ending_copied : CopyFinding → Ending
 ending_copied (copies.Refused refusal) = endings.Unjudged
 ending_copied (copies.Copied wiring told) = if told.clocks == 0 then endings.Unjudged else endings.Clean
+
+-- how the table of a part of so many clocks ends, in which this phase rule is broken first, if one is: it is clean exactly
+-- where it has a clock and no rule is broken
+abbrev pub ending_over : ℕ → Option Broken → Ending
+ending_over clocks None = if clocks == 0 then endings.Unjudged else endings.Clean
+ending_over clocks (Some b) = endings.Broken
+
+-- how a table ends that was written so
+abbrev pub ending_tabled : TableFinding → Ending
+ending_tabled (tables.Refused refusal) = endings.Unjudged
+ending_tabled (tables.Tabled wiring told) = ending_over told.clocks told.found
 
 -- how a part of so many clocks ends, in which this rule is broken first, if one is: it is clean exactly where it has a clock
 -- and no rule is broken. Who had the bus before a part that begins later is not known: it is not judged behind a phase rule

@@ -4,6 +4,10 @@ use Rattle.scope_check.specs.declared.part.Part.{Part}
 use Rattle.scope_parts.specs.declared.plan.Plan.{Plan}
 use Rattle.scope_copy.specs.declared.copy.Copied.{Copied}
 use Rattle.scope_copy.specs.Copying.{IsCopied}
+use Rattle.row_texts.specs.declared.line.Form.{Form}
+use Rattle.row_texts.specs.declared.line.Form.TheVariants as forms
+use Rattle.scope_table.specs.declared.answer.Tabled.{Tabled}
+use Rattle.scope_table.specs.Tabled.{IsTabled}
 use Rattle.scope_coherence.specs.declared.answer.Cohered.{Cohered}
 use Rattle.scope_coherence.specs.Answers.{IsCohered}
 use Rattle.scope_wiring.specs.declared.wiring.Choice.{Choice}
@@ -16,6 +20,8 @@ use Rattle.scope_words.specs.declared.order.Edge.TheVariants as words
 use Rattle.scope_words.specs.declared.order.Order.{Order}
 use Rattle.scope_words.specs.declared.order.Order.TheVariants as orders
 use Rattle.scope_words.specs.declared.order.Part.{Part as Words}
+use Rattle.scope_words.specs.declared.order.TableForm.{TableForm}
+use Rattle.scope_words.specs.declared.order.TableForm.TheVariants as tables
 use Rattle.scope_words.specs.declared.order.Views.{Views}
 use Rattle.scope_words.specs.declared.order.Wires.{Wires}
 use Rattle.vcd_way.specs.declared.tap.Edge.{Edge as WayEdge}
@@ -36,7 +42,7 @@ use Rattle.scope_top.specs.declared.listed.Listed.{Listed}
 use Rattle.scope_top.specs.declared.listed.Listed.TheVariants as listings
 use Rattle.scope_top.specs.declared.settled.Settled.{Settled}
 use Rattle.scope_top.specs.declared.settled.Settled.TheVariants as settlings
-use Rattle.scope_top.specs.Ends.{ending_cohered, ending_copied, ending_found, ending_picked}
+use Rattle.scope_top.specs.Ends.{ending_cohered, ending_copied, ending_found, ending_picked, ending_tabled}
 use Rattle.scope_top.specs.Named.{read_of}
 use Rattle.scope_top.specs.Parts.{NamesPart, NamesScaled, plan_of}
 use Rattle.scope_top.specs.Viewing.{Files, Shows, Untouched}
@@ -80,6 +86,11 @@ pub record IsPlain (choice : Choice) : Type 0 where
 abbrev pub edge_of : Edge → WayEdge
 edge_of words.Rise = edges.Rising
 edge_of words.Fall = edges.Falling
+
+-- the form of a table that the words name
+abbrev pub form_of : TableForm → Form
+form_of tables.Text = forms.Text
+form_of tables.Csv = forms.Csv
 
 -- when the lines are sampled, as the words say
 abbrev pub sampling_of : Wires → Sampling
@@ -193,6 +204,29 @@ abbrev pub EndsCoherence : Wires → Words → List ℕ → List ℕ → Ending 
 EndsCoherence wires words listed dumped ending =
     EndsWired (EndsCoherent words (sampling_of wires) dumped) (Unit {0}) wires listed ending
 
+-- ---- `table`
+
+-- how a table ends that answers this of the dump
+abbrev pub EndsTabledAs : Result Tabled ScopeStop → Ending → Type 0
+EndsTabledAs (Ok tabled) ending = ending ≡ ending_tabled tabled.finding
+EndsTabledAs (Err stop) ending = EndsStopped stop ending
+
+-- how the table of this part of a dump ends, by this choice, form and sampling: what the sink held before, and holds now
+pub record EndsTabled (choice : Choice) (form : Form) (s : Sampling) (dumped old new : List ℕ) (part : Part) (ending : Ending) : Type 0 where
+  pub answer : Result Tabled ScopeStop
+  pub is_tabled : IsTabled answer choice part form s dumped old new
+  pub ends : EndsTabledAs answer ending
+
+-- how the table of the part that the words name ends; where they name none nothing was put
+abbrev pub EndsTableOf : Words → Form → Sampling → List ℕ → List ℕ → List ℕ → Choice → Ending → Type 0
+EndsTableOf words form s dumped old new choice ending =
+    EndsSettled (EndsTabled choice form s dumped old new) (new ≡ old) words dumped ending
+
+-- how an order for a table ends; where its wires can't be chosen nothing was put
+abbrev pub EndsTable : Wires → Words → TableForm → List ℕ → List ℕ → List ℕ → List ℕ → Ending → Type 0
+EndsTable wires words form listed dumped old new ending =
+    EndsWired (EndsTableOf words (form_of form) (sampling_of wires) dumped old new) (new ≡ old) wires listed ending
+
 -- ---- `pick`
 
 -- how a copy ends that answers this of the dump
@@ -249,6 +283,8 @@ Ends (orders.Check wires part views dump) listed dumped old new f is_unwritten e
     (record { name = dump.now; views = views; files = f; is_unwritten = is_unwritten }) ending
 Ends (orders.Coherence wires part dump) listed dumped old new f is_unwritten ending =
     EndsCoherence wires part listed dumped ending × Untouched f
+Ends (orders.Table wires part form dump) listed dumped old new f is_unwritten ending =
+    EndsTable wires part form listed dumped old new ending × Untouched f
 Ends (orders.Pick wires part dump) listed dumped old new f is_unwritten ending =
     EndsPick wires part listed dumped old new ending × Untouched f
 Ends (orders.Rule number) listed dumped old new f is_unwritten ending = (ending ≡ endings.Clean) × Untouched f

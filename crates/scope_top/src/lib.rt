@@ -6,8 +6,8 @@
 //! show it, as `Shows` in `specs/Viewing.antt` says. `ending_at` is the end of the program.
 //!
 //! Next: scope_watch, which reads and judges, scope_tries, which reads a rejected dump in other ways, scope_explain,
-//! which finds its reasons, scope_copy, which writes what was picked, and scope_report, whose texts these
-//! are.
+//! which finds its reasons, scope_table, which writes the requests, scope_copy, which writes what was picked, and
+//! scope_report, whose texts these are.
 #![tactic(auto)]
 
 pub use broken::BrokenAt;
@@ -17,6 +17,7 @@ pub use named::{LineFault, read_options};
 pub use orders::perform;
 pub use pick::ending_copied;
 pub use stop::{Ended, Stop, ViewStop, ending_at};
+pub use table::ending_tabled;
 
 mod answer;
 mod broken;
@@ -32,5 +33,6 @@ mod reasons;
 mod settled;
 mod stop;
 mod stopped;
+mod table;
 mod viewed;
 mod views;

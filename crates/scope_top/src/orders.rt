@@ -4,7 +4,7 @@ ghost use Rattle.std.specs.Prelude.{◌≡◌, ◌≤◌, ◌⊎◌, Err, IsTrue
 ghost use Rattle.std.specs.Result.{is_err};
 ghost use Rattle.fsb_io.specs.Faults.{Rose};
 ghost use Rattle.scope_words.specs.Orders.{KeepsLimits, KeepsViews, KeepsWires};
-ghost use Rattle.scope_top.specs.Performing.{Ends, EndsCheck, EndsCoherence, EndsLines, EndsPick};
+ghost use Rattle.scope_top.specs.Performing.{Ends, EndsCheck, EndsCoherence, EndsLines, EndsPick, EndsTable};
 ghost use Rattle.scope_top.specs.Viewing.{Files, IsUncopied, MayStop};
 
 use crate::answer::{Answer, Stream, hand_err, hand_out};
@@ -13,9 +13,10 @@ use crate::coherence::coherence_answer;
 use crate::lines::lines_answer;
 use crate::pick::pick_answer;
 use crate::stop::{Ended, Stop};
+use crate::table::table_answer;
 use fsb_io::{Sink, Source};
 use scope_report::{Ending, rule_list, rule_text};
-use scope_words::{Order, Part, Views, Wires};
+use scope_words::{Order, Part, TableForm, Views, Wires};
 use std::alloc::{AllocError, Global};
 
 /// Does what the order asks for. The answer goes to `out`; a refusal, and why a file says nothing, to `err`. `named` is the
@@ -77,6 +78,12 @@ pub fn perform<L: Source, S: Source, O: Sink, E: Sink, V: Sink, C: Sink>(
             part,
             dump: name,
         } => told(cohere(alloc, name, wires, &part, named, dump, out, err)),
+        Order::Table {
+            wires,
+            part,
+            form,
+            dump: name,
+        } => told(tell_table(alloc, name, wires, &part, form, named, dump, out, err)),
         Order::Pick {
             wires,
             part,
@@ -208,6 +215,33 @@ fn cohere<L: Source, S: Source, O: Sink, E: Sink>(
 {
     let answer = coherence_answer(alloc, name, wires, words, named, dump)?;
     hand_out(&answer, out, err)
+}
+
+// Writes the requests of the part of a dump that the words name, and tells where their table ends early.
+fn tell_table<L: Source, S: Source, O: Sink, E: Sink>(
+    alloc: Global,
+    name: &str,
+    wires: Wires<'_>,
+    words: &Part,
+    form: TableForm,
+    named: &mut L,
+    dump: &mut S,
+    out: &mut O,
+    err: &mut E,
+) -> Result<Ending, Stop>
+    requires named { length name.now ≤ 4096 }
+    requires wires { KeepsWires wires }
+    ensures ends { IsTrue L.tells → IsTrue S.tells → IsTrue O.tells →
+        IfOk result (EndsTable wires.entry words.now form (L.holds named.old)
+        (S.holds dump.old) (O.holds out.old) (O.holds out.new)) }
+    ensures lines_fault { result ≡ Err Stop.Lines →
+        Rose (L.faults named.old) (L.faults named.new) }
+    ensures dump_fault { result ≡ Err Stop.Dump → Rose (S.faults dump.old) (S.faults dump.new) }
+    ensures out_fault { IsTrue S.tells → result ≡ Err Stop.Out →
+        Rose (O.faults out.old) (O.faults out.new) ⊎ Rose (E.faults err.old) (E.faults err.new) }
+{
+    let answer = table_answer(alloc, name, wires, words, form, named, dump, out)?;
+    hand_err(&answer, err)
 }
 
 // Writes the part of a dump that the words name, and tells what was not written.

@@ -174,8 +174,8 @@ fn copied_text(
     }
 }
 
-// The text of a dump that ends early: what begins at this byte is cut.
-fn cut_text(alloc: Global, name: &str, place: u64) -> Result<Vec<u8>, AllocError> {
+/// The text of a dump that ends early: what begins at this byte is cut.
+pub(crate) fn cut_text(alloc: Global, name: &str, place: u64) -> Result<Vec<u8>, AllocError> {
     let reason = format!(in alloc; "the file ends early: what begins at byte {place} is cut")?;
     unread_text(alloc, name, reason.as_str())
 }

@@ -15,8 +15,8 @@ pub(crate) const PIECE: usize = 65_536;
 /// What is said of a file that is seen early to be no dump.
 const NO_HEADER: &str = "no dump: no word of its first 1,048,576 bytes begins with $";
 
-/// Tells why a dump was not read, where this is said of its text. No command that judges a dump writes while it reads,
-/// so `WriteFault` never comes.
+/// Tells why a dump was not read, where this is said of its text. `WriteFault` never comes: a command that writes while it
+/// reads has told of it.
 pub(crate) fn stop_answer(alloc: Global, name: &str, stop: ScopeStop) -> Result<Answer, Stop>
     ensures ends { IfOk result (λ answer. EndsStopped stop answer.ending) }
     ensures not_lines { result ≢ Err Stop.Lines }

@@ -60,6 +60,7 @@ KeepsLimits (orders.Lines dump) = IsName dump.now
 KeepsLimits (orders.Check wires part views dump) =
     KeepsWires wires × KeepsPart part × KeepsViews views × IsName dump.now
 KeepsLimits (orders.Coherence wires part dump) = KeepsWires wires × KeepsPart part × IsName dump.now
+KeepsLimits (orders.Table wires part form dump) = KeepsWires wires × KeepsPart part × IsName dump.now
 KeepsLimits (orders.Pick wires part dump) = KeepsWires wires × KeepsPart part × IsName dump.now
 KeepsLimits (orders.Rule number) = IfSome number (λ n. (1 ≤ n) × (n ≤ 31))
 

@@ -10,7 +10,7 @@
 pub use moment::{Moment, Unit, read_moment, read_unit};
 pub use names::read_line_names;
 pub use number::{read_count, read_rule};
-pub use order::{Edge, Format, Order, Part, Views, Wires};
+pub use order::{Edge, Format, Order, Part, TableForm, Views, Wires};
 pub use orders::{Reading, read_order};
 pub use told::Told;
 

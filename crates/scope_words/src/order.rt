@@ -23,6 +23,13 @@ pub enum Order<'a> {
         part: Part,
         dump: &'a str,
     },
+    /// To write the requests of a dump as a table.
+    Table {
+        wires: Wires<'a>,
+        part: Part,
+        form: TableForm,
+        dump: &'a str,
+    },
     /// To write the picked lines as a dump of its own.
     Pick {
         wires: Wires<'a>,
@@ -66,6 +73,15 @@ pub enum Format {
     /// An object of JSON in one line.
     Json,
     /// A line of CSV for each broken part, and one with the names of the columns before them.
+    Csv,
+}
+
+/// The form of a table.
+#[derive(Clone, Copy, Debug, PartialEq, Eq)]
+pub enum TableForm {
+    /// Columns that are aligned, for people.
+    Text,
+    /// Lines of CSV, the first with the names of the columns.
     Csv,
 }
 

@@ -8,7 +8,7 @@ use crate::order::Order;
 use crate::part::part_of;
 use crate::told::{Stop, Told, told_by_clap, wrong, wrong_value};
 use crate::usage::usage;
-use crate::views::views_of;
+use crate::views::{table_form_of, views_of};
 use crate::wires::{named, wires_of};
 use clap::ArgMatches;
 use fsb_io::Memory;
@@ -50,7 +50,7 @@ fn no_verb(alloc: Global) -> Stop
     wrong(
         alloc,
         "no command is there",
-        "the commands: lines, check, coherence, pick, rule; each has --help",
+        "the commands: lines, check, coherence, table, pick, rule; each has --help",
     )
 }
 
@@ -79,6 +79,12 @@ fn order_behind<'a>(alloc: Global, verb: &str, found: &ArgMatches<'a>) -> Result
         "coherence" => Ok(Order::Coherence {
             wires: wires_of(alloc, found)?,
             part: part_of(alloc, found)?,
+            dump: dump_of(alloc, found)?,
+        }),
+        "table" => Ok(Order::Table {
+            wires: wires_of(alloc, found)?,
+            part: part_of(alloc, found)?,
+            form: table_form_of(alloc, found)?,
             dump: dump_of(alloc, found)?,
         }),
         "pick" => Ok(Order::Pick {

@@ -153,13 +153,17 @@ fn may_stand(verb: Option<&str>) -> &'static str {
         Some("check") => JUDGED,
         Some("pick") => PICKED,
         Some("coherence") => PICKED,
+        Some("table") => TABLED,
         Some("rule") => "wanted: p6scope rule, or p6scope rule N with N from 1 to 31",
-        _ => "the commands: lines, check, coherence, pick, rule; each has --help",
+        _ => "the commands: lines, check, coherence, table, pick, rule; each has --help",
     }
 }
 
 const PICKED: &str = "wanted: one DUMP, and of --scope --line --lines --without \
     --edge --first --after --at --from --to --quiet";
+
+const TABLED: &str = "wanted: one DUMP, and of --scope --line --lines --without \
+    --edge --first --after --at --from --to --quiet --format";
 
 const JUDGED: &str = "wanted: one DUMP, and of --scope --line --lines --without \
     --edge --first --after --at --from --to --quiet --resume --max --format --save --cut";

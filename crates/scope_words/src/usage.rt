@@ -19,6 +19,7 @@ pub(crate) fn usage<'a>(alloc: Global) -> Result<Command<'a>, AllocError> {
     let usage = with_verb(program(alloc), lines(alloc));
     let usage = with_verb(usage, check(alloc));
     let usage = with_verb(usage, coherence(alloc));
+    let usage = with_verb(usage, table(alloc));
     let usage = with_verb(usage, pick(alloc));
     with_verb(usage, rule(alloc))
 }
@@ -50,6 +51,13 @@ fn check<'a>(alloc: Global) -> Result<Command<'a>, AllocError> {
 fn coherence<'a>(alloc: Global) -> Result<Command<'a>, AllocError> {
     let about = "Says whether a coherent system could have made the wires: all rules, 1 to 31";
     with_judged(alloc, verb(alloc, "coherence", about))
+}
+
+fn table<'a>(alloc: Global) -> Result<Command<'a>, AllocError> {
+    let about = "Prints the requests of the bus, a line each, while it reads the dump";
+    let judged = with_judged(alloc, verb(alloc, "table", about));
+    let help = "The form of the table: text or csv [default: text]";
+    with(judged, option(alloc, "format", help).value_name("FORMAT"))
 }
 
 fn pick<'a>(alloc: Global) -> Result<Command<'a>, AllocError> {

@@ -3,7 +3,7 @@
 ghost use Rattle.std.specs.Prelude.{IfOk, IfErr, IfSome};
 ghost use Rattle.scope_words.specs.Orders.{IsError, IsName, KeepsViews};
 
-use crate::order::{Format, Views};
+use crate::order::{Format, TableForm, Views};
 use crate::told::{Stop, wrong_value};
 use crate::wires::named;
 use clap::ArgMatches;
@@ -36,6 +36,26 @@ fn format_of(alloc: Global, found: &ArgMatches<'_>) -> Result<Format, Stop>
                 word,
                 "there is no such form of a report",
                 "text, json or csv may stand there",
+            ))
+        }
+    }
+}
+
+/// The form of a table that the options name.
+pub(crate) fn table_form_of(alloc: Global, found: &ArgMatches<'_>) -> Result<TableForm, Stop>
+    ensures err { IfErr result IsError }
+{
+    match found.get_str("format") {
+        None => Ok(TableForm::Text),
+        Some("text") => Ok(TableForm::Text),
+        Some("csv") => Ok(TableForm::Csv),
+        Some(word) => {
+            Err(wrong_value(
+                alloc,
+                "--format",
+                word,
+                "there is no such form of a table",
+                "text or csv may stand there",
             ))
         }
     }
