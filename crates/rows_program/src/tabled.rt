@@ -13,7 +13,7 @@ const NAMES: &str =
     "first,agent,kind,address,snoop,signs,response,outcome,end,reply,to_snoop,to_response,to_end\n";
 
 /// A request comes one clock behind another: rule 2 is broken at clock 3. Three clocks stand before the run.
-static TOO_CLOSE: [Clock; 9] = [
+const TOO_CLOSE: [Clock; 9] = [
     (0, 0, 0),
     (0, 0, 0),
     (0, 0, 0),
@@ -34,7 +34,7 @@ type Row = (
     &'static str,
 );
 
-static TABLES: [Row; 5] = [
+const TABLES: [Row; 5] = [
     (
         "table|--format|csv|x.vcd",
         &TWO_AGENTS_OVERLAP,
