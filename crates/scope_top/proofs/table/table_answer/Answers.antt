@@ -20,11 +20,11 @@ returns-in-Chosen-clause-ends g c = λ lines_tell dump_tells out_tells.
     let Chosen : Listed → Type 0 = λ l. EndsListed wires.choice (text_named wires.file listed) l in
     let says = subst Chosen c.in-Chosen.is (c.in_ok-answer.ensures.listed lines_tell) in
     IfOk-weaker c.parted_answer.result
-    (λ a. EndsTableOf words c.form_of.result (sampled c.edge_of.result) dumped old new choice a.ending)
+    (λ a. EndsTableOf words c.form_of-form.result (sampled c.edge_of.result) dumped old new choice a.ending)
     (λ a. EndsTable wires words c.args.form listed dumped old new a.ending)
     (λ a does.
     let Formed : Form → Type 0 = λ form. EndsTableOf words form (sampled c.edge_of.result) dumped old new choice a.ending in
     let Does : Edge → Type 0 = λ edge. EndsTableOf words (form_of c.args.form) (sampled edge) dumped old new choice a.ending in
-    let formed = subst Formed c.form_of.ensures does in
+    let formed = subst Formed c.form_of-form.ensures does in
     inl (record { choice = choice; says = says; does = subst Does c.edge_of.ensures formed }))
     (c.parted_answer.ensures.ends dump_tells out_tells)
