@@ -3,6 +3,8 @@ use Rattle.std.proofs.Common.{◌≡◌, ◌↔◌, ℕ, Bool, true, false, List
 use Rattle.fsb_signal.specs.declared.marks.Marks.{Marks}
 use Rattle.fsb_trace.specs.At.{Trace}
 use Rattle.fsb_trace.specs.Verdict.{verdict}
+use Rattle.fsb_count.specs.Clocks.{all_where}
+use Rattle.fsb_owners.specs.Joint.{every_joint}
 use Rattle.fsb_owners.specs.Rules.{is_none_left}
 use Rattle.fsb_owner_laws.specs.Losses.{AreCoherent}
 use Rattle.fsb_owner_verdict.specs.Coherence.{coherence_verdict}
@@ -24,6 +26,7 @@ first-coherent true = unknown_coherent
 first-coherent false = empty_coherent
 
 first-some : (is-later : Bool) → is_none_left (first_joints is-later) ≡ false
+unfolding every_joint all_where
 first-some true = refl
 first-some false = refl
 
