@@ -114,7 +114,7 @@ fn ordered(alloc: Global, order: Order<'_>, outside: Outside<'_>) -> Result<Came
     let mut err = MemSink::new(alloc, 100_000, &[])?;
     let mut save = MemSink::new(alloc, 100_000, &fails.save)?;
     let mut cut = MemSink::new(alloc, 100_000, &fails.cut)?;
-    let end = perform(
+    let end = performed(
         alloc,
         order,
         outside.is_again,
@@ -132,6 +132,23 @@ fn ordered(alloc: Global, order: Order<'_>, outside: Outside<'_>) -> Result<Came
         save: text_of(alloc, save.holds())?,
         cut: text_of(alloc, cut.holds())?,
     })
+}
+
+// The call alone: what it promises is of no use to what is done with the texts behind it.
+fn performed(
+    alloc: Global,
+    order: Order<'_>,
+    is_again: bool,
+    lines: &mut MemSource,
+    dump: &mut MemSource,
+    out: &mut MemSink,
+    err: &mut MemSink,
+    save: &mut MemSink,
+    cut: &mut MemSink,
+) -> Result<Ended, Stop>
+    requires { KeepsLimits order }
+{
+    perform(alloc, order, is_again, lines, dump, out, err, save, cut)
 }
 
 fn text_of(alloc: Global, bytes: &[u8]) -> Result<String, AllocError> {
