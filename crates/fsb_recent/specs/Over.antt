@@ -16,7 +16,8 @@ is_newly_over row n = is_row_closed row n && not (is_row_closed row (n - 1))
 abbrev pub newly_over : Trace → List Row
 newly_over v = filter (λ row. is_newly_over row (length v)) (rows_of v)
 
--- those of the requests that were over in the first n clocks of v, in the order in which they were
+-- those of the requests that were over in the first n clocks of v: in the order in which they were over, and where several
+-- were so with one clock, in order of their first clocks
 unfoldable pub over_until : Trace → ℕ → List Row
 over_until v zero = []
 over_until v (suc n) = over_until v n ++ newly_over (take (suc n) v)

@@ -22,7 +22,8 @@ with_if is_so line n = if is_so then with_line line n else n
 abbrev pub with_asserted : SnoopLines → NamedLines → NamedLines
 with_asserted l n = with_if l.defer DEFER (with_if l.hitm HITM (with_if l.hit HIT n))
 
--- with the lines that show what a request waits for: its snoop end; or the end of the one before, a response or its data
+-- with the lines that show what a request waits for: its snoop end is HIT# and HITM#; the end of the one before is a response,
+-- or the last of its data, at DRDY#
 unfoldable pub with_wait : Wait → NamedLines → NamedLines
 with_wait NoSnoopEnd n = with_snoop n
 with_wait (SnoopEnd clock) n = with_snoop n

@@ -1,6 +1,6 @@
 //! Sentences of the rules for responses and TRDY#.
 
-use crate::words::{Request, Waiting, outcome_name};
+use crate::words::{Pending, Request, Waiting, outcome_name};
 use fsb_reasons::Reason;
 use fsb_trace::code_of;
 use std::fmt;
@@ -34,7 +34,7 @@ pub(crate) fn put_response<W: fmt::Write>(
             f,
             "RS# is not idle at {clock}, and {} {}.",
             Request(*request),
-            Waiting(*wait)
+            Pending(*wait)
         ),
         _ => Ok(()),
     }
@@ -125,7 +125,7 @@ pub(crate) fn put_ready<W: fmt::Write>(
             f,
             "TRDY# is asserted at {clock}, and {} {}.",
             Request(*request),
-            Waiting(*wait)
+            Pending(*wait)
         ),
         Reason::ReadyTwice { request, ready } => write!(
             f,

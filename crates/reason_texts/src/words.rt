@@ -81,6 +81,22 @@ impl fmt::Display for Waiting {
     }
 }
 
+/// The same where the earliest clock for its answer is not known, since its snoop end or the end before it is not reached.
+#[derive(Clone, Copy)]
+pub(crate) struct Pending(pub(crate) Wait);
+
+impl fmt::Display for Pending {
+    fn fmt<W: fmt::Write>(&self, f: &mut fmt::Formatter<W>) -> fmt::Result {
+        write!(f, "{}", Waiting(self.0))?;
+        match self.0 {
+            Wait::SnoopEnd(_) => {
+                f.write_str(" and waits for the request before it, which has not ended")
+            }
+            Wait::NoSnoopEnd | Wait::NotClear(_) => Ok(()),
+        }
+    }
+}
+
 /// The snoop lines that are asserted, with their verb.
 #[derive(Clone, Copy)]
 pub(crate) struct Snooped(pub(crate) SnoopLines);

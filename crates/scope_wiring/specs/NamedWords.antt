@@ -109,11 +109,11 @@ has_whole vs scope name = list_any (is_whole_called scope name) vs
 unfoldable pub is_word : List Variable → List ℕ → List ℕ → Bool
 is_word vs scope name = has_word vs scope name && not (has_whole vs scope name)
 
--- the index of a line's bit of this number, counted from its lowest one, in a word of these indices
+-- the index in the word of a line's bit, by the bit's number in the line, which is counted from 0 at the lowest one
 unfoldable pub index_at : Range → ℕ → ℕ
 index_at range k = if nat_le range.right range.left then range.right + k else range.right - k
 
--- a bit of so many stands on several wires
+-- one of the first so many bits of the range, counted from the lowest, stands on several wires
 unfoldable pub has_doubled : List Variable → List ℕ → List ℕ → ℕ → Range → Bool
 has_doubled vs scope word width range =
     list_any (λ k. nat_lt k width && is_doubled vs scope word (index_at range k)) bit_numbers
@@ -122,7 +122,7 @@ has_doubled vs scope word width range =
 unfoldable pub has_bit : List Variable → List ℕ → List ℕ → ℕ → Bool
 has_bit vs scope word number = is_some (first_bit vs scope word number)
 
--- the word has all of so many bits
+-- the word has the first so many bits of the range, counted from the lowest
 unfoldable pub has_bits : List Variable → List ℕ → List ℕ → ℕ → Range → Bool
 has_bits vs scope word width range =
     list_all (λ k. nat_le width k || has_bit vs scope word (index_at range k)) bit_numbers
@@ -153,8 +153,8 @@ is_lacking (Bits i range) = false
 is_lacking (Word range) = false
 is_lacking (WordBits range) = false
 
--- what the word is as the line: its indices are the table's, or else they go from one less than the line's width down
--- to 0
+-- what the word is as the line: its indices are the table's; or, where bits of these are lacking and the word has no
+-- index as great as the line's width, they go from one less than the width down to 0
 unfoldable pub word_meant : List Variable → ℕ → List ℕ → List ℕ → Meaning
 word_meant vs line scope word =
     let named = word_at vs line scope word (range_from line (lowest_index line)) in
