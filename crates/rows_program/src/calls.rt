@@ -103,52 +103,76 @@ fn words_of(alloc: Global, line: &str) -> Result<Vec<String>, AllocError> {
     Ok(words)
 }
 
-// Does what is asked for, with sources and sinks of its own.
+// Where an order writes.
+#[derive(Drop)]
+struct Sinks {
+    answer: MemSink,
+    refusal: MemSink,
+    save: MemSink,
+    cut: MemSink,
+}
+
+impl Sinks {
+    // Empty ones, of whose calls these fail.
+    fn new(alloc: Global, fails: &Fails) -> Result<Sinks, Memory> {
+        let answer = MemSink::new(alloc, 100_000, &fails.answer)?;
+        let refusal = MemSink::new(alloc, 100_000, &[])?;
+        let save = MemSink::new(alloc, 100_000, &fails.save)?;
+        let cut = MemSink::new(alloc, 100_000, &fails.cut)?;
+        Ok(Sinks {
+            answer,
+            refusal,
+            save,
+            cut,
+        })
+    }
+
+    // Does what is asked for.
+    fn perform(
+        &mut self,
+        alloc: Global,
+        order: Order<'_>,
+        is_again: bool,
+        lines: &mut MemSource,
+        dump: &mut MemSource,
+    ) -> Result<Ended, Stop>
+        requires { KeepsLimits order }
+    {
+        perform(
+            alloc,
+            order,
+            is_again,
+            lines,
+            dump,
+            &mut self.answer,
+            &mut self.refusal,
+            &mut self.save,
+            &mut self.cut,
+        )
+    }
+
+    // What came, where the order ended so.
+    fn came(&self, alloc: Global, end: Result<Ended, Stop>) -> Result<Came, AllocError> {
+        Ok(Came {
+            status: status(ending_at(end)),
+            answer: text_of(alloc, self.answer.holds())?,
+            refusal: text_after(alloc, self.refusal.holds(), end.err())?,
+            save: text_of(alloc, self.save.holds())?,
+            cut: text_of(alloc, self.cut.holds())?,
+        })
+    }
+}
+
+// Does what is asked for, with sources and sinks of its own. Making six of them here, and then the four texts, would take
+// the prover half an hour: it goes through all that is alive at each way out.
 fn ordered(alloc: Global, order: Order<'_>, outside: Outside<'_>) -> Result<Came, Memory>
     requires { KeepsLimits order }
 {
-    let fails = outside.fails;
-    let mut dump = MemSource::new(alloc, outside.dump, &fails.dump)?;
+    let mut dump = MemSource::new(alloc, outside.dump, &outside.fails.dump)?;
     let mut lines = MemSource::new(alloc, outside.lines.as_bytes(), &[])?;
-    let mut out = MemSink::new(alloc, 100_000, &fails.answer)?;
-    let mut err = MemSink::new(alloc, 100_000, &[])?;
-    let mut save = MemSink::new(alloc, 100_000, &fails.save)?;
-    let mut cut = MemSink::new(alloc, 100_000, &fails.cut)?;
-    let end = performed(
-        alloc,
-        order,
-        outside.is_again,
-        &mut lines,
-        &mut dump,
-        &mut out,
-        &mut err,
-        &mut save,
-        &mut cut,
-    );
-    Ok(Came {
-        status: status(ending_at(end)),
-        answer: text_of(alloc, out.holds())?,
-        refusal: text_after(alloc, err.holds(), end.err())?,
-        save: text_of(alloc, save.holds())?,
-        cut: text_of(alloc, cut.holds())?,
-    })
-}
-
-// The call alone: what it promises is of no use to what is done with the texts behind it.
-fn performed(
-    alloc: Global,
-    order: Order<'_>,
-    is_again: bool,
-    lines: &mut MemSource,
-    dump: &mut MemSource,
-    out: &mut MemSink,
-    err: &mut MemSink,
-    save: &mut MemSink,
-    cut: &mut MemSink,
-) -> Result<Ended, Stop>
-    requires { KeepsLimits order }
-{
-    perform(alloc, order, is_again, lines, dump, out, err, save, cut)
+    let mut sinks = Sinks::new(alloc, &outside.fails)?;
+    let end = sinks.perform(alloc, order, outside.is_again, &mut lines, &mut dump);
+    Ok(sinks.came(alloc, end)?)
 }
 
 fn text_of(alloc: Global, bytes: &[u8]) -> Result<String, AllocError> {

@@ -72,8 +72,14 @@ impl Trial {
         match word {
             "text" => self.part(alloc, rest, row.text.as_str())?,
             "line" => self.part(alloc, rest, row.cut_text())?,
-            "dump" => self.dump = self.joined(alloc, rest)?.into_bytes(),
-            "lines" => self.lines = self.joined(alloc, rest)?,
+            "dump" => match self.joined(alloc, rest)? {
+                Some(text) => self.dump = text.into_bytes(),
+                None => return Ok(Answer::Unknown),
+            },
+            "lines" => match self.joined(alloc, rest)? {
+                Some(text) => self.lines = text,
+                None => return Ok(Answer::Unknown),
+            },
             "once" => self.is_once = true,
             "fail" => return Ok(self.fail(rest)),
             "$" => return self.order(alloc, rest),
@@ -92,26 +98,32 @@ impl Trial {
         Ok(())
     }
 
-    // The parts of these names, one behind the other.
-    fn joined(&self, alloc: Global, names: &str) -> Result<String, AllocError> {
+    // The parts of these names, one behind the other; None where a name is that of no part. Without names it is empty.
+    fn joined(&self, alloc: Global, names: &str) -> Result<Option<String>, AllocError> {
         let mut text = String::new(alloc);
-        for name in names.split(" ") {
-            text.push_str(self.part_of(name))?;
+        if names.is_empty() {
+            return Ok(Some(text));
         }
-        Ok(text)
+        for name in names.split(" ") {
+            match self.part_of(name) {
+                Some(part) => text.push_str(part)?,
+                None => return Ok(None),
+            }
+        }
+        Ok(Some(text))
     }
 
-    // The part of this name; of a name that is none, nothing.
-    fn part_of(&self, name: &str) -> &str {
+    // The part of this name.
+    fn part_of(&self, name: &str) -> Option<&str> {
         if name == "answer" {
-            return self.came.answer.as_str();
+            return Some(self.came.answer.as_str());
         }
         for (known, text) in self.parts.iter() {
             if known.as_str() == name {
-                return text.as_str();
+                return Some(text.as_str());
             }
         }
-        ""
+        None
     }
 
     // Has a call fail in the next order.

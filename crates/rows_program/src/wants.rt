@@ -33,13 +33,14 @@ fn text_of<'a>(came: &'a Came, joined: &'a str, what: &str) -> Option<&'a str> {
     })
 }
 
-// Whether the text is as the row says.
+// Whether the text is as the row says; None where there is no such row, or it lacks the text to look for.
 fn is_so(text: &str, how: &str, row: &Row<'_>) -> Option<bool> {
     let (whole, cut) = (row.text.as_str(), row.cut_text());
     Some(match how {
         "is" => text == whole,
-        "ends" => text.ends_with(whole),
         "rest" => text.split_once("\n").unwrap_or(("", "")).1 == whole,
+        _ if cut.is_empty() => return None,
+        "ends" => text.ends_with(whole),
         "has" => text.contains(cut),
         "lacks" => !text.contains(cut),
         "begins" => text.starts_with(cut),
