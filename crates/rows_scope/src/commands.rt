@@ -28,11 +28,17 @@ fn said_order(alloc: Global, order: &Order<'_>) -> Result<String, AllocError> {
         Order::Lines { dump } => return format!(in alloc; "lines {dump}\n"),
         Order::Rule { number } => return format!(in alloc; "rule {number:?}\n"),
         Order::Check {
-            wires, part, dump, ..
+            wires,
+            part,
+            dump,
+            ..
         } => ("check", dump, wires, part),
         Order::Coherence { wires, part, dump } => ("coherence", dump, wires, part),
         Order::Table {
-            wires, part, dump, ..
+            wires,
+            part,
+            dump,
+            ..
         } => ("table", dump, wires, part),
         Order::Pick { wires, part, dump } => ("pick", dump, wires, part),
     };

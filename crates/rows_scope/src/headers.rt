@@ -3,8 +3,9 @@
 //! In few words, a line of it is a bus, a word bit by bit, or one variable:
 //!
 //! - `SCOPE bus CODE [CODE] [-LINE ..]` declares the needed lines by the table's names, ranges and order, but for those
-//!   with a minus sign. Codes are the first letter, of words the second one, and a letter by the line's number.
+//!   with a minus sign. Their codes are the first one, of words the second one, with the line's number behind it.
 //! - `SCOPE bits CODE NAME FORM LOW HIGH` declares a word's bits by name and form: `[`, `(`, `_`, or `:` for a range.
+//!   Their codes have the bit's number behind them.
 //! - `SCOPE KIND WIDTH CODE NAME [RANGE]` declares one variable. The scope `.` is the root.
 //!
 //! As tools write it, a line begins with `scope`, `upscope` or the kind of a variable; `$` and `$end` are left out.
@@ -39,7 +40,7 @@ pub(crate) fn in_few_words(alloc: Global, header: &str) -> Result<Vec<Variable>,
             "bits" => bits(alloc, &mut declared, &words)?,
             kind => {
                 let (width, range) = (number(at(&words, 2)), written(at(&words, 5)));
-                let (code, name) = (at(&words, 3).as_bytes(), at(&words, 4));
+                let (code, name) = (at(&words, 3), at(&words, 4));
                 let scope = at(&words, 0);
                 declared.push(variable(alloc, scope, kind, width, code, name, range)?)?;
             }
@@ -50,17 +51,22 @@ pub(crate) fn in_few_words(alloc: Global, header: &str) -> Result<Vec<Variable>,
 
 // The needed lines of a scope.
 fn bus(alloc: Global, declared: &mut Vec<Variable>, words: &[&str]) -> Result<(), AllocError> {
-    let code = first_byte(at(words, 2));
-    let of_words = match first_byte(at(words, 3)) {
-        0 | 45 => code,
-        other => other,
+    let code = at(words, 2);
+    let second = at(words, 3);
+    let of_words = if second.is_empty() || second.starts_with("-") {
+        code
+    } else {
+        second
     };
     for (line, name, width, range) in NEEDED.iter() {
-        if !words.iter().any(|word| word.strip_prefix("-") == Some(*name)) {
-            let first = if *width == 1 { code } else { of_words };
-            let code = [first, line.wrapping_add(65)];
-            let range = written(range);
-            declared.push(variable(alloc, at(words, 0), "wire", *width, &code, name, range)?)?;
+        if !words
+            .iter()
+            .any(|word| word.strip_prefix("-") == Some(*name))
+        {
+            let code = if *width == 1 { code } else { of_words };
+            let code = format!(in alloc; "{code}{line}")?;
+            let (code, range) = (code.as_str(), written(range));
+            declared.push(variable(alloc, at(words, 0), "wire", *width, code, name, range)?)?;
         }
     }
     Ok(())
@@ -83,9 +89,9 @@ fn bits(alloc: Global, declared: &mut Vec<Variable>, words: &[&str]) -> Result<(
             }),
             _ => Written::Absent,
         };
-        let code = [first_byte(at(words, 2)), ((bit % 100) as u8).wrapping_add(33)];
-        let name = name.as_str();
-        declared.push(variable(alloc, at(words, 0), "wire", 1, &code, name, range)?)?;
+        let code = format!(in alloc; "{}{bit}", at(words, 2))?;
+        let (code, name) = (code.as_str(), name.as_str());
+        declared.push(variable(alloc, at(words, 0), "wire", 1, code, name, range)?)?;
     }
     Ok(())
 }
@@ -95,7 +101,7 @@ fn variable(
     scope: &str,
     kind: &str,
     width: u32,
-    code: &[u8],
+    code: &str,
     name: &str,
     range: Written,
 ) -> Result<Variable, AllocError> {
@@ -105,7 +111,7 @@ fn variable(
         name: Vec::from_slice(alloc, name.as_bytes())?,
         kind: Vec::from_slice(alloc, kind.as_bytes())?,
         width,
-        code: Vec::from_slice(alloc, code)?,
+        code: Vec::from_slice(alloc, code.as_bytes())?,
         range,
     })
 }
@@ -125,10 +131,6 @@ pub(crate) fn written(word: &str) -> Written {
 // The word at this place; where there is none, nothing.
 fn at<'a>(words: &[&'a str], place: usize) -> &'a str {
     words.get(place).copied().unwrap_or("")
-}
-
-fn first_byte(word: &str) -> u8 {
-    word.as_bytes().get(0).copied().unwrap_or(0)
 }
 
 fn number(word: &str) -> u32 {

@@ -6,20 +6,20 @@
 //!
 //! A row is a line and its text: the lines below it that begin with `|`. A line with `#` is a note (`rows`).
 //!
-//! - `header`, `dump`: the declarations that the rows behind it ask, in few words, or as tools write them (`headers`).
-//! - `name COUNT`: in command lines behind it, NAME is a name of so many bytes.
-//! - `ORDER`: the text is all that the order answers.
-//! - `begins ORDER`, `ends ORDER`, `has ORDER`, `lacks ORDER`: the answer begins so; where the text ends, the last line
-//!   feed does not count, but for `ends`. `lists ORDER`: it has each line of the text. `within ORDER`: its lines have at
-//!   most so many bytes.
+//! - `header`, `dump`: the declarations that the rows below it ask, in few words, or as tools write them (`headers`).
+//! - `name COUNT`: in the command lines below it, NAME is a name of so many bytes.
+//! - `ORDER`: the text is the whole answer to the order. There is no such row without a text.
+//! - `begins ORDER`, `has ORDER`, `lacks ORDER`, `ends ORDER`: the answer begins with the text, has it, lacks it, or ends
+//!   with it. But for `ends`, the last line feed of the text does not count.
+//! - `lists ORDER`: the answer has each line of the text. `within ORDER`: its lines have at most so many bytes.
 //!
 //! An order is one of these:
 //!
 //! - `$ WORD|WORD ..`: what the words of a command line ask for (`commands`).
 //! - `count`, `moment`, `number`, `lines`, `line`, `bit`, `option` with a word, `place LINE WIDTH [RANGE]`, and `title`,
 //!   `text` with a rule: what is read of it (`words`).
-//! - `pick OPTIONS`, `wires OPTIONS`, `take LINE OPTIONS`: which scope of the header is judged, with how many wires, or
-//!   what is taken as a line; or why none is picked (`picks`).
+//! - `pick OPTIONS`, `wires OPTIONS`, `take LINE OPTIONS`: which scope of the header is judged, the same with how many
+//!   wires, or what is taken as a line; or why none is picked (`picks`).
 //! - `lacking LINES`, `alike LINE`, `views`, `variables`: what else is told of the header (`told`).
 //!
 //! Nothing is promised: the files are in `data/`, their names in `args`, and what is printed is stored in `stdout`. Read

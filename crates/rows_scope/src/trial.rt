@@ -85,7 +85,10 @@ impl Trial {
     fn answer(&self, alloc: Global, order: &str) -> Result<Option<String>, Memory> {
         let (word, rest) = halves(order);
         Ok(match word {
-            "$" => Some(read(alloc, rest.replace(alloc, "NAME", self.name.as_str())?.as_str())?),
+            "$" => Some(read(
+                alloc,
+                rest.replace(alloc, "NAME", self.name.as_str())?.as_str(),
+            )?),
             "pick" | "wires" | "take" => picked(alloc, &self.declared, word, rest)?,
             "lacking" | "alike" | "views" | "variables" => {
                 told(alloc, &self.declared, word, rest)?

@@ -8,7 +8,11 @@ use scope_words::{read_count, read_line_names, read_moment, read_rule};
 use std::alloc::{AllocError, Global};
 
 /// What is read of a word; None where there is no such order.
-pub(crate) fn word_read(alloc: Global, order: &str, word: &str) -> Result<Option<String>, AllocError> {
+pub(crate) fn word_read(
+    alloc: Global,
+    order: &str,
+    word: &str,
+) -> Result<Option<String>, AllocError> {
     let bytes = word.as_bytes();
     let said = match order {
         "count" => format!(in alloc; "{:?}\n", read_count(bytes))?,
