@@ -2,8 +2,8 @@
 
 ghost use Rattle.scope_words.specs.Orders.{KeepsLimits};
 
-use crate::rows::halves;
 use fsb_io::{MemSink, MemSource, Memory};
+use rows_files::halves;
 use scope_report::status;
 use scope_top::{Ended, Stop, ending_at, perform};
 use scope_words::{Order, Reading, read_order};

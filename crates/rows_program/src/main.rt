@@ -22,13 +22,12 @@
 //! scope_top next.
 #![tactic(auto)]
 
-use fsb_io::{FileSource, Memory, Source, read_all};
-use rows::{Row, rows_of};
+use fsb_io::Memory;
+use rows_files::{Row, read_file, rows_of};
 use std::rt::{Env, Files};
 use trial::{Answer, Trial};
 
 mod calls;
-mod rows;
 mod trial;
 mod wants;
 
@@ -46,7 +45,7 @@ fn main(rt: HostRuntime) {
 
 // Goes through the rows of a file, and tells what came of them.
 fn goes_through(rt: &(impl Files + Print + AllocGlobal), name: &str) -> Result<(), Memory> {
-    let bytes = file(rt, name).ok_or(Memory)?;
+    let bytes = read_file(rt, name).ok_or(Memory)?;
     let Ok(text) = std::str::from_utf8(&bytes) else {
         return Err(Memory);
     };
@@ -68,7 +67,7 @@ fn go(
 ) -> Result<(), Memory> {
     let (word, rest) = row.words();
     let answer = if word == "file" {
-        trial.take(file(rt, rest))
+        trial.take(read_file(rt, rest))
     } else {
         trial.row(rt.alloc(), row)?
     };
@@ -84,14 +83,4 @@ fn go(
         }
     }
     Ok(())
-}
-
-// What a file holds, where it can be read.
-fn file(rt: &(impl Files + AllocGlobal), name: &str) -> Option<Vec<u8>> {
-    if name.len() > 4_096 {
-        return None;
-    }
-    let mut source = FileSource::new(rt);
-    source.begin(name).ok()?;
-    read_all(rt.alloc(), &mut source, 1 << 20).ok()
 }

@@ -1,9 +1,9 @@
 //! The rows of a file, done one after the other.
 
 use crate::calls::{Came, Fails, Outside, did};
-use crate::rows::{Row, halves};
 use crate::wants::is_met;
 use fsb_io::Memory;
+use rows_files::{Row, halves};
 use std::alloc::{AllocError, Global};
 
 /// What became of a row.

@@ -1,7 +1,7 @@
 //! What is wanted of an order.
 
 use crate::calls::Came;
-use crate::rows::{Row, halves};
+use rows_files::{Row, halves};
 use std::alloc::{AllocError, Global};
 
 /// Whether what the row wants is so; None where there is no such row.

@@ -26,15 +26,14 @@
 //! scope_words and scope_wiring next.
 #![tactic(auto)]
 
-use fsb_io::{FileSource, Memory, Source, read_all};
-use rows::rows_of;
+use fsb_io::Memory;
+use rows_files::{read_file, rows_of};
 use std::rt::{Env, Files};
 use trial::{Outcome, Trial};
 
 mod commands;
 mod headers;
 mod picks;
-mod rows;
 mod told;
 mod trial;
 mod words;
@@ -53,7 +52,7 @@ fn main(rt: HostRuntime) {
 
 // Goes through the rows of a file, and tells where one wants what is not so.
 fn goes_through(rt: &(impl Files + Print + AllocGlobal), name: &str) -> Result<(), Memory> {
-    let bytes = file(rt, name).ok_or(Memory)?;
+    let bytes = read_file(rt, name).ok_or(Memory)?;
     let Ok(text) = std::str::from_utf8(&bytes) else {
         return Err(Memory);
     };
@@ -73,14 +72,4 @@ fn goes_through(rt: &(impl Files + Print + AllocGlobal), name: &str) -> Result<(
     let wants = trial.wants();
     let _ = println!(rt; "{name}: {wants} wants");
     Ok(())
-}
-
-// What a file holds, where it can be read.
-fn file(rt: &(impl Files + AllocGlobal), name: &str) -> Option<Vec<u8>> {
-    if name.len() > 4_096 {
-        return None;
-    }
-    let mut source = FileSource::new(rt);
-    source.begin(name).ok()?;
-    read_all(rt.alloc(), &mut source, 1 << 20).ok()
 }

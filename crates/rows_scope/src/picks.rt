@@ -1,6 +1,6 @@
 //! What is picked of a header.
 
-use crate::rows::halves;
+use rows_files::halves;
 use scope_pick::{Variable, line_named};
 use scope_wiring::{Choice, Picking, Wiring, is_wired, line_option, pick};
 use std::alloc::{AllocError, Global};

@@ -3,10 +3,10 @@
 use crate::commands::read;
 use crate::headers::{as_declared, in_few_words};
 use crate::picks::picked;
-use crate::rows::{Row, halves};
 use crate::told::told;
 use crate::words::word_read;
 use fsb_io::Memory;
+use rows_files::{Row, halves};
 use scope_pick::Variable;
 use std::alloc::{AllocError, Global};
 

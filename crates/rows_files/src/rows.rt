@@ -4,32 +4,32 @@ use std::alloc::{AllocError, Global};
 
 /// A line of a file, counted from 1, and the text below it.
 #[derive(Drop)]
-pub(crate) struct Row<'a> {
-    pub(crate) number: usize,
-    pub(crate) head: &'a str,
-    pub(crate) text: String,
+pub struct Row<'a> {
+    pub number: usize,
+    pub head: &'a str,
+    pub text: String,
 }
 
 impl Row<'_> {
     /// The first word of the line, and what stands behind it.
-    pub(crate) fn words(&self) -> (&str, &str) {
+    pub fn words(&self) -> (&str, &str) {
         halves(self.head)
     }
 
     /// The text without its last line feed.
-    pub(crate) fn cut_text(&self) -> &str {
+    pub fn cut_text(&self) -> &str {
         let text = self.text.as_str();
         text.strip_suffix("\n").unwrap_or(text)
     }
 }
 
 /// What stands before the first space, and behind it.
-pub(crate) fn halves(words: &str) -> (&str, &str) {
+pub fn halves(words: &str) -> (&str, &str) {
     words.split_once(" ").unwrap_or((words, ""))
 }
 
 /// The rows of a file, each with its text.
-pub(crate) fn rows_of(alloc: Global, file: &str) -> Result<Vec<Row<'_>>, AllocError> {
+pub fn rows_of(alloc: Global, file: &str) -> Result<Vec<Row<'_>>, AllocError> {
     let mut rows: Vec<Row<'_>> = Vec::new(alloc);
     for (at, line) in file.split("\n").enumerate() {
         if let Some(text) = line.strip_prefix("|") {
