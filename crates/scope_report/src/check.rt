@@ -9,6 +9,7 @@ use crate::scale::time_of;
 use crate::scopes::Heading;
 use crate::text::{put, put_bytes, put_count, put_listed, put_number};
 use crate::verdict::{put_verdict, verdict_over};
+use reason_texts::Sentence;
 use scope_check::{Begin, Bound, Verdict};
 use scope_draw::drawing;
 use scope_parts::PartsFound;
@@ -124,12 +125,39 @@ fn put_found(
             let time = time_of(alloc, stamp, scale)?;
             put_verdict(text, found, &time, title_of(rule))?;
             put(text, "\n")?;
-            put_reasons(text, alloc, rule, &grounds.sentences)?;
+            put_why(text, alloc, found, rule, &grounds.sentences)?;
             put_rule(text, rule)?;
             put_traffic(text, found, last)?;
             grounds.put_requests(text, alloc)?;
             put_drawing(text, alloc, clock, last, grounds)
         }
+    }
+}
+
+// The reasons, or why there are none.
+fn put_why(
+    text: &mut Vec<u8>,
+    alloc: Global,
+    found: &PartsFound,
+    rule: u8,
+    reasons: &[Sentence],
+) -> Result<(), AllocError> {
+    if reasons.is_empty() {
+        put(text, unexplained_cause(found))
+    } else {
+        put_reasons(text, alloc, rule, reasons)
+    }
+}
+
+// Why the first broken part has no reasons.
+fn unexplained_cause(found: &PartsFound) -> &'static str {
+    match found.faults.as_slice().first() {
+        None => NOT_READ_AGAIN,
+        Some(fault) => if fault.is_later {
+            NOT_KNOWN_BEFORE
+        } else {
+            NOT_READ_AGAIN
+        },
     }
 }
 
@@ -231,7 +259,16 @@ const KNOWN_LATE: &str =
     ": up to --to there is no clock, or at none has every control line that is there a level\n";
 
 const LEFT_OUT: &str =
-    "  A line that nobody drives is left out by --without LINE, unless it is a needed one.
+    "  A line that is always x is left out by --without LINE, unless it is a needed one.
+";
+
+const NOT_KNOWN_BEFORE: &str =
+    "  There are no reasons: the part begins later, and who had the bus before is not known.
+";
+
+const NOT_READ_AGAIN: &str =
+    "  There are no reasons: the second reading of the dump, which finds them, failed or was
+  not possible, as of a pipe.
 ";
 
 const NO_CLOCK: &str = ": the dump has no such clock\n";

@@ -2,7 +2,7 @@
 
 use crate::scopes::Heading;
 use crate::text::{put, put_bytes, put_count, put_line, put_scope, put_variable};
-use scope_pick::{Variable, line_width};
+use scope_pick::{Variable, Written, line_width, without_escape};
 use scope_wiring::{Cause, Choice, LineOption, Refusal, settled_lines};
 use std::alloc::{AllocError, Global};
 
@@ -22,7 +22,7 @@ pub fn refusal_text(
     put_cause(&mut text, &heading, choice, refusal)?;
     put(&mut text, "\n")?;
     put_candidates(&mut text, &heading, &settled, refusal)?;
-    put(&mut text, help(refusal))?;
+    put(&mut text, help(variables, refusal))?;
     Ok(text)
 }
 
@@ -199,7 +199,7 @@ fn put_variables(
 }
 
 // The option that helps.
-fn help(refusal: &Refusal) -> &'static str {
+fn help(variables: &[Variable], refusal: &Refusal) -> &'static str {
     match refusal.cause {
         Cause::Needed(_) => "of the needed lines only D_n may be left out\n",
         Cause::Twice(_) => "name a line once, by --line or by --without\n",
@@ -208,12 +208,55 @@ fn help(refusal: &Refusal) -> &'static str {
         Cause::NoneWhole => help_with(refusal, NAME_MISSING),
         Cause::Several => NAME_SCOPE,
         Cause::NoVariable(_) => "p6scope lines DUMP lists what there is\n",
-        Cause::SeveralVariables(_) => "give the whole path of one\n",
+        Cause::SeveralVariables(_) => help_with_several(variables, &refusal.candidates),
         Cause::CannotBe(_) => {
             "name its bits, as --line ADS_n=tb.control[3] or --line A_n=tb.a[35:3]\n"
         }
         Cause::LacksBits(_) =>
             "name as many bits as the line has, of those that the variable has\n",
+    }
+}
+
+// The option that helps where several variables have the name.
+fn help_with_several(variables: &[Variable], indices: &[usize]) -> &'static str {
+    match indices.first() {
+        None => NAME_OTHERWISE,
+        Some(first) => help_beside(variables, *first, indices),
+    }
+}
+
+fn help_beside(variables: &[Variable], first: usize, indices: &[usize]) -> &'static str {
+    if indices
+        .iter()
+        .all(|index| are_written_alike(variables, first, *index))
+    {
+        NAME_OTHERWISE
+    } else {
+        NAME_ALONE
+    }
+}
+
+// The variables of these indices have one path and one range.
+fn are_written_alike(variables: &[Variable], first: usize, second: usize) -> bool {
+    match (variables.get(first), variables.get(second)) {
+        (Some(one), Some(other)) => is_written_alike(one, other),
+        _ => false,
+    }
+}
+
+fn is_written_alike(one: &Variable, other: &Variable) -> bool {
+    one.scope.as_slice() == other.scope.as_slice()
+        && without_escape(&one.name) == without_escape(&other.name)
+        && is_range_alike(one.range, other.range)
+}
+
+fn is_range_alike(one: Written, other: Written) -> bool {
+    match (one, other) {
+        (Written::Numbers(one), Written::Numbers(other)) => {
+            one.left == other.left && one.right == other.right
+        }
+        (Written::Numbers(_), _) | (_, Written::Numbers(_)) => false,
+        _ => true,
     }
 }
 
@@ -227,6 +270,12 @@ fn help_with(refusal: &Refusal, help: &'static str) -> &'static str {
 }
 
 const NAME_SCOPE: &str = "name one of these by --scope\n";
+
+const NAME_ALONE: &str = "\
+give the path of one that no other has, with its range where several have that path
+";
+
+const NAME_OTHERWISE: &str = "no path names one of them alone: dump one under another name\n";
 
 const NAME_MISSING: &str = "\
 name what is missing by --line LINE=PATH, with ! before the path where the variable is active high
