@@ -4,7 +4,7 @@
 //! file how many orders and how many wants it has, and those that are not met, with what came. Dumps, files of `--lines`,
 //! sources and sinks lie in memory (`calls`).
 //!
-//! A row is a line, or a line and its text: the lines below it that begin with `|`. A line with `#` is a note (`rows`).
+//! A row is a line, or a line and its text: the lines below it that begin with `|`. A line with `#` is a note (rows_files).
 //!
 //! - `text NAME`, `line NAME`: a part of dumps; of a line, the last line feed does not count.
 //! - `dump PART ..`: the dump, of these parts; `answer` is the last answer. `file NAME`: the dump is this file.

@@ -4,7 +4,7 @@
 //! `rows_scope <file>..` goes through files of rows, and prints of each file how many wants it has, and those that are not
 //! met, with what was answered. It tries scope_words, scope_pick, scope_wiring, scope_way and rule_texts.
 //!
-//! A row is a line and its text: the lines below it that begin with `|`. A line with `#` is a note (`rows`).
+//! A row is a line and its text: the lines below it that begin with `|`. A line with `#` is a note (rows_files).
 //!
 //! - `header`, `dump`: the declarations that the rows below it ask, in few words, or as tools write them (`headers`).
 //! - `name COUNT`: in the command lines below it, NAME is a name of so many bytes.
