@@ -51,25 +51,27 @@ pub(crate) fn in_few_words(alloc: Global, header: &str) -> Result<Vec<Variable>,
 
 // The needed lines of a scope.
 fn bus(alloc: Global, declared: &mut Vec<Variable>, words: &[&str]) -> Result<(), AllocError> {
-    let code = at(words, 2);
-    let second = at(words, 3);
-    let of_words = if second.is_empty() || second.starts_with("-") {
-        code
-    } else {
-        second
-    };
     for (line, name, width, range) in NEEDED.iter() {
         if !words
             .iter()
             .any(|word| word.strip_prefix("-") == Some(*name))
         {
-            let code = if *width == 1 { code } else { of_words };
-            let code = format!(in alloc; "{code}{line}")?;
+            let code = format!(in alloc; "{}{line}", code_of(words, *width))?;
             let (code, range) = (code.as_str(), written(range));
             declared.push(variable(alloc, at(words, 0), "wire", *width, code, name, range)?)?;
         }
     }
     Ok(())
+}
+
+// The code of a bus for its lines of this width: that of words may be another one.
+fn code_of<'a>(words: &[&'a str], width: u32) -> &'a str {
+    let second = at(words, 3);
+    if width == 1 || second.is_empty() || second.starts_with("-") {
+        at(words, 2)
+    } else {
+        second
+    }
 }
 
 // A word bit by bit.
