@@ -232,7 +232,7 @@ fn tried_answer<S: Source>(
     let tries = again.tries;
     let found = &checked.finding;
     let grounds = reasons_of(alloc, name, choice, plan.first, again.sampling, found, dump);
-    let hints = hints_found(alloc, name, choice, plan, tries, found, dump)?;
+    let hints = hints_found(alloc, name, choice, plan, tries, found, dump);
     let report = Report {
         name,
         choice,
@@ -244,7 +244,8 @@ fn tried_answer<S: Source>(
     found_answer(alloc, format, &report)
 }
 
-// In which other ways a rejected dump gets further, where it is read again.
+// In which other ways a rejected dump gets further, where it is read again. Where memory lacks for that, or reading fails,
+// there are none: the verdict stands without them.
 fn hints_found<S: Source>(
     alloc: Global,
     name: &str,
@@ -253,14 +254,16 @@ fn hints_found<S: Source>(
     tries: Option<Edge>,
     found: &Finding,
     dump: &mut S,
-) -> Result<Vec<Hint>, AllocError>
+) -> Vec<Hint>
     requires { length name.now ≤ 4096 }
     ensures later { S.faults dump.old ≤ S.faults dump.new }
     ensures holds_stays { IsTrue S.tells → S.holds dump.new ≡ S.holds dump.old }
 {
     match (tries, broken_found(found)) {
-        (Some(edge), Some(broken)) => { hints_of(alloc, name, choice, plan, edge, broken, dump) }
-        _ => Ok(Vec::new(alloc)),
+        (Some(edge), Some(broken)) => {
+            hints_of(alloc, name, choice, plan, edge, broken, dump).unwrap_or(Vec::new(alloc))
+        }
+        _ => Vec::new(alloc),
     }
 }
 

@@ -5,8 +5,10 @@ ghost use Rattle.scope_top.specs.Ends.{ending_found};
 
 use crate::answer::{Answer, Stream};
 use crate::check::ending_found;
+use scope_check::Verdict;
 use scope_json::{Judging, error_report, findings_table, refusal_report, report_text};
-use scope_report::{Grounds, check_text, refusal_text};
+use scope_parts::PartsFound;
+use scope_report::{Grounds, check_text, refusal_text, verdict_over};
 use scope_tries::{Hint, hints_text};
 use scope_watch::{Checked, Finding, Sampling};
 use scope_wiring::Choice;
@@ -106,21 +108,29 @@ fn object_text(alloc: Global, report: &Report<'_>) -> Result<Vec<u8>, AllocError
     }
 }
 
-// The lines of CSV; a refusal is a text for people.
+// The lines of CSV. A refusal is a text for people, and so is why nothing could be judged.
 fn table_text(alloc: Global, report: &Report<'_>) -> Result<(Stream, Vec<u8>), AllocError> {
     match &report.checked.finding {
         Finding::Refused(_) => plain_text(alloc, report),
-        Finding::Judged(_, told) => {
-            let faults = told.judged.faults.as_slice();
-            let text = findings_table(
-                alloc,
-                report.name,
-                faults,
-                report.grounds.sentences.as_slice(),
-            )?;
-            Ok((Stream::Out, text))
-        }
+        Finding::Judged(_, told) => judged_lines(alloc, report, &told.judged),
     }
+}
+
+fn judged_lines(
+    alloc: Global,
+    report: &Report<'_>,
+    judged: &PartsFound,
+) -> Result<(Stream, Vec<u8>), AllocError> {
+    if let Verdict::Nothing = verdict_over(judged) {
+        let (_, text) = plain_text(alloc, report)?;
+        return Ok((Stream::Err, text));
+    }
+    let faults = judged.faults.as_slice();
+    let sentences = report.grounds.sentences.as_slice();
+    Ok((
+        Stream::Out,
+        findings_table(alloc, report.name, faults, sentences)?,
+    ))
 }
 
 /// A refusal in this form: an object of JSON goes to where an answer goes.

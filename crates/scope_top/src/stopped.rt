@@ -27,7 +27,7 @@ pub(crate) fn stop_answer(alloc: Global, name: &str, stop: ScopeStop) -> Result<
         ScopeStop::Bad(fault) => fault_text(alloc, name, &fault)?,
         ScopeStop::NoHeader => unread_text(alloc, name, NO_HEADER)?,
         ScopeStop::TooLong => limit_text(alloc, name, "2^40 bytes")?,
-        ScopeStop::TooMany => limit_text(alloc, name, "2^32 - 1 clocks or holes")?,
+        ScopeStop::TooMany => limit_text(alloc, name, "4,294,967,280 clocks and stops")?,
         ScopeStop::ReadFault => return Err(Stop::Dump),
         ScopeStop::WriteFault | ScopeStop::Memory => return Err(Stop::Memory),
     };
