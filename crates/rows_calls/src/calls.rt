@@ -1,141 +1,204 @@
-//! A call of `bench`, and how it is to end.
+//! Command lines of p6bench over a text, with a source and sinks that lie in memory.
 
 use fsb_hazard::{Hazard, ScriptHazard};
 use fsb_io::{MemSink, MemSource, Memory};
 use fsb_probe::{DataProbe, LineProbe, Probe};
-use fsb_top::{Status, Words, bench};
-use std::alloc::Global;
-use std::process::Abort;
+use fsb_top::{Status, Words, bench, code, status_line};
+use rows_files::halves;
+use rows_runs::Stubborn;
+use std::alloc::{AllocError, Global};
 
-/// A command line that names a bench file and a dump.
-pub(crate) const NAMED: [&str; 3] = ["run", "first.bench", "first.vcd"];
-
-/// A command line that names a dump to be judged.
-pub(crate) const CHECK: [&str; 2] = ["check", "first.vcd"];
-
-/// A load of a byte that memory has, and a store into its line.
-pub(crate) const FIRST: &str =
-    "p6bench 1\nagents 1\nclocks 60\ncache 64\nahead 1\nmem 40 07\nagent 0\nld 1 40\nst 1 41 5\nend\n";
-
-pub(crate) const FIRST_LOG: &str =
-    "11 0 0 ld 1 40 = 7\n12 0 1 st 1 41 = 5\nend clocks=60 done=2 of=2\n";
-
-/// The calls of each object that fail, at most one of each.
+/// Which call fails, counted from 0: of the source, of the sink of what is printed, and of the sink of the dump.
 #[derive(Clone, Copy)]
-pub(crate) struct Fails<'a> {
-    pub(crate) source: &'a [u32],
-    pub(crate) out: &'a [u32],
-    pub(crate) dump: &'a [u32],
+pub(crate) struct Fails {
+    source: [u32; 1],
+    out: [u32; 1],
+    dump: [u32; 1],
 }
 
-pub(crate) const NO_FAILS: Fails<'static> = Fails {
-    source: &[],
-    out: &[],
-    dump: &[],
-};
+impl Fails {
+    /// No call fails: none has so high a number.
+    pub(crate) const NONE: Fails = Fails {
+        source: [u32::MAX],
+        out: [u32::MAX],
+        dump: [u32::MAX],
+    };
 
-/// A call of `bench`.
-#[derive(Clone, Copy)]
-pub(crate) struct Call<'a> {
-    pub(crate) words: &'a [&'a str],
-    /// What the source holds.
-    pub(crate) text: &'a [u8],
-    pub(crate) fails: Fails<'a>,
-    /// Whether there are probes of ADS#, of DRDY# and of the data.
-    pub(crate) probes: bool,
-}
-
-/// The call with these words over this text, where nothing fails and there are no probes.
-pub(crate) fn call_of<'a>(words: &'a [&'a str], text: &'a [u8]) -> Call<'a> {
-    Call {
-        words,
-        text,
-        fails: NO_FAILS,
-        probes: false,
+    /// Has a call of the source or the sink of this name fail; whether there is one.
+    pub(crate) fn add(&mut self, calls: &str, number: u32) -> bool {
+        match calls {
+            "source" => self.source = [number],
+            "out" => self.out = [number],
+            "dump" => self.dump = [number],
+            _ => return false,
+        }
+        true
     }
 }
 
-/// How a call is to end.
+/// What an order finds: whether the object on the bench of a run is one that always asks for a retry and not a script's, whether
+/// there are probes of ADS#, of DRDY# and of the data, and which calls fail.
 #[derive(Clone, Copy)]
-pub(crate) struct Wanted<'a> {
-    pub(crate) status: Status,
-    /// What is printed.
-    pub(crate) out: &'a [u8],
-    /// What is dumped; None where that is looked at otherwise.
-    pub(crate) dump: Option<&'a [u8]>,
-    /// How often the source, `out` and `dump` are called.
-    pub(crate) calls: (u64, u64, u64),
+pub(crate) struct Outside {
+    pub(crate) is_stubborn: bool,
+    pub(crate) has_probes: bool,
+    pub(crate) fails: Fails,
 }
 
-/// The end with this status and this text, with one call of `out` a line, where the source was called so often and no dump was written.
-pub(crate) fn told<'a>(reads: u64, status: Status, out: &'a [u8]) -> Wanted<'a> {
-    Wanted {
-        status,
-        out,
-        dump: Some(b""),
-        calls: (reads, lines_of(out), 0),
-    }
+impl Outside {
+    /// A script's object and no probes, and no call fails.
+    pub(crate) const PLAIN: Outside = Outside {
+        is_stubborn: false,
+        has_probes: false,
+        fails: Fails::NONE,
+    };
 }
 
-/// How many lines the text has.
-pub(crate) fn lines_of(text: &[u8]) -> u64 {
-    text.iter().filter(|&&byte| byte == b'\n').count() as u64
-}
-
-/// How a call of `bench` ended, and the objects that it was given.
+/// What came of an order.
 #[derive(Drop)]
-pub(crate) struct Ended {
-    pub(crate) status: Status,
-    pub(crate) source: MemSource,
-    pub(crate) out: MemSink,
-    pub(crate) dump: MemSink,
+pub(crate) struct Came {
+    /// The exit status, and its line.
+    pub(crate) status: u8,
+    pub(crate) line: String,
+    /// What is printed, and what is dumped.
+    pub(crate) out: String,
+    pub(crate) dump: String,
+    /// How often the source, the sink of what is printed and that of the dump were called.
+    pub(crate) calls: [u64; 3],
+    /// What is otherwise than it is after every order, if anything is.
+    pub(crate) odd: &'static str,
 }
 
-/// Makes the call, with a script's object on the bench of a run.
-pub(crate) fn end_of(alloc: Global, call: &Call<'_>) -> Result<Ended, Memory> {
-    let mut hazards: Vec<Box<dyn Hazard>> = Vec::new(alloc);
-    hazards.push(Box::new(alloc, ScriptHazard::new(alloc))?)?;
-    ended_over(alloc, call, hazards)
+impl Came {
+    /// Nothing but this status came.
+    pub(crate) fn of_status(alloc: Global, status: &Status) -> Result<Came, AllocError> {
+        Ok(Came {
+            status: code(status),
+            line: text_of(alloc, status_line(status).as_slice())?,
+            out: String::new(alloc),
+            dump: String::new(alloc),
+            calls: [0; 3],
+            odd: "",
+        })
+    }
+
+    /// Whether the same came.
+    pub(crate) fn is_as(&self, other: &Came) -> bool {
+        self.status == other.status
+            && self.line.as_str() == other.line.as_str()
+            && self.out.as_str() == other.out.as_str()
+            && self.dump.as_str() == other.dump.as_str()
+            && self.calls == other.calls
+    }
 }
 
-/// Makes the call over these hazard objects, which are to stand on the bench of a run, with room for all that is written.
-pub(crate) fn ended_over(
+/// The source and the sinks of a call.
+#[derive(Drop)]
+struct Objects {
+    source: MemSource,
+    out: MemSink,
+    dump: MemSink,
+}
+
+/// Does what the words behind the name of the program ask for, over this text.
+pub(crate) fn did(
     alloc: Global,
-    call: &Call<'_>,
-    hazards: Vec<Box<dyn Hazard>>,
-) -> Result<Ended, Memory> {
-    let probes = probes_of(alloc, call.probes)?;
-    let words = words_of(alloc, call.words)?;
-    let mut source = MemSource::new(alloc, call.text, call.fails.source)?;
-    let mut out = MemSink::new(alloc, 1_000, call.fails.out)?;
-    let mut dump = MemSink::new(alloc, 10_000, call.fails.dump)?;
-    let status = bench(
-        alloc,
-        &words,
-        &mut source,
-        &mut out,
-        &mut dump,
-        hazards,
-        probes,
-    );
-    Ok(Ended {
-        status,
-        source,
-        out,
-        dump,
+    words: &str,
+    text: &[u8],
+    outside: &Outside,
+) -> Result<Came, Memory> {
+    let words = words_of(alloc, words)?;
+    let mut objects = objects_of(alloc, text, &outside.fails)?;
+    let status = called(alloc, &words, &mut objects, outside)?;
+    let came = came_of(alloc, &status, &objects)?;
+    Ok(Came {
+        odd: odd(&objects, &words, &status, &outside.fails),
+        ..came
     })
 }
 
-/// The words of a command line.
-fn words_of(alloc: Global, list: &[&str]) -> Result<Words, Memory> {
-    let mut words = Words::new(alloc);
-    for word in list {
-        words.push(alloc, word)?;
+// The words behind the name of the program; `@NUMBER` is a word of so many letters.
+fn words_of(alloc: Global, line: &str) -> Result<Vec<String>, AllocError> {
+    let (_, line) = halves(line);
+    let mut words = Vec::new(alloc);
+    for word in line.split(" ") {
+        if !word.is_empty() {
+            words.push(word_of(alloc, word)?)?;
+        }
     }
     Ok(words)
 }
 
-/// No probes, or those of ADS#, of DRDY# and of the data.
+// A word.
+fn word_of(alloc: Global, word: &str) -> Result<String, AllocError> {
+    let Some(number) = word.strip_prefix("@") else {
+        return String::from_str(alloc, word);
+    };
+    let Ok(letters) = number.parse::<u16>() else {
+        return String::from_str(alloc, word);
+    };
+    let mut long = String::new(alloc);
+    for _ in 0..letters {
+        long.push('n')?;
+    }
+    Ok(long)
+}
+
+// A source of this text, and sinks with room for all that is written.
+fn objects_of(alloc: Global, text: &[u8], fails: &Fails) -> Result<Objects, Memory> {
+    let source = MemSource::new(alloc, text, &fails.source)?;
+    let out = MemSink::new(alloc, 1_000, &fails.out)?;
+    let dump = MemSink::new(alloc, 10_000, &fails.dump)?;
+    Ok(Objects { source, out, dump })
+}
+
+// Makes the call with what it finds outside.
+fn called(
+    alloc: Global,
+    list: &[String],
+    objects: &mut Objects,
+    outside: &Outside,
+) -> Result<Status, Memory> {
+    let mut words = Words::new(alloc);
+    for word in list {
+        words.push(alloc, word.as_str())?;
+    }
+    let hazards = hazards_of(alloc, outside.is_stubborn)?;
+    let probes = probes_of(alloc, outside.has_probes)?;
+    Ok(ending(alloc, &words, objects, hazards, probes))
+}
+
+// The call alone: what it promises is of no use to what is done behind it.
+fn ending(
+    alloc: Global,
+    words: &Words,
+    objects: &mut Objects,
+    hazards: Vec<Box<dyn Hazard>>,
+    probes: Vec<Box<dyn Probe>>,
+) -> Status {
+    bench(
+        alloc,
+        words,
+        &mut objects.source,
+        &mut objects.out,
+        &mut objects.dump,
+        hazards,
+        probes,
+    )
+}
+
+// The object on the bench of a run.
+fn hazards_of(alloc: Global, is_stubborn: bool) -> Result<Vec<Box<dyn Hazard>>, Memory> {
+    let mut hazards: Vec<Box<dyn Hazard>> = Vec::new(alloc);
+    if is_stubborn {
+        hazards.push(Box::new(alloc, Stubborn::new())?)?;
+    } else {
+        hazards.push(Box::new(alloc, ScriptHazard::new(alloc))?)?;
+    }
+    Ok(hazards)
+}
+
+// No probes, or those of ADS#, of DRDY# and of the data.
 fn probes_of(alloc: Global, three: bool) -> Result<Vec<Box<dyn Probe>>, Memory> {
     let mut probes: Vec<Box<dyn Probe>> = Vec::new(alloc);
     if three {
@@ -146,40 +209,52 @@ fn probes_of(alloc: Global, three: bool) -> Result<Vec<Box<dyn Probe>>, Memory> 
     Ok(probes)
 }
 
-/// Names what is otherwise than it is wanted, if anything is.
-pub(crate) fn compared(ended: &Ended, call: &Call<'_>, wanted: &Wanted<'_>) -> &'static str {
-    let calls = (ended.source.calls(), ended.out.calls(), ended.dump.calls());
-    if ended.status != wanted.status {
-        "the status"
-    } else if ended.out.holds() != wanted.out {
-        "what is printed"
-    } else if wanted.dump.is_some() && wanted.dump != Some(ended.dump.holds()) {
-        "what is dumped"
-    } else if calls != wanted.calls {
-        "how often the objects are called"
-    } else if !is_begun_well(ended, call) {
-        "what is begun, or what is left"
-    } else if !is_failed_well(ended, call) {
-        "how often the objects failed"
+// What came of a call.
+fn came_of(alloc: Global, status: &Status, objects: &Objects) -> Result<Came, AllocError> {
+    let came = Came::of_status(alloc, status)?;
+    let out = text_of(alloc, objects.out.holds())?;
+    let dump = text_of(alloc, objects.dump.holds())?;
+    let calls = [
+        objects.source.calls(),
+        objects.out.calls(),
+        objects.dump.calls(),
+    ];
+    Ok(Came {
+        out,
+        dump,
+        calls,
+        ..came
+    })
+}
+
+fn text_of(alloc: Global, bytes: &[u8]) -> Result<String, AllocError> {
+    String::from_str(alloc, std::str::from_utf8(bytes).unwrap_or("no text"))
+}
+
+// What is otherwise than it is after every order: the source and the dump are begun under the second and the third word where they
+// are called more than once, what is printed has no name, all is read but where the source failed, and each object counts its failed calls.
+fn odd(objects: &Objects, words: &[String], status: &Status, fails: &Fails) -> &'static str {
+    let (source, out, dump) = (&objects.source, &objects.out, &objects.dump);
+    if !is_begun(source.begun_as(), source.calls(), words.get(1)) {
+        "the source is begun otherwise"
+    } else if !is_begun(dump.begun_as(), dump.calls(), words.get(2)) {
+        "the dump is begun otherwise"
+    } else if out.begun_as().is_some() {
+        "what is printed is begun"
+    } else if *status != Status::ReadFault && !source.left().is_empty() {
+        "not all is read"
+    } else if source.faults() != faults_of(fails.source, source.calls())
+        || out.faults() != faults_of(fails.out, out.calls())
+        || dump.faults() != faults_of(fails.dump, dump.calls())
+    {
+        "the objects failed otherwise"
     } else {
         ""
     }
 }
 
-/// Whether the source and the dump were begun under the second and the third word where they were called more than once, `out` was
-/// never begun, and all was read but where the source failed.
-fn is_begun_well(ended: &Ended, call: &Call<'_>) -> bool {
-    is_begun(
-        ended.source.begun_as(),
-        ended.source.calls(),
-        call.words.get(1),
-    ) && is_begun(ended.dump.begun_as(), ended.dump.calls(), call.words.get(2))
-        && ended.out.begun_as().is_none()
-        && (ended.status == Status::ReadFault || ended.source.left().is_empty())
-}
-
-/// Whether an object that was called so often is begun under the word, or not begun where no call came behind the first.
-fn is_begun(begun: Option<&[u8]>, calls: u64, word: Option<&&str>) -> bool {
+// Whether an object that was called so often is begun under the word, or not begun where no call came behind the first.
+fn is_begun(begun: Option<&[u8]>, calls: u64, word: Option<&String>) -> bool {
     match (begun, word) {
         (Some(begun), Some(word)) => calls > 1 && begun == word.as_bytes(),
         (Some(_), None) => false,
@@ -187,30 +262,10 @@ fn is_begun(begun: Option<&[u8]>, calls: u64, word: Option<&&str>) -> bool {
     }
 }
 
-/// Whether each object counts those of its calls that were to fail.
-fn is_failed_well(ended: &Ended, call: &Call<'_>) -> bool {
-    ended.source.faults() == faults_of(call.fails.source, ended.source.calls())
-        && ended.out.faults() == faults_of(call.fails.out, ended.out.calls())
-        && ended.dump.faults() == faults_of(call.fails.dump, ended.dump.calls())
-}
-
-/// How many of the first calls fail, where at most one does.
-fn faults_of(fails: &[u32], calls: u64) -> u64 {
+// How many of the first calls fail.
+fn faults_of(fails: [u32; 1], calls: u64) -> u64 {
     match fails.first() {
         Some(&call) if u64::from(call) < calls => 1,
         _ => 0,
     }
-}
-
-/// Makes the call, and expects that it ends as it is wanted.
-pub(crate) fn expect(
-    rt: &impl Abort,
-    alloc: Global,
-    name: &str,
-    call: &Call<'_>,
-    wanted: &Wanted<'_>,
-) -> Result<(), Memory> {
-    let ended = end_of(alloc, call)?;
-    assert!(rt; compared(&ended, call, wanted) == "", "{name}");
-    Ok(())
 }

@@ -1,84 +1,78 @@
-//! The exit status and the printed line of each status.
+//! Statuses by name.
 
 use fsb_audit::FoulAt;
 use fsb_rules::Broken;
 use fsb_script::{Cause, ScriptFault};
-use fsb_top::{Status, code, status_line};
+use fsb_top::Status;
+use rows_files::halves;
 use vcd_read::{VcdCause, VcdFault};
 
-/// Each status but those of a first fault: its exit status, and its line.
-const STATUSES: [(Status, u8, &str); 10] = [
-    (Status::Done, 0, ""),
-    (
-        Status::Rejected(Broken { clock: 4, rule: 2 }),
-        1,
-        "rejected clock=4 rule=2",
-    ),
-    (Status::BadWords, 2, "bad words"),
-    (Status::ReadFault, 5, "read fault"),
-    (Status::WriteFault, 6, "write fault"),
-    (Status::DumpFault, 7, "dump fault"),
-    (Status::OutOfMemory, 8, "out of memory"),
-    (Status::TooLong, 9, "too long"),
-    (
-        Status::Foul(FoulAt {
-            clock: 12,
-            addr: 0x40,
+/// The status of these words: its name, and the numbers or the name of a cause that it carries.
+pub(crate) fn status_of(words: &str) -> Option<Status> {
+    let (name, rest) = halves(words);
+    let (place, what) = halves(rest);
+    Some(match name {
+        "Rejected" => Status::Rejected(Broken {
+            clock: place.parse().ok()?,
+            rule: what.parse().ok()?,
         }),
-        10,
-        "foul clock=12 addr=40",
-    ),
-    (Status::NotFound, 11, "not found"),
-];
+        "Foul" => Status::Foul(FoulAt {
+            clock: place.parse().ok()?,
+            addr: what.parse().ok()?,
+        }),
+        "BadBench" => Status::BadBench(ScriptFault {
+            line: place.parse().ok()?,
+            cause: cause_of(what)?,
+        }),
+        "BadDump" => Status::BadDump(VcdFault {
+            place: place.parse().ok()?,
+            cause: dump_cause_of(what)?,
+        }),
+        _ => return bare_status_of(words),
+    })
+}
 
-/// First faults of bench files, with their lines.
-const BENCH_FAULTS: [(u32, Cause, &str); 10] = [
-    (1, Cause::FirstLine, "bench line 1: FirstLine"),
-    (2, Cause::Word, "bench line 2: Word"),
-    (3, Cause::Number, "bench line 3: Number"),
-    (4, Cause::Range, "bench line 4: Range"),
-    (5, Cause::Outside, "bench line 5: Outside"),
-    (6, Cause::LockConflict, "bench line 6: LockConflict"),
-    (7, Cause::Align, "bench line 7: Align"),
-    (8, Cause::LockSize, "bench line 8: LockSize"),
-    (9, Cause::Missing, "bench line 9: Missing"),
-    (4_194_305, Cause::After, "bench line 4194305: After"),
-];
+// The status of this name that carries nothing.
+fn bare_status_of(name: &str) -> Option<Status> {
+    Some(match name {
+        "Done" => Status::Done,
+        "BadWords" => Status::BadWords,
+        "ReadFault" => Status::ReadFault,
+        "WriteFault" => Status::WriteFault,
+        "DumpFault" => Status::DumpFault,
+        "OutOfMemory" => Status::OutOfMemory,
+        "TooLong" => Status::TooLong,
+        "NotFound" => Status::NotFound,
+        _ => return None,
+    })
+}
 
-/// First faults of dumps, with their lines.
-const DUMP_FAULTS: [(u64, VcdCause, &str); 12] = [
-    (0, VcdCause::Token, "dump byte 0: Token"),
-    (1, VcdCause::Header, "dump byte 1: Header"),
-    (2, VcdCause::Code, "dump byte 2: Code"),
-    (3, VcdCause::Width, "dump byte 3: Width"),
-    (
-        1_099_511_627_775,
-        VcdCause::TimeBack,
-        "dump byte 1099511627775: TimeBack",
-    ),
-    (11, VcdCause::Cut, "dump byte 11: Cut"),
-    (0, VcdCause::Missing(0), "dump byte 0: Missing BCLK"),
-    (5, VcdCause::Missing(8), "dump byte 5: Missing ADS_n"),
-    (6, VcdCause::Missing(19), "dump byte 6: Missing D_n"),
-    (0, VcdCause::Missing(20), "dump byte 0: Missing AP_n"),
-    (0, VcdCause::Missing(21), "dump byte 0: Missing RP_n"),
-    (0, VcdCause::Missing(22), "dump byte 0: Missing 22"),
-];
+// The cause of a bench file's fault.
+fn cause_of(name: &str) -> Option<Cause> {
+    Some(match name {
+        "first_line" => Cause::FirstLine,
+        "word" => Cause::Word,
+        "number" => Cause::Number,
+        "range" => Cause::Range,
+        "align" => Cause::Align,
+        "outside" => Cause::Outside,
+        "lock_conflict" => Cause::LockConflict,
+        "lock_size" => Cause::LockSize,
+        "missing" => Cause::Missing,
+        "after" => Cause::After,
+        _ => return None,
+    })
+}
 
-#[test]
-fn exit_codes_and_printed_lines(rt: HostRuntime) {
-    for (status, exit, text) in STATUSES.iter() {
-        assert!(rt; code(status) == *exit);
-        assert!(rt; status_line(status).as_slice() == text.as_bytes());
-    }
-    for &(line, cause, text) in BENCH_FAULTS.iter() {
-        let status = Status::BadBench(ScriptFault { line, cause });
-        assert!(rt; code(&status) == 3);
-        assert!(rt; status_line(&status).as_slice() == text.as_bytes());
-    }
-    for &(place, cause, text) in DUMP_FAULTS.iter() {
-        let status = Status::BadDump(VcdFault { place, cause });
-        assert!(rt; code(&status) == 4);
-        assert!(rt; status_line(&status).as_slice() == text.as_bytes());
-    }
+// The cause of a dump's fault.
+fn dump_cause_of(name: &str) -> Option<VcdCause> {
+    Some(match name {
+        "token" => VcdCause::Token,
+        "header" => VcdCause::Header,
+        "code" => VcdCause::Code,
+        "width" => VcdCause::Width,
+        "time_back" => VcdCause::TimeBack,
+        "cut" => VcdCause::Cut,
+        _ => VcdCause::Missing(name.strip_prefix("missing ")?.parse().ok()?),
+    })
 }
