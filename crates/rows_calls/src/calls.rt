@@ -36,8 +36,8 @@ impl Fails {
     }
 }
 
-/// What an order finds: whether the object on the bench of a run is one that always asks for a retry and not a script's, whether
-/// there are probes of ADS#, of DRDY# and of the data, and which calls fail.
+/// What an order finds: whether the object on the bench of a run is one that always asks for a retry and not a script's,
+/// whether there are probes of ADS#, of DRDY# and of the data, and which calls fail.
 #[derive(Clone, Copy)]
 pub(crate) struct Outside {
     pub(crate) is_stubborn: bool,
@@ -231,8 +231,9 @@ fn text_of(alloc: Global, bytes: &[u8]) -> Result<String, AllocError> {
     String::from_str(alloc, std::str::from_utf8(bytes).unwrap_or("no text"))
 }
 
-// What is otherwise than it is after every order: the source and the dump are begun under the second and the third word where they
-// are called more than once, what is printed has no name, all is read but where the source failed, and each object counts its failed calls.
+// What is otherwise than it is after every order: the source and the dump are begun under the second and the third word
+// where they are called more than once, what is printed has no name, all is read but where the source failed, and each
+// object counts its failed calls.
 fn odd(objects: &Objects, words: &[String], status: &Status, fails: &Fails) -> &'static str {
     let (source, out, dump) = (&objects.source, &objects.out, &objects.dump);
     if !is_begun(source.begun_as(), source.calls(), words.get(1)) {

@@ -1,8 +1,8 @@
 //! Orders of p6bench over benches and dumps, and what is wanted of each, worked out by hand.
 //!
-//! `rows_calls <file>..` goes through files of rows, does what they order by the top call of p6bench, and prints of each file how
-//! many orders and how many wants it has, and those that are not met, with what came. Texts, sources and sinks lie in memory
-//! (`calls`).
+//! `rows_calls <file>..` goes through files of rows, does what they order by the top call of p6bench, and prints of each
+//! file how many orders and how many wants it has, and those that are not met, with what came. Texts, sources and sinks lie
+//! in memory (`calls`).
 //!
 //! A row is a line, or a line and its text: the lines below it that begin with `|`. A line with `#` is a note (rows_files).
 //!
@@ -10,9 +10,10 @@
 //!   each number, which stands in the place of each `%`. Parts of one name stand one behind the other. `keep NAME`: a part is
 //!   the last dump. `dump` and `out` are those of the last order.
 //! - `source PART ..`: what the source holds, of these parts. `blank NUMBER`: so many line feeds.
-//! - `fail CALLS NUMBER`, `stubborn`, `probes`: for the next order, a call of the `source`, of the sink of `out` or of the sink of
-//!   the `dump` fails; the object of a run always asks for a retry; there are probes of ADS#, of DRDY# and of the data.
-//! - `$ p6bench WORDS`: does it; `@NUMBER` is a word of so many letters. Of each order it is wanted what `calls` says of `odd`.
+//! - `fail CALLS NUMBER`, `stubborn`, `probes`: for the next order, a call of the `source`, of the sink of `out` or of the
+//!   sink of the `dump` fails; the object of a run always asks for a retry; there are probes of ADS#, of DRDY# and of the data.
+//! - `$ p6bench WORDS`: does it; `@NUMBER` is a word of so many letters. Of each order it is wanted what `calls` says of
+//!   `odd`.
 //! - `made STATUS`: in the place of an order, a status (`statuses`).
 //! - `status NUMBER LINE`: the exit status and its line. `calls SOURCE OUT DUMP`: how often each is called.
 //! - `out HOW`, `dump HOW`: what is printed and dumped. HOW is `none`, `is`, `begins`, or `as PART ..`.

@@ -220,8 +220,9 @@ impl Trial {
         }))
     }
 
-    // Whether the check of each text that is cut off is met: of one that is cut off before the end of the parts of these names, that
-    // it is no dump, and of a longer one, that it is none or is judged. None where the source does not begin with these parts.
+    // Whether the check of each text that is cut off is met: of one that is cut off before the end of the parts of these
+    // names, that it is no dump, and of a longer one, that it is none or is judged. None where the source does not begin with
+    // these parts.
     fn is_cut_well(&self, alloc: Global, names: &str) -> Result<Option<bool>, Memory> {
         let Some(head) = self.joined(alloc, names)? else {
             return Ok(None);
