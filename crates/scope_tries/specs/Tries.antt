@@ -1,5 +1,5 @@
 -- A rejected dump, read in other ways.
-use Rattle.std.specs.Prelude.{◌≡◌, ℕ, Bool, true, false, not, ◌&&◌, List, [], ◌∷◌, nat_eq, length, Option, Some, None, Ok, if◌then◌else◌}
+use Rattle.std.specs.Prelude.{◌≡◌, ℕ, Bool, true, false, not, ◌&&◌, List, [], ◌∷◌, ◌++◌, nat_eq, length, Option, Some, None, Result, Ok, Err, if◌then◌else◌}
 use Rattle.scope_check.specs.declared.finding.Verdict.{Verdict}
 use Rattle.scope_check.specs.declared.finding.Verdict.TheVariants as verdicts
 use Rattle.scope_parts.specs.declared.plan.Plan.{Plan}
@@ -12,6 +12,8 @@ use Rattle.scope_tries.specs.Hints.{further_in}
 use Rattle.scope_watch.specs.declared.check.Checked.{Checked}
 use Rattle.scope_watch.specs.declared.check.Finding.{Finding}
 use Rattle.scope_watch.specs.declared.check.Finding.TheVariants as findings
+use Rattle.scope_watch.specs.declared.stop.ScopeStop.{ScopeStop}
+use Rattle.scope_watch.specs.declared.stop.ScopeStop.TheVariants as stops
 use Rattle.scope_watch.specs.declared.values.Sampling.{Sampling}
 use Rattle.scope_watch.specs.Checking.{IsChecked}
 use Rattle.scope_wiring.specs.declared.wiring.Choice.{Choice}
@@ -57,11 +59,45 @@ abbrev pub further_found : Try → ℕ → Finding → Option Further
 further_found by broken (findings.Refused refusal) = None
 further_found by broken (findings.Judged wiring told) = further_in by broken (verdict_over told.judged)
 
--- the hint is true: the dump, sampled as the try says and else judged in the same way, gets so much further than to the
--- broken clock
-pub record IsHint (choice : Choice) (plan : Plan) (edge : Edge) (broken : ℕ) (dumped : List ℕ) (hint : Hint) : Type 0 where
+-- the answer is one that the dump itself makes: neither did memory lack nor a read fail
+abbrev pub is_of_dump : Result Checked ScopeStop → Bool
+is_of_dump (Ok checked) = true
+is_of_dump (Err (stops.Bad fault)) = true
+is_of_dump (Err stops.NoHeader) = true
+is_of_dump (Err stops.TooLong) = true
+is_of_dump (Err stops.TooMany) = true
+is_of_dump (Err stops.WriteFault) = true
+is_of_dump (Err stops.ReadFault) = false
+is_of_dump (Err stops.Memory) = false
+
+-- how much further a dump gets of which this is answered by the try: one that cannot be read so gets nowhere
+abbrev pub further_answered : Try → ℕ → Result Checked ScopeStop → Option Further
+further_answered by broken (Ok checked) = further_found by broken checked.finding
+further_answered by broken (Err stop) = None
+
+-- what comes of the try: the dump, sampled as the try says and else judged in the same way, gets so much further than to
+-- the broken clock, or it does not
+pub record IsTried (choice : Choice) (plan : Plan) (edge : Edge) (broken : ℕ) (dumped : List ℕ) (by : Try) (further : Option Further) : Type 0 where
   pub sampling : Sampling
-  pub samples : SamplesBy hint.by edge sampling
-  pub checked : Checked
-  pub is_checked : IsChecked (Ok checked) choice plan sampling dumped
-  pub gets : further_found hint.by broken checked.finding ≡ Some hint.further
+  pub samples : SamplesBy by edge sampling
+  pub answer : Result Checked ScopeStop
+  pub is_checked : IsChecked answer choice plan sampling dumped
+  pub of_dump : is_of_dump answer ≡ true
+  pub gets : further ≡ further_answered by broken answer
+
+-- the hint of a try of which this comes: one, where the dump gets further, and none else
+abbrev pub hint_of : Try → Option Further → List Hint
+hint_of by None = []
+hint_of by (Some further) = record { by = by; further = further } ∷ []
+
+-- the hints of some tries, where this comes of each: those of the first try, and then those of the others
+abbrev pub AreHints : (Try → Option Further → Type 0) → List Try → List Hint → Type 0
+AreHints Comes [] hints = hints ≡ []
+AreHints Comes (by ∷ tries) hints =
+    (further : Option Further) × (rest : List Hint)
+    × Comes by further × AreHints Comes tries rest × (hints ≡ hint_of by further ++ rest)
+
+-- the tries, in the order in which they are told: LOCK_n is line 6, ADS_n 8, REQ_n 9, A_n 10
+abbrev pub all_tries : List Try
+all_tries =
+    tries.First ∷ tries.AfterRequests ∷ tries.After 6 ∷ tries.After 8 ∷ tries.After 9 ∷ tries.After 10 ∷ []
