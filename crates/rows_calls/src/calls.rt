@@ -163,20 +163,32 @@ fn called(
     for word in list {
         words.push(alloc, word.as_str())?;
     }
-    let hazards = hazards_of(alloc, outside.is_stubborn)?;
-    let probes = probes_of(alloc, outside.has_probes)?;
-    Ok(ending(alloc, &words, objects, hazards, probes))
+    if outside.is_stubborn {
+        let hazard = Box::new(alloc, Stubborn::new())?;
+        over(alloc, &words, objects, hazard, outside.has_probes)
+    } else {
+        let hazard = Box::new(alloc, ScriptHazard::new(alloc))?;
+        over(alloc, &words, objects, hazard, outside.has_probes)
+    }
 }
 
-// The call alone: what it promises is of no use to what is done behind it.
-fn ending(
+// Makes the call over this object on the bench of a run, with no probes, or those of ADS#, of DRDY# and of the data.
+fn over(
     alloc: Global,
     words: &Words,
     objects: &mut Objects,
-    hazards: Vec<Box<dyn Hazard>>,
-    probes: Vec<Box<dyn Probe>>,
-) -> Status {
-    bench(
+    hazard: Box<dyn Hazard>,
+    has_probes: bool,
+) -> Result<Status, Memory> {
+    let mut hazards: Vec<Box<dyn Hazard>> = Vec::new(alloc);
+    hazards.push(hazard)?;
+    let mut probes: Vec<Box<dyn Probe>> = Vec::new(alloc);
+    if has_probes {
+        probes.push(Box::new(alloc, LineProbe::new(7))?)?;
+        probes.push(Box::new(alloc, LineProbe::new(17))?)?;
+        probes.push(Box::new(alloc, DataProbe::new())?)?;
+    }
+    Ok(bench(
         alloc,
         words,
         &mut objects.source,
@@ -184,29 +196,7 @@ fn ending(
         &mut objects.dump,
         hazards,
         probes,
-    )
-}
-
-// The object on the bench of a run.
-fn hazards_of(alloc: Global, is_stubborn: bool) -> Result<Vec<Box<dyn Hazard>>, Memory> {
-    let mut hazards: Vec<Box<dyn Hazard>> = Vec::new(alloc);
-    if is_stubborn {
-        hazards.push(Box::new(alloc, Stubborn::new())?)?;
-    } else {
-        hazards.push(Box::new(alloc, ScriptHazard::new(alloc))?)?;
-    }
-    Ok(hazards)
-}
-
-// No probes, or those of ADS#, of DRDY# and of the data.
-fn probes_of(alloc: Global, three: bool) -> Result<Vec<Box<dyn Probe>>, Memory> {
-    let mut probes: Vec<Box<dyn Probe>> = Vec::new(alloc);
-    if three {
-        probes.push(Box::new(alloc, LineProbe::new(7))?)?;
-        probes.push(Box::new(alloc, LineProbe::new(17))?)?;
-        probes.push(Box::new(alloc, DataProbe::new())?)?;
-    }
-    Ok(probes)
+    ))
 }
 
 // What came of a call.
